@@ -14,4 +14,5 @@ pub mod Replies
 pub mod Rightness
 pub mod RowSums
 pub mod Scanning
+pub mod Spans
 pub mod Trans

@@ -1,5 +1,6 @@
 pub mod Audit
 pub mod Books
+pub mod Days
 pub mod Figured
 pub mod Found
 pub mod Inside

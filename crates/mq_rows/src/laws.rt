@@ -32,6 +32,7 @@ ghost use Rattle.mq_rows.specs.Tables.{Tables, AreTransactions, AreUsage, AreLim
 ghost use Rattle.mq_rows.specs.Meaning.{meaning, AreSound};
 ghost use Rattle.mq_rows.specs.Found.{IsFound, IsGoverning};
 ghost use Rattle.mq_rows.specs.Repeat.{IsRepeatOf};
+ghost use Rattle.mq_rows.specs.Days.{IsOldest, IsNewest, IsFirstReserved, IsLastReserved};
 ghost use Rattle.mq_rows.specs.Listing.{usage_reply_by, page_row_by, IsNext, IsNextLogin, AreNext, behind};
 ghost use Rattle.mq_rows.specs.Plan.{held_by, decided, transaction_write, usage_write, limit_write, planned};
 ghost use Rattle.mq_rows.specs.Plan.{may_be_found, Leads, same_key, set_transaction, same_day, set_usage, same_from};
@@ -372,6 +373,14 @@ pub fn logins_are_passed()
         IsNext d after rows next }
     ensures ended { (d : ℕ) (rows : List UsageRecord) (after : List ℕ) →
         IsNextLogin after rows None → IsNext d after rows None }
+{}
+
+/// The days of the rows are those on which a reserve was granted: the earliest is the first of them, and the latest the last.
+pub fn days_are_reserved()
+    ensures first { (day : ℕ → ℕ) (H : List AnyEntry) (rows : List UsageRecord) →
+        AreUsage day H rows → (oldest : Option ℕ) → IsOldest rows oldest → IsFirstReserved day H oldest }
+    ensures last { (day : ℕ → ℕ) (H : List AnyEntry) (rows : List UsageRecord) →
+        AreUsage day H rows → (newest : Option ℕ) → IsNewest rows newest → IsLastReserved day H newest }
 {}
 
 /// In the rows of a legal history, in any order, each pair of a login and day is right.

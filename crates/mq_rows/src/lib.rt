@@ -34,4 +34,4 @@ pub use record::{
 pub use repeat::stored_reply;
 pub use setting::{VERSION, older_version};
 pub use usage::{page_row, usage_reply};
-pub use write::{close_abandoned, decide};
+pub use write::decide;

@@ -9,12 +9,11 @@ ghost use Rattle.mq_rows.specs.Rows.{answer_of};
 ghost use Rattle.mq_rows.specs.Plan.{moves, moved, fresh, transaction_write};
 ghost use Rattle.mq_rows.specs.Plan.{reserved_more, freed, usage_write, limit_write};
 ghost use Rattle.mq_rows.specs.Plan.{floor_by, given_up_by, retired_write};
-ghost use Rattle.mq_rows.specs.Plan.{held_by, reserved_by, used_by, fits, written, planned, may_be_found, abandoned_row};
+ghost use Rattle.mq_rows.specs.Plan.{held_by, reserved_by, used_by, fits, written, planned, may_be_found};
 ghost use Rattle.mq_rows.specs.Storable.{AreStorableIf, IsStorableFloor, IsStorablePlan};
 
 use crate::plan::{Found, Plan, Runs, Write};
 use crate::record::{AnswerRecord, LimitRecord, RetiredRecord, TransactionRecord, UsageRecord};
-use crate::reply::fitting;
 use mq_frame::format::HEAD_BYTES;
 use mq_frame::{encode_reply, encode_request};
 use mq_ledger::{LedgerFault, Zone};
@@ -460,42 +459,4 @@ pub fn decide(
         → arrivals < 4611686018427387904 → may_be_found default request.now found ≡ false) }
 {
     decide_by(alloc, zone, default, arrivals, id, request, &mut found)
-}
-
-/// The row of a transaction that is open when its run is retired, from then on.
-fn abandoned(was: &TransactionRecord) -> Result<TransactionRecord, AllocError>
-    ensures { IfOk result (λ row. row ≡ abandoned_row was.now) }
-{
-    Ok(TransactionRecord {
-        host: was.host.clone()?,
-        run: was.run,
-        txn: was.txn,
-        login: was.login.clone()?,
-        moment: was.moment,
-        day: was.day,
-        held: 0,
-        settled: was.held,
-        closed: true,
-    })
-}
-
-/// What becomes of the row of a transaction that is open when its run is retired, and of its login's
-/// row of its day: what it held is settled.
-///
-/// `usage` is that row, where there is one. The fault is `Memory`, or `Store` where the two are rows
-/// of no legal history.
-pub fn close_abandoned(
-    was: &TransactionRecord,
-    usage: Option<UsageRecord>,
-) -> Result<(Write<TransactionRecord>, Write<UsageRecord>), LedgerFault>
-    ensures transaction { IfOk result (λ writes. writes.0 ≡ Write.Update (abandoned_row was.now)) }
-    ensures usage { IfOk result (λ writes. writes.1 ≡ freed was.now.held was.now.held usage) }
-    ensures store { IfErr result (λ fault. fault ≡ LedgerFault.Store
-        → fits (Some was.now) usage ≡ false) }
-{
-    let held = was.held;
-    // (for its fault: what the transaction held has to be in the row of its day)
-    let _used = fitting(held, &usage)?;
-    let row = abandoned(was)?;
-    Ok((Write::Update(row), freed(held, held, usage)))
 }

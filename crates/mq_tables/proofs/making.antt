@@ -5,3 +5,6 @@ pub mod Places
 pub mod NewLedger
 pub mod WithRule
 pub mod Adding
+pub mod Naming
+pub mod Indexed
+pub mod IndexCreating

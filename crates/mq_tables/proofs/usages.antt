@@ -2,4 +2,5 @@ pub mod Reads
 pub mod Writes
 pub mod Days
 pub mod Earliest
-pub mod Logins
+pub mod Following
+pub mod Ends

@@ -5,6 +5,7 @@ pub mod Answers
 pub mod Records
 pub mod Ledger
 pub mod Reading
+pub mod Indexing
 pub mod Making
 pub mod Written
 pub mod Inside
@@ -12,6 +13,7 @@ pub mod Updates
 pub mod Lent
 pub mod Governing
 pub mod Over
+pub mod Days
 pub mod Paging
 pub mod Finding
 pub mod Figures

@@ -23,6 +23,8 @@ use Rattle.mq_tables.specs.Settings.{HasSetting, setting_fields, setting_after, 
 use Rattle.mq_rows.specs.Tables.{Tables}
 use Rattle.mq_tables.specs.Ledger.{HasLedger}
 use Rattle.mq_tables.specs.Written.{Created}
+use Rattle.mq_tables.specs.Indexing.{lacks_index, indexed_if}
+use Rattle.mq_tables.specs.Places.{IsUsageIn}
 
 -- the schema after each CREATE, in turn
 abbrev pub chain : Schema → List Table → Schema
@@ -148,11 +150,19 @@ is_ours name =
 abbrev pub AreUnnamed : Schema → Type 0
 AreUnnamed s = AllByRecursion (λ t. AllByRecursion (λ ref. is_ours ref.parent ≡ false) t.references) s.tables
 
+-- the tables before that of what each login has used
+abbrev pub three_tables : List Table
+three_tables = setting_table ∷ answer_table ∷ trans_table ∷ []
+
+-- the schema with the seven, and with the index where it is wanted
+abbrev pub whole_over : Bool → Schema → Schema
+whole_over indexed s = indexed_if indexed (next_tree (chain s three_tables)) (ledger_over s)
+
 -- The seven stand after those that were there, and hold the rows of a new ledger. Each table that was there has its
 -- rows.
-pub record IsMade (made_with : NewSetting) (old new : Database) : Type 0 where
+pub record IsMadeBy (indexed : Bool) (made_with : NewSetting) (old new : Database) : Type 0 where
   pub sound : IsDatabase new
-  pub schema : new.schema ≡ ledger_over old.schema
+  pub schema : new.schema ≡ whole_over indexed old.schema
   pub row : new.trees (next_tree old.schema) ≡ setting_row made_with ∷ []
   pub rule : new.trees (next_tree (chain old.schema five_tables)) ≡ rule_rows (rule_in made_with.zone)
   pub empty :
@@ -161,6 +171,10 @@ pub record IsMade (made_with : NewSetting) (old new : Database) : Type 0 where
   pub setting : HasSetting new (setting_after (pos 0) made_with)
   pub ledger : AreUnnamed old.schema → HasLedger new (new_rows made_with)
   pub others : AllByRecursion (λ t. new.trees t.tree ≡ old.trees t.tree) old.schema.tables
+
+-- they have the index where nothing had its name
+abbrev pub IsMade : NewSetting → Database → Database → Type 0
+IsMade made_with old new = IsMadeBy (lacks_index old.schema) made_with old new
 
 -- a table of this name is there, and may be one that SQL here doesn't understand
 abbrev pub is_owner : List ℕ → Option (List ℕ) → Bool
@@ -183,8 +197,17 @@ has_ledger_table s =
     || (has_table s ceiling_table.name || (has_table s rule_table.name || has_table s retired_table.name)))))
 
 -- the same, where each table with AUTOINCREMENT had the table that counts for it
-pub record IsMadeOver (made_with : NewSetting) (old new : Database) : Type 0 where
-  pub made : lacks_sequence old.schema ≡ false → IsMade made_with old new
+pub record IsMadeOverBy (indexed : Bool) (made_with : NewSetting) (old new : Database) : Type 0 where
+  pub made : lacks_sequence old.schema ≡ false → IsMadeBy indexed made_with old new
+
+-- they are made without the index, and that of what each login has used is at its place
+pub record AreMadeFor (made_with : NewSetting) (old new : Database) : Type 0 where
+  pub made : IsMadeOverBy false made_with old new
+  pub usage : lacks_sequence old.schema ≡ false → IsUsageIn new.schema (next_tree (chain old.schema three_tables))
+
+-- the same, with the index where nothing had its name
+abbrev pub IsMadeOver : NewSetting → Database → Database → Type 0
+IsMadeOver made_with old new = IsMadeOverBy (lacks_index old.schema) made_with old new
 
 -- these trees are what the whole call leaves
 pub record AreMadeOver (made_with : NewSetting) (old : Database) (trees : Trees) : Type 0 where

@@ -11,8 +11,11 @@ ghost use Rattle.mq_tables.specs.Settings.{rule_fields};
 ghost use Rattle.mq_tables.specs.Tables.{setting_table, answer_table, trans_table, usage_table, ceiling_table, rule_table};
 ghost use Rattle.mq_tables.specs.Tables.{retired_table};
 ghost use Rattle.mq_tables.specs.Making.{Makes, Puts, PutsAny, HasCounters, HasStarted, HasAdded, IsMadeOver};
+ghost use Rattle.mq_tables.specs.Making.{AreMadeFor, IsMadeOverBy};
 ghost use Rattle.mq_tables.specs.Making.{AreMadeOver, four_tables, later_tables, other_tables, setting_row, setting_params, rule_params};
 
+use crate::index::add_index;
+use crate::names::lacks_index;
 use crate::setting::NewSetting;
 use mq_rows::VERSION;
 use sqlite::types::ValueRef;
@@ -246,18 +249,14 @@ fn create_others<S: Alter>(tx: &mut Transaction<'_, S>) -> Result<usize, Error>
     create_later(tx)
 }
 
-/// Makes the seven tables of a ledger that has applied nothing, inside a transaction, over whatever the
-/// store holds. An error is the store's; the tables that were made before it are then there.
-pub fn make_tables<S: Alter>(
-    tx: &mut Transaction<'_, S>,
-    made_with: &NewSetting,
-) -> Result<usize, Error>
+/// Makes the seven tables of a ledger that has applied nothing.
+fn make_seven<S: Alter>(tx: &mut Transaction<'_, S>, made_with: &NewSetting) -> Result<usize, Error>
     requires inside { HasCleanDisk (state S.Store tx.old.conn.now)
         → IsTrue (state S.Store tx.old.conn.now).in_transaction }
     ensures inside { HasCleanDisk (state S.Store tx.new.conn.now)
         → OnOk result (IsTrue (state S.Store tx.new.conn.now).in_transaction) }
     ensures made { HasCleanDisk (state S.Store tx.new.conn.now)
-        → OnOk result (IsMadeOver made_with.now (state S.Store tx.old.conn.now).now
+        → OnOk result (AreMadeFor made_with.now (state S.Store tx.old.conn.now).now
         (state S.Store tx.new.conn.now).now) }
     ensures leaves { LeavesCommit S.Store tx.old tx.new }
 {
@@ -266,7 +265,28 @@ pub fn make_tables<S: Alter>(
     put_any_rule(tx, made_with)
 }
 
-/// Makes the seven tables of a ledger that has applied nothing, in one transaction, or leaves all as it was.
+/// Makes the seven tables of a ledger that has applied nothing, and the index where it is wanted, inside a transaction,
+/// over whatever the store holds. An error is the store's; what was made before it is then there.
+pub fn make_tables<S: Alter>(
+    tx: &mut Transaction<'_, S>,
+    made_with: &NewSetting,
+    indexed: bool,
+) -> Result<usize, Error>
+    requires inside { HasCleanDisk (state S.Store tx.old.conn.now)
+        → IsTrue (state S.Store tx.old.conn.now).in_transaction }
+    ensures inside { HasCleanDisk (state S.Store tx.new.conn.now)
+        → OnOk result (IsTrue (state S.Store tx.new.conn.now).in_transaction) }
+    ensures made { HasCleanDisk (state S.Store tx.new.conn.now)
+        → OnOk result (IsMadeOverBy indexed made_with.now (state S.Store tx.old.conn.now).now
+        (state S.Store tx.new.conn.now).now) }
+    ensures leaves { LeavesCommit S.Store tx.old tx.new }
+{
+    make_seven(tx, made_with)?;
+    add_index(tx, indexed)
+}
+
+/// Makes the seven tables of a ledger that has applied nothing, and the index where nothing has its name, in one
+/// transaction, or leaves all as it was.
 ///
 /// An error is the store's.
 pub fn make_ledger<S: Alter>(conn: &mut Connection<S>, made_with: &NewSetting) -> Result<(), Error>
@@ -288,7 +308,8 @@ pub fn make_ledger<S: Alter>(conn: &mut Connection<S>, made_with: &NewSetting) -
         → (state S.Store conn.old).may_leave db ⊎ AreMadeOver made_with.now (state S.Store conn.old).now db) }
 {
     let _settled = conn.is_autocommit();
+    let indexed = lacks_index(conn.schema());
     let mut tx = conn.transaction();
-    make_tables(&mut tx, made_with)?;
+    make_tables(&mut tx, made_with, indexed)?;
     tx.commit()
 }

@@ -17,10 +17,12 @@
 pub mod answer;
 pub mod ceiling;
 pub mod create;
+pub mod days;
 pub mod entry;
 pub mod figures;
 pub mod find;
 pub mod floor;
+pub mod index;
 pub mod laws;
 pub mod limits;
 pub mod names;

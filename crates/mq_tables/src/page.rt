@@ -1,26 +1,22 @@
-//! The table `usage`, from login to login, and from row to row of a day.
+//! The table `usage`, from row to row of a day.
 
-ghost use Rattle.std.specs.Prelude.{◌≡◌, [], ◌∷◌, OnOk, IfOk};
+ghost use Rattle.std.specs.Prelude.{◌≡◌, OnOk, IfOk};
 ghost use Rattle.sqlite.specs.Held.{state};
 ghost use Rattle.sqlite.specs.State.{HasCleanDisk, IsUnchanged};
 ghost use Rattle.sqlite.specs.Values.{bound};
-ghost use Rattle.sqlite.specs.declared.types.Value.TheVariants.{Blob};
-ghost use Rattle.mq_rows.specs.Listing.{IsNext, IsNextLogin};
+ghost use Rattle.mq_rows.specs.Listing.{IsNext};
 ghost use Rattle.mq_rows.specs.Tables.{Tables};
 ghost use Rattle.mq_tables.specs.Inside.{LeavesCommit};
 ghost use Rattle.mq_tables.specs.Ledger.{HasLedger};
-ghost use Rattle.mq_tables.specs.Paging.{just_above, IsLoginShown, IsFirstLogin};
+ghost use Rattle.mq_tables.specs.Paging.{just_above, from_params, IsNextShown, IsFirstOfDay};
 
-use crate::usage::find_usage;
 use mq_request::Login;
 use mq_rows::UsageRecord;
-use mq_rows::laws::logins_are_passed;
 use sqlite::types::ValueRef;
-use sqlite::{Alter, Error, ErrorCode, Row, Transaction};
+use sqlite::{Alter, Error, Row, Transaction};
 use std::alloc::AllocError;
 
-/// The least text above that one in byte order. A query from it on begins after all rows of `after`,
-/// however many days they are of; one for logins above `after` would read each of them.
+/// The least text above that one in byte order: no login lies between the two.
 fn just_above(after: &Login) -> Result<Vec<u8>, AllocError>
     ensures { IfOk result (λ from. from.items ≡ just_above after.now) }
 {
@@ -29,58 +25,50 @@ fn just_above(after: &Login) -> Result<Vec<u8>, AllocError>
     Ok(from)
 }
 
-fn login_params(from: &[u8]) -> [ValueRef<'_>; 1]
-    ensures { bound result ≡ Blob from.now ∷ [] }
+fn from_params(day: u32, from: &[u8]) -> [ValueRef<'_>; 2]
+    ensures { bound result ≡ from_params day from.now }
 {
-    [ValueRef::Blob(from)]
+    [ValueRef::Int(i64::from(day)), ValueRef::Blob(from)]
 }
 
-fn login_rows<S: Alter>(tx: &mut Transaction<'_, S>, after: &Login) -> Result<Vec<Row>, Error>
+fn next_rows<S: Alter>(
+    tx: &mut Transaction<'_, S>,
+    day: u32,
+    after: &Login,
+) -> Result<Vec<Row>, Error>
     ensures same { HasCleanDisk (state S.Store tx.new.conn.now)
         → OnOk result (IsUnchanged (state S.Store tx.old.conn.now) (state S.Store tx.new.conn.now)) }
     ensures found { HasCleanDisk (state S.Store tx.new.conn.now)
         → IfOk result (λ rows. (t : Tables) → HasLedger (state S.Store tx.old.conn.now).now t
-        → IsLoginShown after.now t.usage rows.items) }
+        → IsNextShown day after.now t.usage rows.items) }
     ensures leaves { LeavesCommit S.Store tx.old tx.new }
 {
     let from = just_above(after)?;
     tx.query_all(
-        "SELECT login FROM usage WHERE login >= ?1 ORDER BY login LIMIT 1",
-        &login_params(from.as_slice()),
+        "SELECT login, settled, reserved FROM usage WHERE day = ?1 AND login >= ?2 ORDER BY login LIMIT 1",
+        &from_params(day, from.as_slice()),
     )
 }
 
 /// What the first row shows, where there is one.
-fn first_login(rows: &[Row]) -> Result<Option<Login>, Error>
-    ensures { IfOk result (IsFirstLogin rows.now) }
+fn first_of_day(rows: &[Row], day: u32) -> Result<Option<UsageRecord>, Error>
+    ensures { IfOk result (IsFirstOfDay day rows.now) }
 {
     let Some(row) = rows.first() else {
         return Ok(None);
     };
-    Ok(Some(Login::new(row.get(0)?)))
-}
-
-/// Of the logins above `after` in byte order that have a row of any day, the least; `None` where
-/// there is none. `after` may be empty. It reads no more than the tree's depth.
-pub fn next_login<S: Alter>(
-    tx: &mut Transaction<'_, S>,
-    after: &Login,
-) -> Result<Option<Login>, Error>
-    ensures same { HasCleanDisk (state S.Store tx.new.conn.now)
-        → OnOk result (IsUnchanged (state S.Store tx.old.conn.now) (state S.Store tx.new.conn.now)) }
-    ensures found { HasCleanDisk (state S.Store tx.new.conn.now)
-        → IfOk result (λ found. (t : Tables) → HasLedger (state S.Store tx.old.conn.now).now t
-        → IsNextLogin after.now t.usage found) }
-    ensures leaves { LeavesCommit S.Store tx.old tx.new }
-{
-    let rows = login_rows(tx, after)?;
-    first_login(rows.as_slice())
+    Ok(Some(UsageRecord {
+        login: Login::new(row.get(0)?),
+        day,
+        settled: row.get(1)?,
+        reserved: row.get(2)?,
+    }))
 }
 
 /// Of the rows of a day whose login is above `after` in byte order, the one of the least login;
 /// `None` where there is none. `after` may be empty.
 ///
-/// It goes from login to login, and takes the same for each that has no row of that day.
+/// With the index it reads no more than a tree's depth; without it, each row from `after` on up to that one.
 pub fn next_usage<S: Alter>(
     tx: &mut Transaction<'_, S>,
     day: u32,
@@ -93,17 +81,6 @@ pub fn next_usage<S: Alter>(
         → IsNext day after.now t.usage found) }
     ensures leaves { LeavesCommit S.Store tx.old tx.new }
 {
-    logins_are_passed();
-    let mut passed = after.clone()?;
-    for _ in 0..u64::MAX {
-        let Some(login) = next_login(tx, &passed)? else {
-            return Ok(None);
-        };
-        if let Some(usage) = find_usage(tx, &login, day)? {
-            return Ok(Some(usage));
-        }
-        passed = login;
-    }
-    // No sound table has as many logins.
-    Err(Error::SqliteFailure(ErrorCode::DatabaseCorrupt))
+    let rows = next_rows(tx, day, after)?;
+    first_of_day(rows.as_slice(), day)
 }

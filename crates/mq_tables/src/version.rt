@@ -6,9 +6,11 @@ ghost use Rattle.sqlite.specs.Held.{state};
 ghost use Rattle.sqlite.specs.Tree.{Trees};
 ghost use Rattle.sqlite.specs.Values.{bound};
 ghost use Rattle.mq_tables.specs.Inside.{Lasts, LeavesCommit};
-ghost use Rattle.mq_tables.specs.Migrating.{version_params, AddsRule, SetsVersion, IsMigrated, AreMigrated};
+ghost use Rattle.mq_tables.specs.Migrating.{version_params, AddsRule, SetsVersion, IsMigratedBy, IsMigrated, AreMigrated};
 
 use crate::create::{create_retired, create_rule};
+use crate::index::add_index;
+use crate::names::lacks_index;
 use mq_rows::VERSION;
 use sqlite::types::ValueRef;
 use sqlite::{Alter, Connection, Error, Transaction};
@@ -63,7 +65,8 @@ fn migrate_tables<S: Alter>(
     ensures open { HasCleanDisk (state S.Store tx.new.conn.now)
         → OnOk result (IsTrue (state S.Store tx.old.conn.now).is_open) }
     ensures migrated { HasCleanDisk (state S.Store tx.new.conn.now)
-        → OnOk result (IsMigrated has_rule_table (state S.Store tx.old.conn.now).now (state S.Store tx.new.conn.now).now) }
+        → OnOk result (IsMigratedBy false has_rule_table (state S.Store tx.old.conn.now).now
+        (state S.Store tx.new.conn.now).now) }
     ensures leaves { LeavesCommit S.Store tx.old tx.new }
 {
     add_rule(tx, has_rule_table)?;
@@ -71,8 +74,29 @@ fn migrate_tables<S: Alter>(
     set_version(tx)
 }
 
+/// The tables, and then the index where it is wanted.
+fn migrate_all<S: Alter>(
+    tx: &mut Transaction<'_, S>,
+    has_rule_table: bool,
+    indexed: bool,
+) -> Result<usize, Error>
+    requires inside { HasCleanDisk (state S.Store tx.old.conn.now)
+        → IsTrue (state S.Store tx.old.conn.now).in_transaction }
+    ensures inside { HasCleanDisk (state S.Store tx.new.conn.now)
+        → OnOk result (IsTrue (state S.Store tx.new.conn.now).in_transaction) }
+    ensures open { HasCleanDisk (state S.Store tx.new.conn.now)
+        → OnOk result (IsTrue (state S.Store tx.old.conn.now).is_open) }
+    ensures migrated { HasCleanDisk (state S.Store tx.new.conn.now)
+        → OnOk result (IsMigratedBy indexed has_rule_table (state S.Store tx.old.conn.now).now
+        (state S.Store tx.new.conn.now).now) }
+    ensures leaves { LeavesCommit S.Store tx.old tx.new }
+{
+    migrate_tables(tx, has_rule_table)?;
+    add_index(tx, indexed)
+}
+
 /// Makes a ledger of an older version one of the current version, in one transaction, or leaves all as it was.
-/// `has_rule_table` says whether the table of the rule is there.
+/// `has_rule_table` says whether the table of the rule is there. It gets the index too, where nothing has its name.
 ///
 /// An error is the store's.
 pub fn migrate<S: Alter>(conn: &mut Connection<S>, has_rule_table: bool) -> Result<(), Error>
@@ -95,7 +119,8 @@ pub fn migrate<S: Alter>(conn: &mut Connection<S>, has_rule_table: bool) -> Resu
         ⊎ (IsTrue (state S.Store conn.old).is_open × AreMigrated has_rule_table (state S.Store conn.old).now db)) }
 {
     let _settled = conn.is_autocommit();
+    let indexed = lacks_index(conn.schema());
     let mut tx = conn.transaction();
-    migrate_tables(&mut tx, has_rule_table)?;
+    migrate_all(&mut tx, has_rule_table, indexed)?;
     tx.commit()
 }

@@ -60,7 +60,7 @@ latest_accepted : IsAccepted latest_shape
 latest_accepted s t low found = rw (low, found)
 
 -- a later day comes first
-not_later : (a b : ℕ) → is_lt (int_cmp (pos a) (pos b)) ≡ false → b ≤ a
+pub not_later : (a b : ℕ) → is_lt (int_cmp (pos a) (pos b)) ≡ false → b ≤ a
 not_later a b h = go (int_cmp (pos a) (pos b)) h (int_ranks (pos a) (pos b))
   where
     go : (o : Ordering) → is_lt o ≡ false → MatchOrdering o (pos a <ℤ pos b) (pos a ≡ pos b) (pos b <ℤ pos a) → b ≤ a
@@ -68,7 +68,7 @@ not_later a b h = go (int_cmp (pos a) (pos b)) h (int_ranks (pos a) (pos b))
     go Equal h k = let e : a ≡ b = cc in omega (arith, e)
     go Greater h k = let e : b < a = grind arith in omega (arith, e)
 
-then_nothing : (o : Ordering) → is_lt (ordering_then o Equal) ≡ is_lt o
+pub then_nothing : (o : Ordering) → is_lt (ordering_then o Equal) ≡ is_lt o
 then_nothing Less = refl
 then_nothing Equal = refl
 then_nothing Greater = refl

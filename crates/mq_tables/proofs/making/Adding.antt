@@ -19,13 +19,15 @@ use Rattle.mq_tables.specs.Places.{IsTableIn, IsUnreferred, IsUnnamed, is_tree, 
 use Rattle.mq_tables.specs.Records.{retired_fields, HoldsAnswers, HoldsTransactions, HoldsUsage, HoldsLimits, HoldsRetired}
 use Rattle.mq_tables.specs.Ledger.{IsThere, HasRule, HasFloors, HasNoFloors, Since, HasLedger}
 use Rattle.mq_tables.specs.Written.{Created}
-use Rattle.mq_tables.specs.Making.{Makes}
+use Rattle.mq_tables.specs.Making.{Makes, chain, later_tables}
+use Rattle.mq_tables.specs.Indexing.{with_day_index, IndexesIf}
 use Rattle.mq_tables.specs.Updates.{KeepsOthers}
-use Rattle.mq_tables.proofs.Chains.{all_joined, all_split, all_both}
+use Rattle.mq_tables.proofs.Chains.{all_joined, all_split, all_both, of_chain}
 use Rattle.mq_tables.proofs.making.Found.{IsFound, apart, begun, still_all, in_database}
 use Rattle.mq_tables.proofs.making.Places.{all_below}
+use Rattle.mq_tables.proofs.making.Indexed.{ledger_indexed}
 use Rattle.mq_rows.specs.declared.record.RetiredRecord.{RetiredRecord}
-use Rattle.mq_tables.specs.Migrating.{AddsRule, SetsVersion, HasMigrated, IsMigrated, migrated}
+use Rattle.mq_tables.specs.Migrating.{AddsRule, SetsVersion, HasMigrated, IsMigratedBy, migrated}
 use Rattle.mq_tables.proofs.Changes.{since, is_since}
 use Rattle.mq_tables.proofs.making.NewLedger.{names_selves, find_apart, holds_none}
 
@@ -177,11 +179,11 @@ module _ (b c d : State) (t : Tables) (old : nat_le 3 t.setting.version ≡ fals
       let kept = before_made (λ (x : Table). x.tree ≢ l.at.setting → d.now.trees x.tree ≡ c.now.trees x.tree) b.now.schema c.now.schema retired_table two.schema_is set.2 in
       (set.0, set.1 ∙ two.schema_is, all_both _ _ _ (λ x same was apart. same apart ∙ was) b.now.schema.tables kept two.tables)
 
-migrates_from : (has_rule : Bool) (a b c d : State) → AddsRule has_rule a b → Makes retired_table b c → SetsVersion c.now d.now → IsMigrated has_rule a.now d.now
+migrates_from : (has_rule : Bool) (a b c d : State) → AddsRule has_rule a b → Makes retired_table b c → SetsVersion c.now d.now → IsMigratedBy false has_rule a.now d.now
 unfolding ledger_stays
 migrates_from true a b c d p q s = record {
   made = λ counters t l is old.
-      subst (λ db. lacks_sequence db.schema ≡ false → (l : HasLedger db t) → HasMigrated true t l.at.setting db d.now) p.1
+      subst (λ db. lacks_sequence db.schema ≡ false → (l : HasLedger db t) → HasMigrated false true t l.at.setting db d.now) p.1
       (λ counters l.
       let added = floors_added b c d t old q s l (is_since _ _ (nat_le 2 t.setting.version) is l.later.rule) counters in
       record { ledger = added.0; schema = added.1; others = added.2 })
@@ -197,9 +199,32 @@ migrates_from false a b c d p q s = record {
       record { ledger = added.0; schema = added.1 ∙ ap (λ x. created x retired_table) one.0.schema_is; others = all_both _ _ _ (λ x same was apart. same apart ∙ was) a.now.schema.tables kept one.0.tables };
 }
 
-pub migrates : (has_rule : Bool) (a b c d : State) (r : Result ℕ Error) → AddsRule has_rule a b → Makes retired_table b c → OnOk r (SetsVersion c.now d.now) → OnOk r (IsMigrated has_rule a.now d.now)
+pub migrates : (has_rule : Bool) (a b c d : State) (r : Result ℕ Error) → AddsRule has_rule a b → Makes retired_table b c → OnOk r (SetsVersion c.now d.now) → OnOk r (IsMigratedBy false has_rule a.now d.now)
 migrates has_rule a b c d (Err e) p q s = tt
 migrates has_rule a b c d (Ok count) p q s = migrates_from has_rule a b c d p q s
+
+-- ---- and the index
+
+migrated_indexed : (indexed has_rule : Bool) (a d e : State) → IsMigratedBy false has_rule a.now d.now → IndexesIf indexed d e → IsMigratedBy indexed has_rule a.now e.now
+unfolding ledger_indexed
+migrated_indexed true has_rule a d e p q = record {
+  made = λ counters t l is old.
+      let m = p.made counters t l is old in
+      let tree = m.ledger.at.usage in
+      let more = q.1 tree m.ledger.tables.usage in
+      let kept : AllByRecursion (λ t. e.now.trees t.tree ≡ d.now.trees t.tree) (chain a.now.schema (later_tables has_rule)).tables = subst (λ (x : Schema). AllByRecursion (λ t. e.now.trees t.tree ≡ d.now.trees t.tree) x.tables) m.schema more.rows in
+      let before = (of_chain (λ n. e.now.trees n ≡ d.now.trees n) (later_tables has_rule) a.now.schema kept).0 in
+      record {
+        ledger = ledger_indexed tree d.now e.now more (migrated t) m.ledger;
+        schema = more.schema ∙ ap (with_day_index tree) m.schema;
+        others = all_both _ _ _ (λ x same was apart. same ∙ was apart) a.now.schema.tables before m.others;
+      };
+}
+migrated_indexed false has_rule a d e p q = subst (IsMigratedBy false has_rule a.now) (sym q.1) p
+
+pub migrates_indexed : (indexed has_rule : Bool) (a d e : State) (r : Result ℕ Error) → IsMigratedBy false has_rule a.now d.now → OnOk r (IndexesIf indexed d e) → OnOk r (IsMigratedBy indexed has_rule a.now e.now)
+migrates_indexed indexed has_rule a d e (Err x) p q = tt
+migrates_indexed indexed has_rule a d e (Ok count) p q = migrated_indexed indexed has_rule a d e p q
 
 -- the transaction goes on after either
 pub adds_inside : (has_rule : Bool) (a b : State) → AddsRule has_rule a b → IsTrue b.in_transaction

@@ -62,17 +62,17 @@ pub record IsCreate (p : Parsed) : Type 0 where
   pub statement : p.statement ≡ written.CreateTable definition
   pub asks : definition.if_missing ≡ false
 
-one_plan : (p : Parsed) (c : Compiled) (r : Checked Command) → ((k : Command) → r ≡ Ok k → k ≡ CreateTable)
-    → and_then (and_then (and_then r (λ k. Ok (k, None))) (λ found. Ok ([], found))) (λ plan. Ok (with_command p plan)) ≡ Ok c → c ≡ with_command p ([], (CreateTable, None))
-one_plan p c (Ok k) only h =
+pub one_plan : (p : Parsed) (c : Compiled) (want : Command) (r : Checked Command) → ((k : Command) → r ≡ Ok k → k ≡ want)
+    → and_then (and_then (and_then r (λ k. Ok (k, None))) (λ found. Ok ([], found))) (λ plan. Ok (with_command p plan)) ≡ Ok c → c ≡ with_command p ([], (want, None))
+one_plan p c want (Ok k) only h =
     let e : ◌≡◌ {A = Checked Compiled} (Ok (with_command p ([], (k, None)))) (Ok c) = h in
     let same : with_command p ([], (k, None)) ≡ c = cc in
     sym same ∙ ap (λ x. with_command p ([], (x, None))) (only k refl)
-one_plan p c (Err e) only h = absurd (cc)
+one_plan p c want (Err e) only h = absurd (cc)
 
 plan_made : (s : Schema) (p : Parsed) (c : Compiled) → IsCreate p → and_then (planned s p) (λ plan. Ok (with_command p plan)) ≡ Ok c → c ≡ with_command p ([], (CreateTable, None))
 unfolding planned meaning returning timed command
-plan_made s p c it h = one_plan p c (create_table s p.formats it.definition) (λ k e. made_by s p.formats it.definition k it.asks e) (rw it.statement at h)
+plan_made s p c it h = one_plan p c CreateTable (create_table s p.formats it.definition) (λ k e. made_by s p.formats it.definition k it.asks e) (rw it.statement at h)
 
 -- the text makes this table
 pub record MakesTable (text : List ℕ) (table : Table) : Type 0 where

@@ -20,7 +20,7 @@ use Rattle.mq_tables.specs.Records.{Holds}
 use Rattle.mq_tables.specs.Ledger.{HasLedger, IsLedgerIn}
 use Rattle.mq_tables.specs.Settings.{HasSetting, setting_after}
 use Rattle.mq_rows.specs.Tables.{Tables}
-use Rattle.mq_tables.specs.Making.{chain, trees_for, is_ours, AllFree, AreUnnamed, other_tables, five_tables, ledger_over, setting_row, new_rows, HasStarted, HasAdded}
+use Rattle.mq_tables.specs.Making.{chain, trees_for, is_ours, AllFree, AreUnnamed, other_tables, three_tables, five_tables, ledger_over, setting_row, new_rows, HasStarted, HasAdded}
 use Rattle.mq_tables.proofs.Chains.{all_joined, all_both, of_chain}
 use Rattle.mq_tables.proofs.making.Found.{IsFound, apart, begun, still_all, in_database}
 use Rattle.mq_tables.proofs.making.Places.{all_below}
@@ -120,12 +120,15 @@ module _ (made_with : NewSetting) (old new : Database) (sound : IsDatabase new) 
   left_alone : AreUnnamed s → (before : List Table) → IsUnreferred new.schema (next_tree (chain s before))
   left_alone unnamed before = subst (λ x. IsUnreferred x (next_tree (chain s before))) (sym schema) (alone s before unnamed)
 
+  usage_place : IsTableIn new.schema usage_table (next_tree s3)
+  usage_place = at_place usage_table (next_tree s3) (still_all _ (ceiling_table ∷ rule_table ∷ retired_table ∷ []) s4 (begun usage_table names_selves.3 s3 free.1.1.1.0))
+
   ledger_in : AreUnnamed s → IsLedgerIn new.schema (record { setting = next_tree s; answer = next_tree s1; trans = next_tree s2; usage = next_tree s3; ceiling = next_tree s4 })
   ledger_in unnamed = record {
     setting = setting_place;
     answer = at_place answer_table (next_tree s1) (still_all _ (trans_table ∷ usage_table ∷ ceiling_table ∷ rule_table ∷ retired_table ∷ []) s2 (begun answer_table names_selves.1 s1 free.1.0));
     trans = at_place trans_table (next_tree s2) (still_all _ (usage_table ∷ ceiling_table ∷ rule_table ∷ retired_table ∷ []) s3 (begun trans_table names_selves.2 s2 free.1.1.0));
-    usage = at_place usage_table (next_tree s3) (still_all _ (ceiling_table ∷ rule_table ∷ retired_table ∷ []) s4 (begun usage_table names_selves.3 s3 free.1.1.1.0));
+    usage = usage_place;
     ceiling = at_place ceiling_table (next_tree s4) (still_all _ (rule_table ∷ retired_table ∷ []) s5 (begun ceiling_table names_selves.4 s4 free.1.1.1.1.0));
     setting_alone = left_alone unnamed [];
     answer_alone = left_alone unnamed (setting_table ∷ []);
@@ -162,6 +165,7 @@ pub record AreSeven (made_with : NewSetting) (old new : Database) : Type 0 where
   pub empty : AllByRecursion (λ n. new.trees n ≡ []) (trees_for (created old.schema setting_table) other_tables)
   pub setting : HasSetting new (setting_after (pos 0) made_with)
   pub rule : IsTableIn new.schema rule_table (next_tree (chain old.schema five_tables))
+  pub usage : IsTableIn new.schema usage_table (next_tree (chain old.schema three_tables))
   pub ledger : AreUnnamed old.schema → HasLedger new (without_rule made_with)
   pub others : AllByRecursion (λ t. new.trees t.tree ≡ old.trees t.tree) old.schema.tables
 
@@ -180,6 +184,7 @@ seven_made made_with a b c p q =
       empty = empty;
       setting = record { tree = next_tree a.now.schema; table = setting_place made_with a.now c.now q.sound schema free; row = row };
       rule = rule_place made_with a.now c.now q.sound schema free;
+      usage = usage_place made_with a.now c.now q.sound schema free;
       ledger = ledger_held made_with a.now c.now q.sound schema free row empty;
       others = all_both _ _ _ (λ t later before. later ∙ before) a.now.schema.tables parts.0 p.others;
     }

@@ -1,0 +1,24 @@
+-- A name that isn't used is none that something has.
+use Rattle.std.proofs.Common.{◌≡◌, ℕ, ◌+◌, List, [], ◌∷◌, Bool, true, false, ◌||◌, Some, is_some, true≢false, refl}
+use Rattle.std.specs.Prelude.{if◌then◌else◌}
+use Rattle.std.specs.List.{list_any, position_from}
+use Rattle.sqlite.specs.Schema.{Schema}
+use Rattle.sqlite_schema.specs.Names.{same_name, table_named, index_named, view_named}
+use Rattle.sqlite_catalog.specs.Change.{is_used}
+use Rattle.mq_tables.specs.Indexing.{is_taken}
+
+has_place : {X : Type 0} (p : X → Bool) (n : ℕ) (xs : List X) → list_any p xs ≡ is_some (position_from p n xs)
+has_place p n [] = refl
+has_place p n (x ∷ xs) = go (p x) (has_place p (n + 1) xs)
+  where
+    go : (b : Bool) → list_any p xs ≡ is_some (position_from p (n + 1) xs) → b || list_any p xs ≡ is_some (if b then Some n else position_from p (n + 1) xs)
+    go true more = refl
+    go false more = more
+
+pub taken_by : (s : Schema) (name : List ℕ) → is_used s name ≡ false → is_taken name s ≡ false
+taken_by s name free = go (is_some (table_named s name)) (is_some (index_named s name)) (is_some (view_named s name)) (has_place (λ t. same_name t.name name) 0 s.tables) (has_place (λ i. same_name i.name name) 0 s.indexes) (has_place (λ v. same_name v.name name) 0 s.views) free
+  where
+    go : {a2 b2 c2 : Bool} (a b c : Bool) → a2 ≡ a → b2 ≡ b → c2 ≡ c → a || b || c ≡ false → a2 || (b2 || c2) ≡ false
+    go false false c p q r free = rw (p, q, r) free
+    go false true c p q r free = absurd (true≢false free)
+    go true b c p q r free = absurd (true≢false free)

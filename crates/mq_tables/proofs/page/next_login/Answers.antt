@@ -1,9 +1,0 @@
-use Rattle.sqlite.specs.Held.{state}
-use Rattle.mq_tables.specs.Ledger.{HasLedger}
-use Rattle.mq_tables.proofs.usages.Logins.{login_after}
-use Rattle.mq_tables.proofs.page.next_login.Goals as goal
-
-pub returns-clause-found : goal.returns-clause-found
-returns-clause-found g c clean =
-    let old = state g.S.Store c.args.tx.now.conn.now in
-    login_after c.args.after.now (HasLedger old.now) _ c.first_login.result (c.in_ok-rows.ensures.found clean) (rw c.as_slice.ensures.value at c.first_login.ensures)

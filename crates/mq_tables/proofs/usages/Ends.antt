@@ -1,0 +1,145 @@
+-- What the queries for the earliest day and for the latest answer of the records.
+use Rattle.std.proofs.Common.{◌≡◌, ◌≤◌, inl, inr, ℕ, zero, suc, pos, List, [], ◌∷◌, codes, map, true, false, Option, Some, None, Ok, Err, Result, Contains, arith, refl, sym, ap, subst, ◌∙◌}
+use Rattle.std.specs.Prelude.{Vec, IfOk}
+use Rattle.std.specs.List.{AllByRecursion}
+use Rattle.std.specs.declared.alloc.Global.{Global}
+use Rattle.std.specs.Ordering.{is_lt, int_cmp}
+use Rattle.sqlite.specs.declared.error.Error.{Error}
+use Rattle.sqlite.specs.Listing.{listing_schema}
+use Rattle.sqlite.specs.Order.{Row, column}
+use Rattle.sqlite.specs.State.{State, Shown}
+use Rattle.sqlite_schema.specs.Names.{same_name}
+use Rattle.sqlite_tied.specs.Compute.{everything}
+use Rattle.sqlite_rules.specs.Lists.{Has}
+use Rattle.sqlite_trees.proofs.ListLemmas.{all_weaker}
+use Rattle.sqlite_value.proofs.OrderLemmas.{value_cmp-Int}
+use Rattle.mq_rows.specs.declared.record.UsageRecord.{UsageRecord}
+use Rattle.mq_rows.specs.Days.{IsOldest, IsNewest}
+use Rattle.mq_rows.specs.Tables.{Tables}
+use Rattle.mq_tables.specs.Days.{IsDayShown, IsFirstDay}
+use Rattle.mq_tables.specs.Ledger.{HasLedger}
+use Rattle.mq_tables.specs.Records.{usage_fields}
+use Rattle.mq_tables.specs.Tables.{usage_table}
+use Rattle.mq_tables.proofs.Finds.{int_same}
+use Rattle.mq_tables.proofs.Firsts as firsts
+use Rattle.mq_tables.proofs.SelectShape.{SelectShape, Sorting, IsSelect, IsAccepted, filter_in, shown_in, order_by}
+use Rattle.mq_tables.proofs.Selected.{pass, shows_first}
+use Rattle.mq_tables.proofs.TermShape.{field}
+use Rattle.mq_tables.proofs.governing.Governing.{not_later, then_nothing}
+
+abbrev pub oldest_text : List ℕ
+oldest_text = codes "SELECT day FROM usage ORDER BY day LIMIT 1"
+
+abbrev pub newest_text : List ℕ
+newest_text = codes "SELECT day FROM usage ORDER BY day DESC LIMIT 1"
+
+abbrev earliest : Sorting
+earliest = record { column = field (codes "day") 1; descending = false }
+
+abbrev latest : Sorting
+latest = record { column = field (codes "day") 1; descending = true }
+
+abbrev shape_by : Sorting → SelectShape
+shape_by by = record {
+  table = usage_table;
+  shown = field (codes "day") 1 ∷ [];
+  tests = [];
+  order = Some by;
+}
+
+abbrev pub oldest_shape : SelectShape
+oldest_shape = shape_by earliest
+
+abbrev pub newest_shape : SelectShape
+newest_shape = shape_by latest
+
+pub oldest_select : IsSelect oldest_text oldest_shape
+unfolding everything listing_schema same_name
+oldest_select = record { parsed = refl; statement = refl; timeless = refl; unlisted = refl; known = λ t. refl; short = refl }
+
+pub newest_select : IsSelect newest_text newest_shape
+unfolding everything listing_schema same_name
+newest_select = record { parsed = refl; statement = refl; timeless = refl; unlisted = refl; known = λ t. refl; short = refl }
+
+oldest_accepted : IsAccepted oldest_shape
+oldest_accepted s t low found = rw (low, found)
+
+newest_accepted : IsAccepted newest_shape
+newest_accepted s t low found = rw (low, found)
+
+contains_day : (all : List UsageRecord) (u : UsageRecord) → Has all u → Contains (map (λ v. v.day) all) u.day
+contains_day [] u h = absurd h
+contains_day (v ∷ all) u (inl same) = (0, omega arith, ap (λ (r : UsageRecord). r.day) (sym same))
+contains_day (v ∷ all) u (inr more) = let it = contains_day all u more in (suc it.0, omega (arith, it.1), it.2)
+
+-- no record is there of which something false holds
+none_there : (all : List UsageRecord) → AllByRecursion (λ u. true ≡ false) all → all ≡ []
+none_there [] h = refl
+none_there (u ∷ all) h = absurd (cc h.0)
+
+-- ---- the earliest
+
+abbrev IsFirst : SelectShape → Sorting → ℕ → List UsageRecord → List Row → Type 0
+IsFirst shape by = firsts.IsFirstRow usage_fields (filter_in shape) (shown_in shape) [] (order_by None by)
+
+abbrev out : SelectShape → Sorting → UsageRecord → Row × Row
+out shape by u = firsts.out usage_fields (filter_in shape) (shown_in shape) [] (order_by None by) u
+
+old_decides : (u : UsageRecord) → pass usage_fields oldest_text oldest_shape oldest_select oldest_accepted refl [] u ≡ true
+old_decides u = refl
+
+old_ordered : (t : ℕ) (u other : UsageRecord) → firsts.before usage_fields (filter_in oldest_shape) (shown_in oldest_shape) [] (order_by None earliest) t (out oldest_shape earliest other) (out oldest_shape earliest u) ≡ is_lt (int_cmp (pos other.day) (pos u.day))
+old_ordered t u other = rw (value_cmp-Int (pos other.day) (pos u.day)) (then_nothing (int_cmp (pos other.day) (pos u.day)))
+
+oldest : (t : ℕ) (all : List UsageRecord) (rows : List Row) → IsFirst oldest_shape earliest t all rows → IsDayShown IsOldest all rows
+oldest t all [] none = none_there all (all_weaker _ (λ u. true ≡ false) (λ u free. sym (old_decides u) ∙ free) all none)
+oldest t all (row ∷ more) (u, it, is) = (
+  u.day,
+  (contains_day all u it.there, all_weaker _ (λ other. u.day ≤ other.day) (λ other low. not_later other.day u.day (sym (old_ordered t u other) ∙ low (old_decides other))) all it.first),
+  is,
+)
+
+pub found_oldest : (old new : State) (outcome : Result (Vec Row Global) Error) → IfOk outcome (λ rows. Shown oldest_text [] old new rows.items)
+    → IfOk outcome (λ rows. (t : Tables) → HasLedger old.now t → IsDayShown IsOldest t.usage rows.items)
+found_oldest old new (Ok rows) h = λ t l.
+    oldest l.at.usage t.usage rows.items (shows_first usage_fields oldest_text oldest_shape oldest_select oldest_accepted refl [] old new l.at.usage l.tables.usage rows.items h t.usage earliest refl l.holds.usage)
+found_oldest old new (Err e) h = tt
+
+-- ---- the latest
+
+new_decides : (u : UsageRecord) → pass usage_fields newest_text newest_shape newest_select newest_accepted refl [] u ≡ true
+new_decides u = refl
+
+new_ordered : (t : ℕ) (u other : UsageRecord) → firsts.before usage_fields (filter_in newest_shape) (shown_in newest_shape) [] (order_by None latest) t (out newest_shape latest other) (out newest_shape latest u) ≡ is_lt (int_cmp (pos u.day) (pos other.day))
+new_ordered t u other = rw (value_cmp-Int (pos u.day) (pos other.day)) (then_nothing (int_cmp (pos u.day) (pos other.day)))
+
+newest : (t : ℕ) (all : List UsageRecord) (rows : List Row) → IsFirst newest_shape latest t all rows → IsDayShown IsNewest all rows
+newest t all [] none = none_there all (all_weaker _ (λ u. true ≡ false) (λ u free. sym (new_decides u) ∙ free) all none)
+newest t all (row ∷ more) (u, it, is) = (
+  u.day,
+  (contains_day all u it.there, all_weaker _ (λ other. other.day ≤ u.day) (λ other low. not_later u.day other.day (sym (new_ordered t u other) ∙ low (new_decides other))) all it.first),
+  is,
+)
+
+pub found_newest : (old new : State) (outcome : Result (Vec Row Global) Error) → IfOk outcome (λ rows. Shown newest_text [] old new rows.items)
+    → IfOk outcome (λ rows. (t : Tables) → HasLedger old.now t → IsDayShown IsNewest t.usage rows.items)
+found_newest old new (Ok rows) h = λ t l.
+    newest l.at.usage t.usage rows.items (shows_first usage_fields newest_text newest_shape newest_select newest_accepted refl [] old new l.at.usage l.tables.usage rows.items h t.usage latest refl l.holds.usage)
+found_newest old new (Err e) h = tt
+
+-- ---- what the first row shows
+
+module _ (IsThat : List UsageRecord → Option ℕ → Type 0) where
+  day_so : (all : List UsageRecord) (rows : List Row) (found : Option ℕ) → IsDayShown IsThat all rows → IsFirstDay rows found → IsThat all found
+  day_so all [] None shown first = shown
+  day_so all (row ∷ more) None shown first = absurd cc
+  day_so all [] (Some d) shown first = absurd (let e = first.2 in cc)
+  day_so all (row ∷ more) (Some d) (m, it, is) (r, rest, whole, shown) =
+      let head : r ≡ row = cc in
+      let same : m ≡ d = int_same (sym (ap (λ x. column x 0) (head ∙ is)) ∙ shown) in
+      subst (λ x. IsThat all (Some x)) same it
+
+  pub day_after : (Held : Tables → Type 0) (rows : List Row) (outcome : Result (Option ℕ) Error) → ((t : Tables) → Held t → IsDayShown IsThat t.usage rows)
+      → IfOk outcome (IsFirstDay rows) → IfOk outcome (λ found. (t : Tables) → Held t → IsThat t.usage found)
+  day_after Held rows (Ok found) shown first = λ t l. day_so t.usage rows found (shown t l) first
+  day_after Held rows (Err e) shown first = tt

@@ -1,0 +1,132 @@
+-- What the query for the next row of a day answers of the records.
+use Rattle.std.proofs.Common.{◌≡◌, ◌==◌, ◌&&◌, ℕ, zero, suc, Ordering, Less, Equal, Greater, List, [], ◌∷◌, codes, true, false, Option, Some, None, Ok, Err, Result, arith, refl, sym, ap, subst, ◌∙◌}
+use Rattle.std.specs.Prelude.{Vec, IfOk}
+use Rattle.std.specs.declared.alloc.Global.{Global}
+use Rattle.sqlite.specs.declared.error.Error.{Error}
+use Rattle.sqlite.specs.Listing.{listing_schema}
+use Rattle.sqlite.specs.Order.{Row, column}
+use Rattle.sqlite.specs.State.{State, Shown}
+use Rattle.sqlite_schema.specs.Names.{same_name}
+use Rattle.sqlite_tied.specs.Compute.{everything}
+use Rattle.std.specs.Ordering.{is_lt, is_ge, nat_cmp, ordering_then, ordering_reverse}
+use Rattle.std.specs.Cmp.{nat_cmp_is, unsigned_Decides}
+use Rattle.std.specs.Cmp.Lexicographic.{slice_cmp}
+use Rattle.std.proofs.Math.Bool.{and-true}
+use Rattle.std.proofs.lemmas.Bool.{and_parts}
+use Rattle.std.proofs.lemmas.Cmp.{nat_cmp_total}
+use Rattle.sqlite_trees.proofs.ListLemmas.{all_weaker}
+use Rattle.sqlite_value.proofs.OrderLemmas.{value_cmp-Blob}
+use Rattle.mq_ledger.specs.Page.{below}
+use Rattle.mq_rows.specs.declared.record.UsageRecord.{UsageRecord}
+use Rattle.mq_rows.specs.Listing.{is_above, IsNext}
+use Rattle.mq_rows.specs.Tables.{Tables}
+use Rattle.mq_tables.specs.Ledger.{HasLedger}
+use Rattle.mq_tables.specs.Paging.{just_above, from_params, next_row, IsNextShown, IsOfDayShown, IsFirstOfDay}
+use Rattle.mq_tables.specs.Records.{usage_fields}
+use Rattle.mq_tables.specs.Tables.{usage_table}
+use Rattle.mq_tables.proofs.Finds.{int_same, blob_same}
+use Rattle.mq_tables.proofs.Firsts as firsts
+use Rattle.mq_tables.proofs.SelectShape.{SelectShape, Sorting, IsSelect, IsAccepted, filter_in, shown_in, order_by}
+use Rattle.mq_tables.proofs.Selected.{pass, shows_first}
+use Rattle.mq_tables.proofs.TermShape.{field, against}
+use Rattle.mq_tables.proofs.TermShape.Relation.{Same, AtLeast}
+use Rattle.mq_tables.proofs.Tests.{nat_test, at_least_test}
+use Rattle.mq_tables.proofs.governing.Governing.{has_contains, then_nothing}
+
+abbrev pub next_text : List ℕ
+next_text = codes "SELECT login, settled, reserved FROM usage WHERE day = ?1 AND login >= ?2 ORDER BY login LIMIT 1"
+
+abbrev by_login : Sorting
+by_login = record { column = field (codes "login") 0; descending = false }
+
+abbrev pub next_shape : SelectShape
+next_shape = record {
+  table = usage_table;
+  shown = field (codes "login") 0 ∷ field (codes "settled") 2 ∷ field (codes "reserved") 3 ∷ [];
+  tests = against (field (codes "day") 1) Same 1 ∷ against (field (codes "login") 0) AtLeast 2 ∷ [];
+  order = Some by_login;
+}
+
+pub next_select : IsSelect next_text next_shape
+unfolding everything listing_schema same_name
+next_select = record { parsed = refl; statement = refl; timeless = refl; unlisted = refl; known = λ t. refl; short = refl }
+
+next_accepted : IsAccepted next_shape
+next_accepted s t low found = rw (low, found)
+
+first_differs : (o : Ordering) (a b : Ordering) → is_ge a ≡ is_lt b → is_ge (ordering_then o a) ≡ is_lt (ordering_then (ordering_reverse o) b)
+first_differs Less a b same = refl
+first_differs Equal a b same = same
+first_differs Greater a b same = refl
+
+above_zero : (x : ℕ) → nat_cmp (suc x) 0 ≡ Greater
+above_zero x = sym (nat_cmp_is (suc x) 0 Greater (omega arith))
+
+-- no text lies between a text and the one just above it
+from_just_above : (a after : List ℕ) → is_ge (slice_cmp nat_cmp a (just_above after)) ≡ is_lt (slice_cmp nat_cmp after a)
+from_just_above [] [] = refl
+from_just_above [] (y ∷ after) = refl
+from_just_above (zero ∷ []) [] = refl
+from_just_above (zero ∷ (z ∷ a)) [] = refl
+from_just_above (suc x ∷ a) [] = rw (above_zero x) refl
+from_just_above (x ∷ a) (y ∷ after) =
+    first_differs (nat_cmp x y) _ _ (from_just_above a after) ∙ ap (λ o. is_lt (ordering_then o (slice_cmp nat_cmp after a))) (sym (nat_cmp_total.antisymm y x))
+
+module _ (day : ℕ) (after : List ℕ) where
+  abbrev params : Row
+  params = from_params day (just_above after)
+
+  decides : (u : UsageRecord) → pass usage_fields next_text next_shape next_select next_accepted refl params u ≡ is_above day after u
+  decides u = rw (nat_test u.day day, at_least_test u.login (just_above after), from_just_above u.login after) (ap (λ b. (day == u.day) && b) (and-true (below after u.login)))
+
+  abbrev IsFirst : ℕ → List UsageRecord → List Row → Type 0
+  IsFirst = firsts.IsFirstRow usage_fields (filter_in next_shape) (shown_in next_shape) params (order_by None by_login)
+
+  abbrev out : UsageRecord → Row × Row
+  out u = firsts.out usage_fields (filter_in next_shape) (shown_in next_shape) params (order_by None by_login) u
+
+  ordered : (t : ℕ) (u other : UsageRecord) → firsts.before usage_fields (filter_in next_shape) (shown_in next_shape) params (order_by None by_login) t (out other) (out u) ≡ below other.login u.login
+  ordered t u other = rw (value_cmp-Blob other.login u.login) (then_nothing (slice_cmp nat_cmp other.login u.login))
+
+  next : (t : ℕ) (all : List UsageRecord) (rows : List Row) → IsFirst t all rows → IsNextShown day after all rows
+  next t all [] none = all_weaker _ (λ u. is_above day after u ≡ false) (λ u free. sym (decides u) ∙ free) all none
+  next t all (row ∷ more) (u, it, is) = (
+    u,
+    (
+      has_contains all u it.there,
+      sym (decides u) ∙ it.passing,
+      all_weaker _ (λ other. is_above day after other ≡ true → below other.login u.login ≡ false) (λ other low hit. sym (ordered t u other) ∙ low (decides other ∙ hit)) all it.first,
+    ),
+    is,
+  )
+
+  pub found_next : (old new : State) (outcome : Result (Vec Row Global) Error) → IfOk outcome (λ rows. Shown next_text params old new rows.items)
+      → IfOk outcome (λ rows. (t : Tables) → HasLedger old.now t → IsNextShown day after t.usage rows.items)
+  found_next old new (Ok rows) h = λ t l.
+      next l.at.usage t.usage rows.items (shows_first usage_fields next_text next_shape next_select next_accepted refl params old new l.at.usage l.tables.usage rows.items h t.usage by_login refl l.holds.usage)
+  found_next old new (Err e) h = tt
+
+  -- the row shows that record, whose day is known
+  shown_is : (row : Row) (u v : UsageRecord) → IsOfDayShown day row u → day ≡ v.day → row ≡ next_row v → v ≡ u
+  shown_is row u v shown key is =
+      let login : v.login ≡ u.login = blob_same (sym (ap (λ r. column r 0) is) ∙ shown.login) in
+      let settled : v.settled ≡ u.settled = int_same (sym (ap (λ r. column r 1) is) ∙ shown.settled) in
+      let reserved : v.reserved ≡ u.reserved = int_same (sym (ap (λ r. column r 2) is) ∙ shown.reserved) in
+      λ i. record { login = login i; day = (sym key ∙ sym shown.day) i; settled = settled i; reserved = reserved i }
+
+  of_day : (u : UsageRecord) → is_above day after u ≡ true → day ≡ u.day
+  of_day u hit = (unsigned_Decides day u.day).0 (and_parts _ _ hit).0
+
+  next_so : (all : List UsageRecord) (rows : List Row) (found : Option UsageRecord) → IsNextShown day after all rows → IsFirstOfDay day rows found → IsNext day after all found
+  next_so all [] None shown first = shown
+  next_so all (row ∷ more) None shown first = absurd cc
+  next_so all [] (Some u) shown first = absurd (let e = first.2 in cc)
+  next_so all (row ∷ more) (Some u) (v, it, is) (r, rest, whole, shown) =
+      let head : r ≡ row = cc in
+      let same = shown_is r u v shown (of_day v it.1) (head ∙ is) in
+      subst (λ x. IsNext day after all (Some x)) same it
+
+  pub next_after : (Held : Tables → Type 0) (rows : List Row) (outcome : Result (Option UsageRecord) Error) → ((t : Tables) → Held t → IsNextShown day after t.usage rows)
+      → IfOk outcome (IsFirstOfDay day rows) → IfOk outcome (λ found. (t : Tables) → Held t → IsNext day after t.usage found)
+  next_after Held rows (Ok found) shown first = λ t l. next_so t.usage rows found (shown t l) first
+  next_after Held rows (Err e) shown first = tt
