@@ -1,6 +1,6 @@
 -- A new ledger that has what is remembered of an old one.
 use Rattle.std.proofs.Common.{arith, inl, inr, refl, sym, ap, subst}
-use Rattle.std.specs.Prelude.{◌≡◌, ◌⊎◌, ℕ, List, Result, Ok, Err, OnOk, OnErr}
+use Rattle.std.specs.Prelude.{◌≡◌, ◌⊎◌, ℕ, Bool, List, Result, Ok, Err, OnOk, OnErr}
 use Rattle.sqlite.specs.Effect.{Database, IsDatabase}
 use Rattle.sqlite.specs.State.{State, HasCleanDisk, Survives}
 use Rattle.sqlite.specs.Tree.{Trees}
@@ -10,7 +10,7 @@ use Rattle.mq_ledger.specs.declared.zone.Zone.{Zone}
 use Rattle.mq_ledger.specs.Day.{IsZone, day_of}
 use Rattle.mq_ledger.specs.Legal.{Book}
 use Rattle.mq_rows.specs.Tables.{those}
-use Rattle.mq_tables.specs.Making.{IsMadeOver, new_rows}
+use Rattle.mq_tables.specs.Making.{IsMadeOverBy, new_rows}
 use Rattle.mq_forget.specs.Remembered.{remembered}
 use Rattle.mq_store.specs.Carrying.{Carries}
 use Rattle.mq_store.specs.Forgetting.{IsFree, MakesBlank, Fills, AreFilled, IsRemembered, FindsFilled, FindsFilledOr}
@@ -20,8 +20,8 @@ use Rattle.mq_store.specs.Taking.{HasBook, book_of}
 use Rattle.mq_store.proofs.Sound.{no_floor, book_had, sound_with}
 
 -- tables that were just made are the rows of the empty history
-pub made_blank : (zone : Zone) (default : ℕ) (old new : Database) → IsZone zone → IsAmount default → IsMadeOver (made_with zone default) old new → MakesBlank zone default old new
-made_blank zone default old new is_zone amount made free = record {
+pub made_blank : (indexed : Bool) (zone : Zone) (default : ℕ) (old new : Database) → IsZone zone → IsAmount default → IsMadeOverBy indexed (made_with zone default) old new → MakesBlank zone default old new
+made_blank indexed zone default old new is_zone amount made free = record {
   legal = record { zone = is_zone; default = amount; legal = record { range = λ k d low. absurd (omega (arith, low)); distinct = refl; built = refl } };
   has = record {
     tables = new_rows (made_with zone default);

@@ -19,3 +19,4 @@ pub mod Entering
 pub mod Filling
 pub mod Renewals
 pub mod Beside
+pub mod Reserved

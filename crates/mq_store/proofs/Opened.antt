@@ -20,7 +20,8 @@ use Rattle.mq_rows.specs.Rows.{is_version, older_version}
 use Rattle.mq_rows.specs.Tables.{Tables, AreRows}
 use Rattle.mq_tables.specs.Ledger.{HasLedger, HasRule, Since, setting_in}
 use Rattle.mq_tables.specs.Making.{has_later_table}
-use Rattle.mq_tables.specs.Migrating.{IsMigrated, AreMigrated, migrated}
+use Rattle.mq_tables.specs.Indexing.{IsIndexed}
+use Rattle.mq_tables.specs.Migrating.{IsMigrated, migrated}
 use Rattle.mq_tables.specs.Reading.{Spares}
 use Rattle.mq_tables.specs.declared.setting.Setting.{Setting}
 use Rattle.mq_tables.specs.Settings.{SettingRow, shown_of}
@@ -30,7 +31,7 @@ use Rattle.mq_store.specs.declared.fault.Refused.{Refused}
 use Rattle.mq_store.specs.declared.fault.Refused.TheVariants as stop
 use Rattle.mq_store.specs.Auditing.{IsAuditIn, IsRightAnswer}
 use Rattle.mq_store.specs.Crash.{LeavesBy, FindsOnly, FindsOpened}
-use Rattle.mq_store.specs.Opening.{fault_in, same_rule, audit_fault, known_version, judged_as, if_none, HasCurrent, HoldsKnown, HasSettings, IsStop, IsOf, IsFoundOf, IsBroughtUp, Opens, Refuses}
+use Rattle.mq_store.specs.Opening.{fault_in, same_rule, audit_fault, known_version, judged_as, if_none, HasCurrent, HoldsKnown, HasSettings, IsStop, IsOf, IsFoundOf, IsKeptUp, IsBroughtUp, AreBroughtUp, Opens, Refuses}
 use Rattle.mq_store.specs.Taking.{HasBook, book_of}
 use Rattle.mq_store.specs.Soundness.{book_in, HasKept, HasStored, IsSound, MeansBook, IsOpened}
 use Rattle.mq_store.proofs.Sound.{sound_with}
@@ -163,8 +164,24 @@ module _ (b : Book) (db : Database) (has : HasStored b db) where
       let made = it.made (not_since _ _ (nat_le 3 v) older has.room).counters t has.holds refl older in
       record { legal = has.legal; has = record { tables = migrated t; holds = made.ledger; rows = rows_again; current = refl } }
 
+  indexed_book : (new : Database) → v ≡ 3 → IsIndexed db new → HasBook b new
+  indexed_book new current it = record { legal = has.legal; has = record { tables = t; holds = (it.made t has.holds).1; rows = has.rows; current = current } }
+
   kept_book : (new : Database) → v ≡ 3 → new ≡ db → HasBook b new
   kept_book new current same = record { legal = has.legal; has = record { tables = t; holds = subst (λ x. HasLedger x t) (sym same) has.holds; rows = has.rows; current = current } }
+
+-- so is each database whose trees are what was to be written
+module _ (one : (a b : Database) → IsDatabase a → IsDatabase b → a.trees ≡ b.trees → a ≡ b) (b : Book) (old db : Database) (has : HasStored b old) (sound : IsDatabase db) where
+  again_book : (made : Database) → made.trees ≡ db.trees → HasBook b made → HasBook b db
+  again_book made same there = subst (HasBook b) (one made db there.has.holds.sound sound same) there
+
+  pub written_book : AreBroughtUp has.tables.setting.version old db.trees → HasBook b db
+  written_book up = elim (versions b.zone has.tables.setting.version has.rows.setting.version) [
+    | inl current ↦ (let made = since_then _ _ (nat_le 3 has.tables.setting.version) (ap (nat_le 3) current) up in again_book made.new made.trees_are (indexed_book b old has made.new current made.made))
+    | inr older ↦ (let below = ap (nat_le 3) older ∙ older_is b.zone in
+        let made = not_since _ _ (nat_le 3 has.tables.setting.version) below up in
+        again_book made.new made.trees_are (migrated_book b old has made.new below made.made))
+  ]
 
 module _ (b : Book) (old new : State) (has : HasStored b old.now) where
   abbrev v' : ℕ
@@ -172,7 +189,10 @@ module _ (b : Book) (old new : State) (has : HasStored b old.now) where
 
   brought_book : IsTrue new.is_open → IsBroughtUp v' old new → HasBook b new.now
   brought_book is_open up = elim (versions b.zone v' has.rows.setting.version) [
-    | inl current ↦ kept_book b old.now has new.now current ((since_then _ _ (nat_le 3 v') (ap (nat_le 3) current) up).now is_open)
+    | inl current ↦ elim (since_then _ _ (nat_le 3 v') (ap (nat_le 3) current) up) [
+      | inl left ↦ kept_book b old.now has new.now current (left.0.now is_open)
+      | inr made ↦ indexed_book b old.now has new.now current made.1
+    ]
     | inr older ↦ (let below = ap (nat_le 3) older ∙ older_is b.zone in migrated_book b old.now has new.now below (not_since _ _ (nat_le 3 v') below up).0)
   ]
 
@@ -201,10 +221,17 @@ module _ (zone : Zone) (default : ℕ) (old new : State) (exact : (s : SettingRo
       let there = brought_book b old new has kept.is_open it.2 in
       go there (nat_le 3 has.tables.setting.version) it.2
     where
-      go : HasBook b new.now → (is : Bool) → Since is (Spares old new) (IsMigrated (nat_le 2 has.tables.setting.version) old.now new.now × ((db : Trees) → new.may_leave db → db ≡ new.now.trees))
-          → Since is ((db : Trees) → new.may_leave db → old.may_leave db) (FindsOnly new (HasBook b))
-      go there true up = up.crash
-      go there false up = λ db sound left. subst (HasBook b) (one new.now db there.has.holds.sound sound (sym (up.1 db.trees left))) there
+      again : HasBook b new.now → ((db : Trees) → new.may_leave db → db ≡ new.now.trees) → FindsOnly new (HasBook b)
+      again there leaves = λ db sound left. subst (HasBook b) (one new.now db there.has.holds.sound sound (sym (leaves db.trees left))) there
+
+      kept_up : HasBook b new.now → IsKeptUp old new → FindsOnly new (λ db. old.may_leave db.trees ⊎ HasBook b db)
+      kept_up there (inl left) = λ db sound may. inl (left.0.crash db.trees may)
+      kept_up there (inr made) = λ db sound may. inr (again there made.2 db sound may)
+
+      go : HasBook b new.now → (is : Bool) → Since is (IsKeptUp old new) (IsMigrated (nat_le 2 has.tables.setting.version) old.now new.now × ((db : Trees) → new.may_leave db → db ≡ new.now.trees))
+          → Since is (FindsOnly new (λ db. old.may_leave db.trees ⊎ HasBook b db)) (FindsOnly new (HasBook b))
+      go there true up = kept_up there up
+      go there false up = again there up.1
 
 pub opens : (zone : Zone) (default : ℕ) (old new : State) → MeansBook zone default old.now new → IsOpened zone default old new
 opens zone default old new means = record { opened = λ z d has. means (book_in z d old.now) has }
@@ -238,8 +265,7 @@ module _ (zone : Zone) (default : ℕ) (old new : State) (f : OpenFault) (exact 
         | inr (version, found, older) ↦ elim (older.crash db.trees left) [
           | inl was ↦ inl was
           | inr (was_open, made) ↦ inr (let is = (found_as b old.now has zone default version found.0).0 in
-              let there = migrated_book b old.now has made.new (ap (nat_le 3) (sym is) ∙ older.older) (subst (λ k. IsMigrated (nat_le 2 k) old.now made.new) is made.made) in
-              subst (HasBook b) (one made.new db there.has.holds.sound sound made.trees_are) there)
+              written_book one b old.now db has sound (subst (λ k. AreBroughtUp k old.now db.trees) is made))
         ]
       ]
 
@@ -278,20 +304,13 @@ module _ (old new : State) (f : OpenFault) (Found : Result ℕ OpenFault → Typ
     | inl found ↦ found.1.crash db left
     | inr (version, found, older) ↦ absurd (let is : ◌≡◌ {A = Option ℕ} None (Some version) = known version found in cc)
   ]
-  by_version (Some n) known = go (nat_le 3 n) refl
-    where
-      go : (is : Bool) → nat_le 3 n ≡ is → Since is ((db : Trees) → new.may_leave db → old.may_leave db) ((db : Trees) → new.may_leave db → old.may_leave db ⊎ AreMigrated (nat_le 2 n) old.now db)
-      go true is = λ db left. elim refused [
-        | inl found ↦ found.1.crash db left
-        | inr (version, found, older) ↦ absurd (let same : n ≡ version = cc (known version found) in true≢false (sym is ∙ ap (nat_le 3) same ∙ older.older))
-      ]
-      go false is = λ db left. elim refused [
-        | inl found ↦ inl (found.1.crash db left)
-        | inr (version, found, older) ↦ elim (older.crash db left) [
-          | inl was ↦ inl was
-          | inr made ↦ inr (let same : n ≡ version = cc (known version found) in subst (λ k. AreMigrated (nat_le 2 k) old.now db) (sym same) made.1)
-        ]
-      ]
+  by_version (Some n) known = λ db left. elim refused [
+    | inl found ↦ inl (found.1.crash db left)
+    | inr (version, found, behind) ↦ elim (behind.crash db left) [
+      | inl was ↦ inl was
+      | inr made ↦ inr (let same : n ≡ version = cc (known version found) in subst (λ k. AreBroughtUp k old.now db) (sym same) made.1)
+    ]
+  ]
 
 pub leaves_refused : (zone : Zone) (default : ℕ) (old new : State) (f : OpenFault) (s : SettingRow) (rule : Option (List ℕ)) → Refuses (IsFoundOf zone default old.now s rule) old new f → LeavesBy (known_version s.version) old new
 leaves_refused zone default old new f s rule refused =
@@ -300,8 +319,4 @@ leaves_refused zone default old new f s rule refused =
 -- a store that was left alone leaves what it left before
 pub leaves_same : (k : Option ℕ) (s : State) → LeavesBy k s s
 leaves_same None s = λ db left. left
-leaves_same (Some n) s = go (nat_le 3 n)
-  where
-    go : (is : Bool) → Since is ((db : Trees) → s.may_leave db → s.may_leave db) ((db : Trees) → s.may_leave db → s.may_leave db ⊎ AreMigrated (nat_le 2 n) s.now db)
-    go true = λ db left. left
-    go false = λ db left. inl left
+leaves_same (Some n) s = λ db left. inl left

@@ -11,7 +11,7 @@ use Rattle.mq_ledger.specs.Arrivals.{is_first}
 use Rattle.mq_ledger.specs.History.{requests}
 use Rattle.mq_ledger.specs.Legal.{Book}
 use Rattle.mq_tables.specs.Ledger.{Since}
-use Rattle.mq_tables.specs.Migrating.{AreMigrated}
+use Rattle.mq_store.specs.Opening.{AreBroughtUp}
 use Rattle.mq_store.specs.Soundness.{HasStored}
 use Rattle.mq_store.specs.Taking.{HasBook, book_of, book_after, Applies}
 
@@ -41,13 +41,11 @@ LeavesOld zone default r old new =
     (H : List Entry) → HasBook (book_of zone default H) old.now → is_first (requests H) r ≡ false
     → (db : Trees) → new.may_leave db → old.may_leave db
 
--- after an open that is refused, by the version of the settings: what a crash could leave before; of an older version
--- also exactly that ledger in the current version
+-- after an open that is refused, by the version of the settings: what a crash could leave before, or exactly that ledger
+-- brought up
 abbrev pub LeavesBy : Option ℕ → State → State → Type 0
 LeavesBy None old new = (db : Trees) → new.may_leave db → old.may_leave db
-LeavesBy (Some version) old new =
-    Since (nat_le 3 version) ((db : Trees) → new.may_leave db → old.may_leave db)
-    ((db : Trees) → new.may_leave db → old.may_leave db ⊎ AreMigrated (nat_le 2 version) old.now db)
+LeavesBy (Some version) old new = (db : Trees) → new.may_leave db → old.may_leave db ⊎ AreBroughtUp version old.now db
 
 -- What is found by whoever opens what a crash left.
 
@@ -69,10 +67,10 @@ FindsEither zone default r old new =
     (H : List Entry) → HasBook (book_of zone default H) old.now
     → FindsOnly new (λ db. old.may_leave db.trees ⊎ HasBook (book_after zone default H r) db)
 
--- after an open of a ledger of an older version: its rows in the current version; of the current version: what could be
--- found before
+-- after an open of a ledger of an older version: its rows in the current version; of the current version: these, or what
+-- could be found before
 abbrev pub FindsOpened : State → State → Type 0
 FindsOpened old new =
     (b : Book) (has : HasStored b old.now)
-    → Since (nat_le 3 has.tables.setting.version) ((db : Trees) → new.may_leave db → old.may_leave db)
+    → Since (nat_le 3 has.tables.setting.version) (FindsOnly new (λ db. old.may_leave db.trees ⊎ HasBook b db))
     (FindsOnly new (HasBook b))

@@ -10,4 +10,5 @@ pub mod Auditing
 pub mod Carrying
 pub mod Forgetting
 pub mod Limits
+pub mod Days
 pub mod Renewing

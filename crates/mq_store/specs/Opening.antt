@@ -24,6 +24,7 @@ use Rattle.mq_tables.specs.declared.setting.NewSetting.{NewSetting}
 use Rattle.mq_rows.specs.declared.record.RetiredRecord.{RetiredRecord}
 use Rattle.mq_tables.specs.Floors.{are_floors}
 use Rattle.mq_tables.specs.Ledger.{HasRule, HasFloors, Since}
+use Rattle.mq_tables.specs.Indexing.{lacks_index, IsIndexed, AreIndexed}
 use Rattle.mq_tables.specs.Making.{has_later_table}
 use Rattle.mq_tables.specs.Migrating.{IsMigrated, AreMigrated}
 use Rattle.mq_tables.specs.Reading.{IsRead, IsRuleRead, AreFloorsRead, Spares}
@@ -283,25 +284,34 @@ version_of (Err f) = Err f
 
 -- What becomes of a store that is found to be this ledger.
 
--- a ledger of the current version is left as it is; an older one is given that version, and a crash leaves it so
+-- nothing is written to a ledger where something has the index's name; else it has the index, and a crash leaves it so
+abbrev pub IsKeptUp : State → State → Type 0
+IsKeptUp old new =
+    (Spares old new × (IsTrue new.is_open → lacks_index new.now.schema ≡ false))
+    ⊎ (IsTrue old.is_open × IsIndexed old.now new.now × ((db : Trees) → new.may_leave db → db ≡ new.now.trees))
+
+-- a ledger of the current version has the same rows; an older one is given that version, and a crash leaves it so
 abbrev pub IsBroughtUp : ℕ → State → State → Type 0
 IsBroughtUp version old new =
-    Since (nat_le 3 version) (Spares old new)
+    Since (nat_le 3 version) (IsKeptUp old new)
     (IsMigrated (nat_le 2 version) old.now new.now × ((db : Trees) → new.may_leave db → db ≡ new.now.trees))
 
--- an older one wasn't given the current version: a crash leaves what it left before, or it has that version
-pub record IsLeftOlder (version : ℕ) (old new : State) (f : OpenFault) : Type 0 where
-  pub older : nat_le 3 version ≡ false
+-- what a crash may leave of a ledger of the current version, with the index, and of an older one, with that version
+abbrev pub AreBroughtUp : ℕ → Database → Trees → Type 0
+AreBroughtUp version old db = Since (nat_le 3 version) (AreIndexed old db) (AreMigrated (nat_le 2 version) old db)
+
+-- it wasn't brought up: a crash leaves what it left before, or all that was to be written
+pub record IsLeftBehind (AreWritten : Database → Trees → Type 0) (old new : State) (f : OpenFault) : Type 0 where
   pub fault : IsStop f
   pub now : IsTrue new.is_open → new.now ≡ old.now
   pub crash : (db : Trees) → new.may_leave db
-      → old.may_leave db ⊎ (IsTrue old.is_open × AreMigrated (nat_le 2 version) old.now db)
+      → old.may_leave db ⊎ (IsTrue old.is_open × AreWritten old.now db)
 
 -- this version was found, and the ledger brought up to the current one
 abbrev pub Opens : (Result ℕ OpenFault → Type 0) → State → State → Type 0
 Opens Found old new = (version : ℕ) × Found (Ok version) × IsBroughtUp version old new
 
--- this fault was found, and nothing written; or an older version was found, and not brought up
+-- this fault was found, and nothing written; or a version was found, and not brought up
 abbrev pub Refuses : (Result ℕ OpenFault → Type 0) → State → State → OpenFault → Type 0
 Refuses Found old new f =
-    (Found (Err f) × Spares old new) ⊎ ((version : ℕ) × Found (Ok version) × IsLeftOlder version old new f)
+    (Found (Err f) × Spares old new) ⊎ ((version : ℕ) × Found (Ok version) × IsLeftBehind (AreBroughtUp version) old new f)

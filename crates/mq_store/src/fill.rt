@@ -17,11 +17,12 @@ use crate::ledger::new_setting;
 use crate::reached::Reached;
 use crate::slice::go_through;
 use mq_tables::create::make_tables;
+use mq_tables::names::lacks_index;
 use sqlite::{Alter, Connection, Error, Transaction};
 use std::alloc::Global;
 
-/// Makes the tables of a ledger with that zone and default.
-fn make<S: Alter>(tx: &mut Transaction<'_, S>, terms: &Terms) -> Result<usize, Error>
+/// Makes the tables of a ledger with that zone and default, and the index where it is wanted.
+fn make<S: Alter>(tx: &mut Transaction<'_, S>, terms: &Terms, indexed: bool) -> Result<usize, Error>
     requires in_range { IsAmount terms.now.default }
     requires inside { HasCleanDisk (state S.Store tx.old.conn.now)
         → IsTrue (state S.Store tx.old.conn.now).in_transaction }
@@ -33,7 +34,7 @@ fn make<S: Alter>(tx: &mut Transaction<'_, S>, terms: &Terms) -> Result<usize, E
     ensures leaves { LeavesCommit S.Store tx.old tx.new }
 {
     let made_with = new_setting(terms.zone, terms.default);
-    make_tables(tx, &made_with)
+    make_tables(tx, &made_with, indexed)
 }
 
 /// Takes over what stays of all answers, in as many steps as that takes, with a scratch ledger in memory.
@@ -60,7 +61,7 @@ fn carry_apart<S: Alter, T: Alter>(
     let mut memory = Connection::open_in_memory(alloc)?;
     let _settled = memory.is_autocommit();
     let mut scratch = memory.transaction();
-    make(&mut scratch, terms)?;
+    make(&mut scratch, terms, false)?;
     let nothing = Reached::nothing();
     let _all = go_through(
         alloc,
@@ -82,6 +83,7 @@ fn fill<S: Alter, T: Alter>(
     from: &mut Transaction<'_, S>,
     into: &mut Transaction<'_, T>,
     terms: &Terms,
+    indexed: bool,
 ) -> Result<(), Refused>
     requires in_range { IsAmount terms.now.default }
     requires into_inside { HasCleanDisk (state T.Store into.old.conn.now)
@@ -97,7 +99,7 @@ fn fill<S: Alter, T: Alter>(
     ensures from_leaves { LeavesCommit S.Store from.old from.new }
     ensures into_leaves { LeavesCommit T.Store into.old into.new }
 {
-    make(into, terms)?;
+    make(into, terms, indexed)?;
     carry_apart(alloc, from, into, terms)
 }
 
@@ -136,9 +138,10 @@ pub(crate) fn fill_store<S: Alter, T: Alter>(
 {
     let _from_settled = from.is_autocommit();
     let _into_settled = into.is_autocommit();
+    let indexed = lacks_index(into.schema());
     let mut reading = from.transaction();
     let mut writing = into.transaction();
-    fill(alloc, &mut reading, &mut writing, terms)?;
+    fill(alloc, &mut reading, &mut writing, terms, indexed)?;
     writing.commit()?;
     Ok(())
 }

@@ -75,8 +75,8 @@ pub(crate) fn new_setting(zone: Zone, default: u32) -> NewSetting
 }
 
 impl<S: Alter> SqlLedger<S> {
-    /// Makes the tables of a ledger that has applied nothing, in one transaction, over whatever the
-    /// store holds. The default is the limit of a login that has none for a day: 0 to 1,000,000.
+    /// Makes the tables of a ledger that has applied nothing, and its index where nothing has that name, in one
+    /// transaction, over whatever the store holds. The default is the limit of a login that has none for a day: 0 to 1,000,000.
     ///
     /// Refused, the store has the tables that it had. `NotOurs` comes exactly where a table of one of the
     /// seven names is there; its other faults are `Memory` and `Store`. A connection within a transaction
@@ -174,12 +174,13 @@ impl<S: Alter> SqlLedger<S> {
     }
 
     /// Opens the ledger that a store holds, of any version. One of an older version is given the current
-    /// one, in one transaction; else nothing is written. The default is 0 to 1,000,000.
+    /// one, and each is given the index where nothing has its name, in one transaction; else nothing is written. The
+    /// default is 0 to 1,000,000.
     ///
     /// The faults for content come in this order: `NotOurs`, `ZoneDiffers`, `DefaultDiffers`, and
     /// after these the tables are audited as by [`SqlLedger::audit`], which reads all rows of three of
     /// them, one by one: `Damaged` with the least pair that isn't right. `Memory` and `Store` come
-    /// wherever they stop the reading, or the writing of the current version. A connection within a
+    /// wherever they stop the reading, or the writing. A connection within a
     /// transaction is `Store`. Refused, the store has the rows that it had.
     ///
     /// So where zone and default agree, a store that a ledger left is refused by `Memory` and `Store`
@@ -199,7 +200,8 @@ impl<S: Alter> SqlLedger<S> {
             → AreCounted zone default (state S.Store connection).now l.found) }
 
         // Over any store: what the store answers to the queries for settings, floors and rule decides, and
-        // after them the audit. Then a ledger of an older version is given the current one.
+        // after them the audit. Then a ledger of an older version is given the current one, and one without the index
+        // gets that.
         ensures ok { IfOk result (λ l. HasCleanDisk (state S.Store l.connection)
             → Opens (IsFound S.Store zone default connection l.connection)
             (state S.Store connection) (state S.Store l.connection)) }
@@ -250,8 +252,8 @@ impl<S: Alter> SqlLedger<S> {
         ensures spares_err { IfErr result (λ e. HasCleanDisk (state S.Store e.connection)
             → Spares (state S.Store connection) (state S.Store e.connection) ⊎ IsStop e.fault) }
 
-        // What an open after a crash may find: after a refusal what could be found before, or of an older ledger
-        // that one in the current version; of an older ledger that is opened, that one alone.
+        // What an open after a crash may find: after a refusal what could be found before, or that ledger in the
+        // current version and with its index; of an older ledger that is opened, that one alone.
         ensures crash_err { IfErr result (λ e. HasCleanDisk (state S.Store e.connection)
             → (s : SettingRow) (rule : Option (List ℕ)) → HasSettings (state S.Store connection).now s rule
             → LeavesBy (known_version s.version) (state S.Store connection) (state S.Store e.connection)) }
@@ -380,7 +382,7 @@ impl<S: Alter> SqlLedger<S> {
         self.found
     }
 
-    /// Why the store failed, where the last call of `apply`, `audit`, `count_answers` or `limits` answered
+    /// Why the store failed, where the last call of `apply`, `audit`, `count_answers`, `days` or `limits` answered
     /// `LedgerFault::Store`; `None` where it answered otherwise, or none was made.
     pub fn cause(&self) -> Option<StoreCause>
         ensures { result ≡ self.now.cause }

@@ -21,6 +21,7 @@ mod apply;
 mod auditing;
 mod carry;
 mod counting;
+mod days;
 mod fault;
 mod fill;
 mod forgetting;
@@ -40,6 +41,7 @@ mod take;
 mod write;
 
 pub use auditing::RowCounts;
+pub use days::ReservedDays;
 pub use fault::{OpenFault, OpenRefused, StoreCause};
 pub use laws::arrivals_leave_what_was_taken_over;
 pub use ledger::SqlLedger;

@@ -3,12 +3,13 @@
 ghost use Rattle.std.specs.Prelude.{◌≡◌, ℕ, Option, List, nat_le, false, None, IsTrue, IfOk, OnOk, IfErr};
 ghost use Rattle.sqlite.specs.Held.{state};
 ghost use Rattle.sqlite.specs.State.{HasCleanDisk};
+ghost use Rattle.mq_tables.specs.Indexing.{AreIndexed};
 ghost use Rattle.mq_tables.specs.Reading.{Spares};
 ghost use Rattle.mq_tables.specs.Settings.{SettingRow, shown_of};
 ghost use Rattle.mq_store.specs.Opening.{known_version, IsJudged, IsJudgedAs, IsJudgedBy, IsJudgedRuled, IsJudgedCurrent};
 ghost use Rattle.mq_store.specs.Opening.{HasSettings, HoldsKnown, HoldsVersion, HasCurrent, IsRuled, IsFaultOf, IsOf};
 ghost use Rattle.mq_store.specs.Auditing.{AreCounted};
-ghost use Rattle.mq_store.specs.Opening.{version_of, IsFound, IsFoundOf, IsBroughtUp, IsLeftOlder, Opens, Refuses};
+ghost use Rattle.mq_store.specs.Opening.{version_of, IsFound, IsFoundOf, IsKeptUp, IsBroughtUp, AreBroughtUp, IsLeftBehind, Opens, Refuses};
 ghost use Rattle.mq_store.specs.Soundness.{HasKept};
 
 use crate::auditing::{RowCounts, audit_store};
@@ -19,7 +20,8 @@ use crate::fault::{
 use mq_ledger::Zone;
 use mq_rows::{Audit, VERSION};
 use mq_tables::floor::read_floors;
-use mq_tables::names::has_later_table;
+use mq_tables::index::index_ledger;
+use mq_tables::names::{has_later_table, lacks_index};
 use mq_tables::rule::read_rule;
 use mq_tables::setting::{Setting, read_setting};
 use mq_tables::version::migrate;
@@ -210,7 +212,31 @@ fn check_ledger<S: Alter>(
     }
 }
 
-/// Gives a ledger of an older version the current one, in one transaction. One of the current version stays as it is.
+/// Gives a ledger of the current version the index, in one transaction, where nothing has its name.
+#[tactic(auto, using(crate::proofs::Openings::left_alone, crate::proofs::Openings::given_index))]
+fn keep_up<S: Alter>(connection: &mut Connection<S>) -> Result<(), OpenFault>
+    requires autocommit { connection.old.in_transaction ≡ false }
+    ensures autocommit { connection.new.in_transaction ≡ false }
+    ensures limit { connection.new.step_limit ≡ connection.old.step_limit }
+    ensures clean { HasCleanDisk (state S.Store connection.new) → HasCleanDisk (state S.Store connection.old) }
+    ensures was_open { HasCleanDisk (state S.Store connection.new)
+        → IsTrue (state S.Store connection.new).is_open → IsTrue (state S.Store connection.old).is_open }
+    ensures kept_up { HasCleanDisk (state S.Store connection.new)
+        → OnOk result (IsKeptUp (state S.Store connection.old) (state S.Store connection.new)) }
+    ensures err { HasCleanDisk (state S.Store connection.new)
+        → IfErr result (IsLeftBehind AreIndexed (state S.Store connection.old) (state S.Store connection.new)) }
+{
+    if !lacks_index(connection.schema()) {
+        return Ok(());
+    }
+    match index_ledger(connection) {
+        Ok(()) => Ok(()),
+        Err(error) => Err(create_fault(&error)),
+    }
+}
+
+/// Gives a ledger of an older version the current one, in one transaction, and one of the current version the index.
+#[tactic(auto, using(crate::proofs::Openings::up_current, crate::proofs::Openings::behind_current, crate::proofs::Openings::behind_older))]
 fn bring_up<S: Alter>(connection: &mut Connection<S>, version: u32) -> Result<(), OpenFault>
     requires autocommit { connection.old.in_transaction ≡ false }
     ensures autocommit { connection.new.in_transaction ≡ false }
@@ -223,10 +249,11 @@ fn bring_up<S: Alter>(connection: &mut Connection<S>, version: u32) -> Result<()
     ensures up { HasCleanDisk (state S.Store connection.new)
         → OnOk result (IsBroughtUp version (state S.Store connection.old) (state S.Store connection.new)) }
     ensures err { HasCleanDisk (state S.Store connection.new)
-        → IfErr result (IsLeftOlder version (state S.Store connection.old) (state S.Store connection.new)) }
+        → IfErr result (IsLeftBehind (AreBroughtUp version) (state S.Store connection.old)
+        (state S.Store connection.new)) }
 {
     if version >= VERSION {
-        return Ok(());
+        return keep_up(connection);
     }
     match migrate(connection, version >= RULED) {
         Ok(()) => Ok(()),
@@ -234,7 +261,7 @@ fn bring_up<S: Alter>(connection: &mut Connection<S>, version: u32) -> Result<()
     }
 }
 
-/// Finds whether the store is this ledger, and gives one of an older version the current one: how many rows there are.
+/// Finds whether the store is this ledger, and brings it up to the current version and the index: how many rows there are.
 pub(crate) fn open_store<S: Alter>(
     alloc: Global,
     connection: &mut Connection<S>,

@@ -178,6 +178,13 @@ impl<S: Alter> Renewal<S> {
         self.made.cause()
     }
 
+    /// The day from which on it takes over what the old ledger remembers: a day number since 1970-01-01.
+    pub fn day(&self) -> u32
+        ensures { result ≡ self.now.day }
+    {
+        self.day
+    }
+
     /// The new ledger, with what it has taken over.
     pub fn into_ledger(self) -> SqlLedger<S>
         ensures { result ≡ self.made }

@@ -1,8 +1,10 @@
 //! Stores of others, and a ledger's own taken apart and opened; what a ledger replies.
 
 mod audits;
+mod index;
 mod lists;
 mod older;
+mod pages;
 mod steps;
 mod stops;
 mod worked;
@@ -297,6 +299,47 @@ const NO_HISTORY: &[Case] = &[
 #[test]
 fn rows_of_no_history(rt: HostRuntime) -> Result<(), Fail> {
     from_ledger(rt.alloc(), NO_HISTORY)
+}
+
+/// On which days something was reserved: a day counts as soon as a reserve of it is granted, also where that is the
+/// earliest, and stays where all of it is released.
+const DAYS: &[Case] = &[(
+    "days with a reserve",
+    &[
+        Step::Days(None),
+        Step::Replies(&[(USAGE, "8b 0175 00000001 00000000 00000000 00000003")]),
+        Step::Days(None),
+        Step::Replies(&[(
+            "01 0161 0000000000000001 00000001 00000001 000000000002A300 0175 00000001",
+            GRANTED_ONE,
+        )]),
+        Step::Days(Some((2, 2))),
+        Step::Replies(&[(
+            "01 0161 0000000000000001 00000002 00000002 000000000003F480 0176 00000001",
+            "81 0161 0000000000000001 00000002 00000001",
+        )]),
+        Step::Days(Some((2, 3))),
+        Step::Replies(&[(
+            "03 0161 0000000000000001 00000003 00000002 000000000003F480 0176",
+            "84 0161 0000000000000001 00000003 00000001",
+        )]),
+        Step::Days(Some((2, 3))),
+        Step::Replies(&[(
+            "01 0161 0000000000000001 00000004 00000003 0000000000015180 0174 00000004",
+            "82 0161 0000000000000001 00000004 00000000 00000003",
+        )]),
+        Step::Days(Some((2, 3))),
+        Step::Replies(&[(
+            "01 0161 0000000000000001 00000005 00000003 0000000000015180 0174 00000003",
+            "81 0161 0000000000000001 00000005 00000003",
+        )]),
+        Step::Days(Some((1, 3))),
+    ],
+)];
+
+#[test]
+fn days(rt: HostRuntime) -> Result<(), Fail> {
+    from_ledger(rt.alloc(), DAYS)
 }
 
 /// A fault of that kind.

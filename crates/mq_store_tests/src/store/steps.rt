@@ -49,6 +49,8 @@ pub enum Step {
     Sound(u64, u64),
     /// An audit finds this pair.
     Wrong(&'static str, i64),
+    /// Something was reserved on these days, the first and the last; or on none.
+    Days(Option<(u32, u32)>),
 }
 
 /// A list of steps, with its name.
@@ -150,6 +152,14 @@ fn finds<S: Alter>(ledger: &mut SqlLedger<S>, step: &Step) -> bool {
     }
 }
 
+/// On which days something was reserved. Without clauses, as `ask`.
+fn days_of<S: Alter>(ledger: &mut SqlLedger<S>) -> Result<Option<(u32, u32)>, LedgerFault> {
+    match ledger.days() {
+        Ok(days) => Ok(days.map(|days| (days.oldest, days.newest))),
+        Err(fault) => Err(fault),
+    }
+}
+
 fn is_fault(answer: Result<Reply, LedgerFault>) -> bool {
     matches!(answer, Err(LedgerFault::Store))
 }
@@ -185,6 +195,10 @@ fn take_inside<S: Alter>(alloc: Global, ledger: &mut SqlLedger<S>, step: &Step) 
         Step::Replies(asked) => take_all(alloc, ledger, asked),
         Step::Fails(request) => wanted(fails(alloc, ledger, request) == Some(true), request),
         Step::Sound(..) | Step::Wrong(..) => wanted(finds(ledger, step), "an audit"),
+        Step::Days(days) => {
+            let is_so = matches!(days_of(ledger), Ok(found) if found == *days);
+            wanted(is_so, "other days")
+        }
         Step::GoesBy(minutes, default) => {
             let is_so = *ledger.zone() == zone(*minutes) && ledger.default_cap() == *default;
             wanted(is_so, "another zone or default")

@@ -7,5 +7,5 @@ returns-clause-blank g c clean =
     let old = state g.S.Store c.args.tx.now.conn.now in
     let new = state g.S.Store c.make_tables.new.tx.conn.now in
     on_ok c.make_tables.result _ _ (λ made.
-    made_blank c.args.terms.now.zone c.args.terms.now.default old.now new.now c.new_setting-made_with.ensures.in_range c.requires.in_range (rw c.new_setting-made_with.ensures.value at made))
+    made_blank c.args.indexed c.args.terms.now.zone c.args.terms.now.default old.now new.now c.new_setting-made_with.ensures.in_range c.requires.in_range (rw c.new_setting-made_with.ensures.value at made))
     (c.make_tables.ensures.made clean)

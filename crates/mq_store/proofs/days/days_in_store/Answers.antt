@@ -1,0 +1,9 @@
+use Rattle.std.proofs.Common.{rules}
+use Rattle.sqlite.specs.Held.{state}
+use Rattle.sqlite.specs.State.{HasCleanDisk}
+use Rattle.mq_store.proofs.days.days_in_store.Goals as goal
+
+pub returns-clause-found : goal.returns-clause-found
+returns-clause-found g c clean =
+    let inside : HasCleanDisk (state g.S.Store c.days_in.new.tx.conn.now) = search rules in
+    rw c.transaction-tx.ensures.begun at (c.in_ok-days_in.ensures.found inside)
