@@ -51,6 +51,11 @@ usage_in (Err Store) = Err Store
 abbrev pub LacksMemory : List ℕ → ℕ → Option (List Told) → Option (List Told) → Type 0
 LacksMemory login day old new = (new ≡ old) ⊎ Tells old new (question login day (Err Memory) ∷ [])
 
+-- a question was put once, and this is what its answer says; or there was no memory to put it
+abbrev pub IsAnswered : List ℕ → ℕ → Option (List Told) → Option (List Told) → Result (Option Used) LedgerFault → Type 0
+IsAnswered login day old new said = ((new ≡ old) × (said ≡ Ok None))
+    ⊎ ((answer : Result Reply LedgerFault) × Tells old new (question login day answer ∷ []) × (said ≡ usage_in answer))
+
 -- a question found a failed store, and nothing but questions was asked
 abbrev pub FailsAtQuestion : Option (List Told) → Option (List Told) → Type 0
 FailsAtQuestion old new = (login : List ℕ) × (day : ℕ) × CallsOnce (question login day (Err Store)) old new

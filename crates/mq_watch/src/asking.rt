@@ -5,22 +5,17 @@ ghost use Rattle.mq_ledger.specs.Day.{day_of};
 ghost use Rattle.mq_ledger.specs.History.{used};
 ghost use Rattle.mq_ledger.specs.Limits.{cap};
 ghost use Rattle.mq_ledger.specs.Told.{Tells};
-ghost use Rattle.mq_watch.specs.Asked.{IsAsked, LacksMemory, question, usage_in};
+ghost use Rattle.mq_watch.specs.Asked.{IsAnswered, IsAsked, LacksMemory, question, usage_in};
 
 use crate::nearing::Usage;
-use log::{Log, error};
 use mq_ledger::laws::one_more_arrival;
 use mq_ledger::{Ledger, LedgerFault};
 use mq_request::{Login, Reply, Request};
-use std::net::SocketAddr;
 
 /// Asks a ledger what a login has used on a day, and its limit. There is no answer where memory runs out; the fault is that
-/// of a store that failed, which is logged with the peer at whose request it was asked. The login has 1 to 255 bytes,
-/// and `day` is a day number, 0 to 376,200.
-pub fn ask_usage<L: Ledger, G: Log>(
+/// of a store that failed. The login has 1 to 255 bytes, and `day` is a day number, 0 to 376,200.
+pub fn ask_usage<L: Ledger>(
     ledger: &mut L,
-    log: &G,
-    peer: SocketAddr,
     login: &Login,
     day: u32,
 ) -> Result<Option<Usage>, LedgerFault>
@@ -38,16 +33,13 @@ pub fn ask_usage<L: Ledger, G: Log>(
         (Tells (L.told ledger.old) (L.told ledger.new) (question login.now day (Err LedgerFault.Store) ∷ [])) }
     ensures none { L.has_kept ledger.new → L.is_sound ledger.old → IfOk result (λ found. IfNone found
         (LacksMemory login.now day (L.told ledger.old) (L.told ledger.new))) }
+    ensures answered { IsAnswered login.now day (L.told ledger.old) (L.told ledger.new) result }
 {
     one_more_arrival();
     let Ok(login) = login.clone() else {
         return Ok(None);
     };
-    let usage = usage_in(&ledger.apply(&usage_request(login, day)));
-    if usage.is_err() {
-        error!(log; "connection of {peer}: the ledger's store failed at a question of the log");
-    }
-    usage
+    usage_in(&ledger.apply(&usage_request(login, day)))
 }
 
 /// The question what a login has used on a day.

@@ -4,6 +4,7 @@ ghost use Rattle.std.specs.Option.{SomeIff};
 ghost use Rattle.std.specs.Time.{system_time_nanos};
 ghost use Rattle.mq_request.specs.Range.{IsMoment};
 ghost use Rattle.mq_request.specs.declared.bounds.TheConstants.{FIRST_MOMENT, LAST_MOMENT};
+ghost use Rattle.mq_watch.specs.Hours.{nearest_moment, seconds_at};
 
 use mq_request::bounds::{FIRST_MOMENT, LAST_MOMENT};
 use std::rt::Clock;
@@ -22,12 +23,23 @@ fn millis_at(now: SystemTime) -> Option<u64>
     u64::try_from(time.as_millis()).ok()
 }
 
+/// The whole seconds since 1970 of so many milliseconds, where the clock can be read.
+pub fn seconds_of(now: Option<u64>) -> Option<u64>
+    ensures { result ≡ seconds_at now }
+{
+    match now {
+        Some(millis) => Some(millis / 1_000),
+        None => None,
+    }
+}
+
 /// The moment of so many seconds since 1970-01-01T00:00:00Z, or the first or last moment there is.
 pub fn moment_of(seconds: u64) -> u64
     ensures range { IsMoment result }
     ensures value { IsMoment seconds → result ≡ seconds }
     ensures first { seconds < FIRST_MOMENT → result ≡ FIRST_MOMENT }
     ensures last { LAST_MOMENT < seconds → result ≡ LAST_MOMENT }
+    ensures nearest { result ≡ nearest_moment seconds }
 {
     seconds.max(FIRST_MOMENT).min(LAST_MOMENT)
 }

@@ -9,7 +9,8 @@
 //!     let outcome = listen(rt, log, rt.alloc(), settings, &mut watched, connections);
 //!
 //! It stands on `mq_request`, `mq_ledger` and `mq_chore`: it knows requests, replies and days, and of a connection its
-//! peer's address alone. [`Within`] has a chore of the other ledger go on. Begin with `watched.rt`.
+//! peer's address alone. [`Within`] has a chore of the other ledger go on. Begin with `specs/Seen.antt`, what is to be seen
+//! of a request: `watch.rt` finds it, and `watched.rt` logs it.
 #![tactic(auto)]
 
 mod ahead;
@@ -19,9 +20,11 @@ mod clock;
 mod hear;
 mod hourly;
 mod hours;
-mod lines;
 mod nearing;
+mod notes;
+mod notice;
 mod refusals;
+mod watch;
 mod watched;
 mod within;
 

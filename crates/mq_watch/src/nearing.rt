@@ -92,6 +92,7 @@ impl Nearing {
         ensures kept { IsOpen (standing self.old.logins login.now) day usage.used → (IsNear usage.used usage.cap → ⊥) →
             (result ≡ false) × (IsLeft self.old.logins self.new.logins login.now
             ⊎ (standing self.new.logins login.now ≡ Some (record { day = day; near = Some (four_fifths usage.cap) }))) }
+        ensures lost { IsNear usage.used usage.cap → result ≡ false → IsLeft self.old.logins self.new.logins login.now }
         ensures others { (l : List ℕ) → l ≢ login.now → IsLeft self.old.logins self.new.logins l }
         ensures closed { (IsOpen (standing self.old.logins login.now) day usage.used → ⊥) →
             (result ≡ false) × (self.new ≡ self.old) }

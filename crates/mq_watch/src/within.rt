@@ -17,6 +17,6 @@ impl<L: Ledger, C: Clock, G: Log, K: Chore<L>> Chore<Watched<'_, L, C, G>> for W
     ghost is_done = { λ within book. K.is_done within.chore book };
 
     fn go_on(&mut self, ledger: &mut Watched<'_, L, C, G>) -> Piece {
-        self.chore.go_on(&mut ledger.ledger)
+        self.chore.go_on(&mut ledger.watch.ledger)
     }
 }
