@@ -6,7 +6,7 @@
 //! chore, and ends where that is done. [`serve_network`] does so over any [`Network`]. From `mq_program/src/serving.rt`:
 //!
 //!     let timeout = Duration::from_millis(u64::from(settings.timeout));
-//!     let mut left = Connections::Count(connections);
+//!     let mut left = connections;
 //!     let _ended = serve_connections(
 //!         rt,
 //!         log,

@@ -52,6 +52,7 @@ impl OpenConnection {
         timeout: Duration,
     ) -> io::Result<OpenConnection>
         ensures fresh { IfOk result (λ made. made.connection ≡ fresh made.connection.room) }
+        ensures peer { IfOk result (λ made. made.peer ≡ peer) }
     {
         let until = deadline_after(clock, timeout)?;
         let deadline = deadline_after(clock, timeout.saturating_mul(TIMEOUTS))?;
@@ -269,6 +270,7 @@ pub fn give_turns<N: Network, C: Clock, L: Ledger + Hear>(
     timeout: Duration,
     ledger: &mut L,
 ) -> Progress
+    ensures heard { L.hears ledger.old opened.old.peer }
     ensures others { (n : ℕ) → n ≢ number → N.wire network.new n ≡ N.wire network.old n }
     ensures store { result ≡ Ended (Err ServeFault.Store) → opened.new.connection.end ≡ Some (Err ServeFault.Store) }
     ensures works { opened.old.connection.end ≢ Some (Err ServeFault.Store) →

@@ -6,8 +6,8 @@ ghost use Rattle.std.specs.Prelude.{IfOk};
 ghost use Rattle.mq_command.specs.Allowing.{IsSetter};
 
 use mq_command::{
-    Setter, is_login_text, login_of_text, login_text, run_day, run_fresh, run_limit, run_restore,
-    run_resume, run_retire, run_stop,
+    Setter, StopOrder, is_login_text, login_of_text, login_text, run_day, run_fresh, run_limit,
+    run_restore, run_resume, run_retire, run_stop,
 };
 use mq_frame::{decode_request, encode_request};
 use mq_ledger::{PlainLedger, Zone};
@@ -139,7 +139,12 @@ fn stopped(
         return Err("a day out of range".into());
     }
     let whose = setter(alloc)?;
-    Ok(run_stop(alloc, link, &whose, day, is_meant, output, errors))
+    let order = StopOrder {
+        day,
+        is_meant,
+        is_all: false,
+    };
+    Ok(run_stop(alloc, link, &whose, order, output, errors))
 }
 
 /// The status of a limit that is given back on this day.
@@ -296,8 +301,11 @@ const ACTS: [(Act, &str); 22] = [
         Act::Stop(0, false),
         "|mailquota: nothing sent on day 0 or the two before; check the login, or use --force\n|1",
     ),
-    // What is used on the next day is above the limit of nothing.
-    (Act::Stop(0, true), "|mailquota: over day 1 used 4\n|1"),
+    // What is used on the next day is above its limit of the day, which stays.
+    (
+        Act::Stop(0, true),
+        "stopped: u may use 3 on day 0\nlimit before: 3\nlimit after: 4 up to day 1\n||0",
+    ),
     // On day 0 it had the default, which is less than is used on day 1.
     (
         Act::Restore(1),

@@ -138,7 +138,7 @@ const AT_A_STORE_THAT_FAILS: &[Row<'_>] = &[(
 
 /// What is logged of a question at which the store fails.
 pub const QUESTION_FAILED: &str =
-    "[ERROR mq_watch::asking] connection of 192.0.2.7:40312: the ledger's store failed at a question of the log";
+    "[ERROR mq_watch::watched] connection of 192.0.2.7:40312: the ledger's store failed at a question of the log";
 
 /// The line of a question comes before that of its limit.
 const WHERE_THE_CAP_FAILS: &[Row<'_>] = &[
