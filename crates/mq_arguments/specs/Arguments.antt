@@ -1,10 +1,15 @@
 -- What the words of a command line may ask for.
-use Rattle.std.specs.Prelude.{◌≤◌, IfSome, ⊤}
+use Rattle.std.specs.Prelude.{◌≤◌, ℕ, IfSome, ⊤}
 use Rattle.mq_request.specs.Range.{IsRun, IsDay, IsAmount, IsMoment, IsWithin}
 use Rattle.mq_arguments.specs.declared.ReplayArguments.{ReplayArguments}
 use Rattle.mq_arguments.specs.declared.LimitArguments.{LimitArguments}
 use Rattle.mq_arguments.specs.declared.ResumeArguments.{ResumeArguments}
 use Rattle.mq_arguments.specs.declared.StopArguments.{StopArguments}
+use Rattle.mq_arguments.specs.declared.ReportArguments.{ReportArguments}
+use Rattle.mq_arguments.specs.declared.DayArgument.{DayArgument}
+use Rattle.mq_arguments.specs.declared.DayArgument.TheVariants.{Today, Ago, Given}
+use Rattle.mq_arguments.specs.declared.ConnectionsArgument.{ConnectionsArgument}
+use Rattle.mq_arguments.specs.declared.ConnectionsArgument.TheVariants.{Count, Endless}
 use Rattle.mq_arguments.specs.declared.Arguments.{Arguments}
 use Rattle.mq_arguments.specs.declared.Arguments.TheVariants.{Replay, Filter, Server, Limit, Retire, Stop, Resume, Day}
 use Rattle.mq_arguments.specs.declared.Arguments.TheVariants.{Init, Status, Probe, Report, Limits, Audit, Forget}
@@ -15,32 +20,48 @@ pub record IsReplayArguments (given : ReplayArguments) : Type 0 where
   pub east : given.east ≤ 1439
   pub west : given.west ≤ 1439
 
--- a day of 0 to 376,200, a limit of 0 to 1,000,000, and a run in range where one is given
+-- a day number of 0 to the last one, and a day of today or up to 376,200 days before it
+abbrev pub IsDayUpTo : ℕ → DayArgument → Type 0
+IsDayUpTo last Today = ⊤
+IsDayUpTo last (Ago days) = IsWithin 0 376200 days
+IsDayUpTo last (Given day) = IsWithin 0 last day
+
+-- a limit of 0 to 1,000,000, and a run in range where one is given
 pub record IsLimitArguments (given : LimitArguments) : Type 0 where
-  pub from : IsDay given.from
+  pub from : IsDayUpTo 376200 given.from
   pub cap : IsAmount given.cap
   pub run : IfSome given.run IsRun
 
--- a day that another one follows in range, where one is given
+-- a day that another one follows in range
 abbrev pub IsStopArguments : StopArguments → Type 0
-IsStopArguments given = IfSome given.day (IsWithin 0 376199)
+IsStopArguments given = IsDayUpTo 376199 given.day
 
 -- a day that another one follows in range, and 0 to 1,000,000 recipients more where a number is given
 pub record IsResumeArguments (given : ResumeArguments) : Type 0 where
-  pub day : IsWithin 0 376199 given.day
+  pub day : IsDayUpTo 376199 given.day
   pub cap : IfSome given.cap IsAmount
+
+-- 1 to 1,000,000 logins, where a number is given
+pub record IsReportArguments (given : ReportArguments) : Type 0 where
+  pub day : IsDayUpTo 376200 given.day
+  pub top : IfSome given.top (IsWithin 1 1000000)
+
+-- 1 to 1,000,000 connections, where they have an end
+abbrev pub IsConnections : ConnectionsArgument → Type 0
+IsConnections (Count count) = IsWithin 1 1000000 count
+IsConnections Endless = ⊤
 
 -- the numbers are within their ranges
 abbrev pub IsArguments : Arguments → Type 0
 IsArguments (Replay given) = IsReplayArguments given
 IsArguments (Filter given) = IfSome given.run IsRun
-IsArguments (Server given) = IsWithin 1 1000000 given.connections
+IsArguments (Server given) = IsConnections given.connections
 IsArguments (Limit given) = IsLimitArguments given
 IsArguments (Stop given) = IsStopArguments given
 IsArguments (Resume given) = IsResumeArguments given
 IsArguments (Day given) = IfSome given.moment IsMoment
 IsArguments (Retire given) = IfSome given.run IsRun
-IsArguments (Report given) = IsDay given.day
+IsArguments (Report given) = IsReportArguments given
 IsArguments (Init given) = ⊤
 IsArguments (Status given) = ⊤
 IsArguments (Probe given) = ⊤

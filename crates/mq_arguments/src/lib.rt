@@ -1,10 +1,10 @@
 //! What the words of a command line ask for, as types: what each subcommand is given.
 //!
 //! `mq_words` makes an [`Arguments`] of words, and `mailquota` has `mq_program` or `mq_remote` do what it asks for, so that only the one pays for
-//! `clap` and only the other for sockets and files. From `mq_program/src/serving.rt`:
+//! `clap` and only the other for sockets and files. From `mailquota/src/subcommand.rt`:
 //!
-//!     let settings = server_settings(rt, given.config)?;
-//!     serve(rt, &settings, given.create, given.connections, start)
+//!     Arguments::Limit(given) => end_process(limit(rt, dial, given, errors), errors),
+//!     Arguments::Stop(given) => end_process(stop(rt, dial, given, errors), errors),
 //!
 //! It stands on `mq_request`, for the ranges of a request's numbers, and knows nothing else. Begin with this file;
 //! `specs/Arguments.antt` has the ranges that `mq_words` proves.
@@ -13,6 +13,12 @@
 mod servers;
 
 pub use servers::Servers;
+
+/// The settings of a server where no words name others.
+pub const SERVER_SETTINGS: &str = "/etc/mailquota/server.toml";
+
+/// The settings of a filter where no words name others.
+pub const FILTER_SETTINGS: &str = "/etc/mailquota/filter.toml";
 
 /// What `replay` is given.
 #[derive(Clone, Copy)]
@@ -47,6 +53,15 @@ pub struct FilterArguments<'a> {
     pub check: bool,
 }
 
+/// How many connections are served.
+#[derive(Clone, Copy)]
+pub enum ConnectionsArgument {
+    /// So many, 1 to 1,000,000.
+    Count(u32),
+    /// They have no end.
+    Endless,
+}
+
 /// What `server` is given.
 #[derive(Clone, Copy)]
 pub struct ServerArguments<'a> {
@@ -54,14 +69,14 @@ pub struct ServerArguments<'a> {
     pub config: &'a str,
     /// Whether a new ledger is made in the database file of the settings.
     pub create: bool,
-    /// How many connections are served, 1 to 1,000,000.
-    pub connections: u32,
+    /// How many connections are served.
+    pub connections: ConnectionsArgument,
 }
 
 /// What `status` is given where it asks servers by their addresses.
 #[derive(Drop)]
 pub struct ProbeArguments<'a> {
-    /// The servers that are asked.
+    /// The servers that are asked, or none where the settings name the one.
     pub servers: Servers<'a>,
     /// The mail host of which it asks whether its requests are taken, or none.
     pub host: Option<&'a str>,
@@ -108,17 +123,30 @@ pub enum LoginArgument<'a> {
     Printed(&'a str),
 }
 
+/// How a day is named.
+#[derive(Clone, Copy)]
+pub enum DayArgument {
+    /// Today, by the zone of the server's settings.
+    Today,
+    /// The day that is so many days before today, 0 to 376,200.
+    Ago(u32),
+    /// The day of this number.
+    Given(u32),
+}
+
 /// What `limit` is given.
 #[derive(Drop)]
 pub struct LimitArguments<'a> {
-    /// The servers that are asked.
+    /// The servers that are asked, or none where the settings name the one.
     pub servers: Servers<'a>,
+    /// The file of the server's settings, or none.
+    pub config: Option<&'a str>,
     /// The name under which the limit is asked for, as a host.
     pub host: &'a str,
     /// The login whose limit is set.
     pub login: LoginArgument<'a>,
-    /// The day number from which on the limit governs, 0 to 376,200.
-    pub from: u32,
+    /// The day from which on the limit governs; a given number is 0 to 376,200.
+    pub from: DayArgument,
     /// Recipients a day, 0 to 1,000,000.
     pub cap: u32,
     /// The number of the run, 1 to 281,474,976,710,655, or the clock's.
@@ -128,31 +156,35 @@ pub struct LimitArguments<'a> {
 /// What `stop` is given.
 #[derive(Drop)]
 pub struct StopArguments<'a> {
-    /// The servers that are asked.
+    /// The servers that are asked, or none where the settings name the one.
     pub servers: Servers<'a>,
+    /// The file of the server's settings, or none.
+    pub config: Option<&'a str>,
     /// The name under which the limits are asked for, as a host.
     pub host: &'a str,
     /// The login that is stopped.
     pub login: LoginArgument<'a>,
-    /// The day number from which on the login has nothing more, 0 to 376,199, or that of today.
-    pub day: Option<u32>,
-    /// The file of the server's settings, by whose zone today is told.
-    pub config: Option<&'a str>,
+    /// The day from which on the login has nothing more; a given number is 0 to 376,199.
+    pub day: DayArgument,
     /// Whether it is stopped also on a day that isn't today, or where it sent nothing lately.
     pub is_forced: bool,
+    /// Whether it is stopped also from each later day on which its limit changes.
+    pub is_all: bool,
 }
 
 /// What `resume` is given.
 #[derive(Drop)]
 pub struct ResumeArguments<'a> {
-    /// The servers that are asked.
+    /// The servers that are asked, or none where the settings name the one.
     pub servers: Servers<'a>,
+    /// The file of the server's settings, or none.
+    pub config: Option<&'a str>,
     /// The name under which the limits are asked for, as a host.
     pub host: &'a str,
     /// The login that has more again.
     pub login: LoginArgument<'a>,
-    /// The day number from which on the login has more again, 0 to 376,199.
-    pub day: u32,
+    /// The day from which on the login has more again; a given number is 0 to 376,199.
+    pub day: DayArgument,
     /// How many recipients more it has on that day, and on each later day, 0 to 1,000,000, or the limit that it had.
     pub cap: Option<u32>,
 }
@@ -169,10 +201,12 @@ pub struct DayArguments<'a> {
 /// What `retire` is given.
 #[derive(Clone, Copy)]
 pub struct RetireArguments<'a> {
-    /// The server's numeric address and port.
-    pub server: &'a str,
-    /// The host whose runs are given up.
-    pub host: &'a str,
+    /// The server's numeric address and port, or none where the settings name it.
+    pub server: Option<&'a str>,
+    /// The file of the server's settings, or none.
+    pub config: Option<&'a str>,
+    /// The host whose runs are given up, or that of the filter's settings.
+    pub host: Option<&'a str>,
     /// The number of the run below which they are given up, 1 to 281,474,976,710,655, or the clock's.
     pub run: Option<u64>,
 }
@@ -180,12 +214,16 @@ pub struct RetireArguments<'a> {
 /// What `report` is given.
 #[derive(Drop)]
 pub struct ReportArguments<'a> {
-    /// The servers that are asked.
+    /// The servers that are asked, or none where the settings name the one.
     pub servers: Servers<'a>,
-    /// The day number that is reported, 0 to 376,200.
-    pub day: u32,
+    /// The file of the server's settings, or none.
+    pub config: Option<&'a str>,
+    /// The day that is reported; a given number is 0 to 376,200.
+    pub day: DayArgument,
     /// The one login that is reported, or all.
     pub login: Option<LoginArgument<'a>>,
+    /// How many logins are reported, those that used most, 1 to 1,000,000, or all.
+    pub top: Option<u32>,
 }
 
 /// What the words ask for.

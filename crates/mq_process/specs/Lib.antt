@@ -6,3 +6,4 @@ pub mod Refusals
 pub mod Servers
 pub mod Settings
 pub mod Today
+pub mod Whom

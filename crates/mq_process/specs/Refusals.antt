@@ -1,5 +1,5 @@
 -- How a subcommand that asks a server ends where a word of it is at fault.
-use Rattle.std.specs.Prelude.{◌≡◌, ◌⊎◌, ℕ, List, [], ◌∷◌, Option, None, Some, IfSome, IsSomeAnd}
+use Rattle.std.specs.Prelude.{◌≡◌, ◌⊎◌, ℕ, List, [], ◌∷◌, IfSome}
 use Rattle.std.specs.Net.Grammar.{IsSocketText}
 use Rattle.std.specs.declared.net.SocketAddr.{SocketAddr}
 use Rattle.mq_request.specs.Range.{IsHost, IsLogin}
@@ -31,11 +31,6 @@ abbrev pub NamesLogin : LoginArgument → Type 0
 NamesLogin (Reported text) = IsLogin text.now
 NamesLogin (Printed text) = IsLoginText text.now
 
--- the one login that the words name, or all where they name none
-abbrev pub NamesOneOrAll : Option LoginArgument → Option (List ℕ) → Type 0
-NamesOneOrAll None found = found ≡ None
-NamesOneOrAll (Some given) found = IsSomeAnd found (Names given)
-
 -- how an order about a login ends where a word of it is at fault: the host goes first, then the login, then the addresses
 pub record OrderRefuses (host : List ℕ) (login : LoginArgument) (servers : List (List ℕ)) (EndsBy : ProcessFault → Type 0)
     : Type 0 where
@@ -50,8 +45,8 @@ pub record ProbeRefuses (given : ProbeArguments) (EndsBy : ProcessFault → Type
 
 -- how `retire` ends where a word of it is at fault: the host goes before the address
 pub record RetireRefuses (given : RetireArguments) (EndsBy : ProcessFault → Type 0) : Type 0 where
-  pub host : ¬ IsHost given.host.now → EndsBy Host
-  pub address : IsHost given.host.now → IsNoAddress given.server.now → EndsBy Address
+  pub host : IfSome given.host (λ host. ¬ IsHost host.now → EndsBy Host)
+  pub address : IfSome given.host (λ host. IsHost host.now) → IfSome given.server (λ server. IsNoAddress server.now → EndsBy Address)
 
 -- how `report` ends where a word of it is at fault: the login goes before the addresses
 pub record ReportRefuses (given : ReportArguments) (EndsBy : ProcessFault → Type 0) : Type 0 where

@@ -14,6 +14,15 @@ pub enum ProcessFault {
     Login,
     #[error("bad address")]
     Address,
+    /// The words name no server, and no settings are where they belong.
+    #[error("no server is named; use --server, or copy the server's settings to /etc/mailquota/server.toml or the filter's to /etc/mailquota/filter.toml")]
+    NoServer,
+    /// The words name no day, and no settings of a server are where they belong, which have the zone of today.
+    #[error("no day is named; use --day or --from, or copy the server's settings to /etc/mailquota/server.toml")]
+    NoDay,
+    /// The words name no host, and no settings of a filter are where they belong.
+    #[error("no host is named; use --host, or copy the filter's settings to /etc/mailquota/filter.toml")]
+    NoHost,
     #[error("out of memory")]
     Memory,
     #[error("{0}")]
@@ -42,6 +51,9 @@ impl ProcessFault {
             ProcessFault::Host
             | ProcessFault::Login
             | ProcessFault::Address
+            | ProcessFault::NoServer
+            | ProcessFault::NoDay
+            | ProcessFault::NoHost
             | ProcessFault::NotToday(_, _) => 2,
             _ => 1,
         }

@@ -3,11 +3,11 @@
 //!
 //! Each fault of these is a [`ProcessFault`], which has its exit status. From `mq_remote/src/subcommands/limit.rt`:
 //!
-//!     let servers = given.servers.as_slice();
-//!     checked(rt, given.host, given.login, servers)?;
+//!     let words = given.servers.as_slice();
+//!     checked(rt, given.host, given.login, words)?;
 //!
 //! It stands on `mq_arguments`, `mq_request`, `mq_ledger`, `mq_settings`, `mq_link`, `mq_tcp` and `mq_command`. Begin with `settings.rt` and
-//! `asking.rt`; `specs/Refusals.antt` says which words are refused, and in which order.
+//! `asking.rt`; `specs/Refusals.antt` says which words are refused, and in which order, and `specs/Whom.antt` whom a command asks.
 #![tactic(auto)]
 
 mod asking;
@@ -20,6 +20,7 @@ mod refusing;
 mod servers;
 mod settings;
 mod today;
+mod whom;
 
 pub use asking::{
     TIMEOUT, address_of, checked, first_id, link_to, login_of, names_login, tell_note,
@@ -32,4 +33,5 @@ pub use probing::{Question, ask_once, probe};
 pub use refusing::{end_process, refuse};
 pub use servers::{ask_each, ask_until, check_addresses};
 pub use settings::{filter_settings, server_settings};
-pub use today::day_to_stop;
+pub use today::{day_named, day_to_stop};
+pub use whom::{address_found, filter_settings_in_place, found_server, servers_or};

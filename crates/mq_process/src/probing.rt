@@ -1,31 +1,21 @@
 //! Whether a quota server answers, and whether it takes a host's requests.
-ghost use Rattle.mq_process.specs.Questions.{IsQuestion};
+ghost use Rattle.std.specs.Prelude.{◌≡◌, ℕ, List, Option, IfErr, IfOk};
+ghost use Rattle.std.specs.Net.Text.{socket_text};
+ghost use Rattle.mq_process.specs.Links.{AsksOver};
+ghost use Rattle.mq_process.specs.Questions.{IsQuestion, Puts};
 
 use crate::asking::TIMEOUT;
+use crate::dialing::Dial;
 use crate::fault::ProcessFault;
 use log::sink::Console;
 use log::{LevelFilter, Logged};
 use mq_command::{run_check, run_host_probe, run_probe};
+use mq_link::Link;
 use mq_request::Host;
-use mq_tcp::{LoggedLink, TcpLink};
+use mq_tcp::LoggedLink;
 use std::io;
 use std::io::Write;
-use std::net::{Net, SocketAddr};
-use std::rt::Clock;
-use std::time::Duration;
-
-/// Asks the server at this address once, and prints what it answers. The status is 1 where it doesn't answer, or doesn't take
-/// the requests of the host that is asked about.
-pub fn probe<R: Clock + Net + Print + Eprint + AllocGlobal, E: Write>(
-    rt: &R,
-    address: SocketAddr,
-    question: Question<'_>,
-    errors: &mut E,
-) -> Result<u8, ProcessFault>
-    requires { IsQuestion question }
-{
-    ask_once(rt, address, TIMEOUT, question, errors)
-}
+use std::net::SocketAddr;
 
 /// What is asked for. A time is the clock's, in milliseconds since 1970, 1 to 281,474,976,710,655.
 #[derive(Clone, Copy)]
@@ -38,42 +28,65 @@ pub enum Question<'a> {
     Check(&'a Host, u64),
 }
 
-/// Asks the server at this address once, with so many milliseconds to connect, to write and to read, and prints what it
-/// answers. Why it doesn't is logged.
-pub fn ask_once<R: Clock + Net + Print + Eprint + AllocGlobal, E: Write>(
+/// Asks the server at this address once, and prints what it answers. The status is 1 where it doesn't answer, or doesn't take
+/// the requests of the host that is asked about. It fails with `Memory` before it asks.
+pub fn probe<R: Print + Eprint + AllocGlobal, D: Dial, E: Write>(
     rt: &R,
+    dial: &D,
+    address: SocketAddr,
+    question: Question<'_>,
+    errors: &mut E,
+) -> Result<u8, ProcessFault>
+    requires { IsQuestion question }
+    ensures asks { IfOk result (λ status. AsksOver D.leads D.Link.told address TIMEOUT
+        (Puts (socket_text address) question.entry status)) }
+    ensures memory { IfErr result (λ fault. fault ≡ ProcessFault.Memory) }
+{
+    ask_once(rt, dial, address, TIMEOUT, question, errors)
+}
+
+/// Asks the server at this address once, with so many milliseconds to connect, to write and to read, and prints what it
+/// answers. Why it doesn't is logged. It fails with `Memory` before it asks.
+pub fn ask_once<R: Print + Eprint + AllocGlobal, D: Dial, E: Write>(
+    rt: &R,
+    dial: &D,
     address: SocketAddr,
     timeout: u64,
     question: Question<'_>,
     errors: &mut E,
 ) -> Result<u8, ProcessFault>
     requires { IsQuestion question }
+    ensures asks { IfOk result (λ status. AsksOver D.leads D.Link.told address timeout
+        (Puts (socket_text address) question.entry status)) }
+    ensures memory { IfErr result (λ fault. fault ≡ ProcessFault.Memory) }
 {
     let server = address.to_string(rt.alloc())?;
     let logged = Logged::new(rt, LevelFilter::Error, Console(rt));
-    let link = TcpLink::new(rt, address, Duration::from_millis(timeout));
-    let mut link = LoggedLink::new(link, &logged, 1);
+    let mut link = LoggedLink::new(dial.link(address, timeout), &logged, 1);
+    Ok(put(rt, &mut link, server.as_str(), question, errors))
+}
+
+/// Puts a question once over a link, and prints what comes of it. `server` is how the server is named there.
+fn put<R: Print + AllocGlobal, K: Link, E: Write>(
+    rt: &R,
+    link: &mut K,
+    server: &str,
+    question: Question<'_>,
+    errors: &mut E,
+) -> u8
+    requires { IsQuestion question }
+    ensures { (before after : Option (List ℕ))
+        × Puts server.now question.entry result (K.told link.old) (K.told link.new) before after }
+{
+    let alloc = rt.alloc();
     let mut output = io::writer(rt);
-    let name = server.as_str();
-    Ok(match question {
-        Question::Status => run_probe(rt.alloc(), &mut link, name, &mut output, errors),
-        Question::Host(host, now) => run_host_probe(
-            rt.alloc(),
-            &mut link,
-            name,
-            host,
-            now,
-            &mut output,
-            errors,
-        ),
-        Question::Check(host, now) => run_check(
-            rt.alloc(),
-            &mut link,
-            name,
-            host,
-            now,
-            &mut output,
-            errors,
-        ),
-    })
+    match question {
+        Question::Status => run_probe(alloc, link, server, &mut output, errors),
+        Question::Host(host, now) => {
+            run_host_probe(alloc, link, server, host, now, &mut output, errors)
+        }
+        Question::Check(host, now) => {
+            run_check(alloc, link, server, host, now, &mut output, errors)
+        }
+    }
 }

@@ -1,5 +1,5 @@
 //! The settings of the filter and of the server, read from their files.
-ghost use Rattle.std.specs.Prelude.{◌≡◌, IfErr, IfOk};
+ghost use Rattle.std.specs.Prelude.{◌≡◌, IfErr, IfOk, IfSome, Err, Ok};
 ghost use Rattle.mq_settings.specs.Files.{IsText};
 ghost use Rattle.mq_process.specs.Settings.{AreInRange, CanAsk, IsFileFault, ReadsFilter, ReadsServer, RefusesFilter};
 ghost use Rattle.mq_process.specs.Settings.{RefusesServer, SpellsFilter, SpellsServer};
@@ -11,6 +11,7 @@ use mq_settings::{
     FileFault, FilterSettings, ServerSettings, SettingsFault, read_file, read_filter_settings,
     read_server_settings,
 };
+use std::io::ErrorKind;
 use std::rt::Files;
 
 /// Logs why a file of settings can't be used, and gives it back. No level is set before the file is read.
@@ -41,6 +42,33 @@ fn text_of<R: Files + Eprint + AllocGlobal>(rt: &R, file: &str) -> Result<Vec<u8
     match read_file(rt, file) {
         Ok(text) => Ok(text),
         Err(fault) => Err(logged_of(rt, file, ProcessFault::File(fault))),
+    }
+}
+
+/// All that a file of settings gives, or nothing where there is no such file. Why another one can't be read is logged.
+fn text_if_there<R: Files + Eprint + AllocGlobal>(
+    rt: &R,
+    file: &str,
+) -> Result<Option<Vec<u8>>, ProcessFault>
+    ensures text { IfOk result (λ found. IfSome found (λ text. (opened : R.File) × IsText (R.File.remaining opened) text.items)) }
+    ensures fault { IfErr result IsFileFault }
+{
+    match read_file(rt, file) {
+        Ok(text) => Ok(Some(text)),
+        Err(fault) => {
+            if is_missing(&fault) {
+                return Ok(None);
+            }
+            Err(logged_of(rt, file, ProcessFault::File(fault)))
+        }
+    }
+}
+
+/// Whether there is no such file.
+fn is_missing(fault: &FileFault) -> bool {
+    match fault {
+        FileFault::Unreadable(cause) => matches!(cause.kind(), ErrorKind::NotFound),
+        _ => false,
     }
 }
 
@@ -100,6 +128,43 @@ pub fn server_settings<R: Files + Eprint + AllocGlobal>(
 {
     match text_of(rt, file) {
         Ok(text) => server_settings_of(rt, file, text.as_slice()),
+        Err(fault) => Err(fault),
+    }
+}
+
+/// The server's settings in a file, if there is such a file. Why they can't be used is logged.
+pub fn server_settings_if_there<R: Files + Eprint + AllocGlobal>(
+    rt: &R,
+    file: &str,
+) -> Result<Option<ServerSettings>, ProcessFault>
+    ensures reads { IfOk result (λ found. IfSome found (λ settings. ReadsServer R.File.remaining (Ok settings))) }
+    ensures fault { IfErr result (λ fault. ReadsServer R.File.remaining (Err fault)) }
+{
+    match text_if_there(rt, file) {
+        Ok(None) => Ok(None),
+        Ok(Some(text)) => match server_settings_of(rt, file, text.as_slice()) {
+            Ok(settings) => Ok(Some(settings)),
+            Err(fault) => Err(fault),
+        },
+        Err(fault) => Err(fault),
+    }
+}
+
+/// The filter's settings in a file, if there is such a file. Why they can't be used is logged.
+pub fn filter_settings_if_there<R: Files + Eprint + AllocGlobal>(
+    rt: &R,
+    file: &str,
+) -> Result<Option<FilterSettings>, ProcessFault>
+    ensures reads { IfOk result (λ found. IfSome found (λ settings. ReadsFilter R.File.remaining (Ok settings))) }
+    ensures in_range { IfOk result (λ found. IfSome found CanAsk) }
+    ensures fault { IfErr result (λ fault. ReadsFilter R.File.remaining (Err fault)) }
+{
+    match text_if_there(rt, file) {
+        Ok(None) => Ok(None),
+        Ok(Some(text)) => match filter_settings_of(rt, file, text.as_slice()) {
+            Ok(settings) => Ok(Some(settings)),
+            Err(fault) => Err(fault),
+        },
         Err(fault) => Err(fault),
     }
 }

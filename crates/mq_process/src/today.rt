@@ -1,11 +1,16 @@
-//! The day from which a login is stopped, which is today unless it is forced.
-ghost use Rattle.std.specs.Prelude.{◌≡◌, ◌/◌, ◌+◌, ◌≤◌, IfOk, IfSome, MatchResult, option_map};
+//! The day that words name, and the one from which a login is stopped, which is today unless it is forced.
+ghost use Rattle.std.specs.Prelude.{◌≡◌, ◌/◌, ◌+◌, ◌≤◌, ℕ, IfErr, IfOk, MatchResult, option_map};
 ghost use Rattle.mq_request.specs.Range.{IsMoment, IsWithin};
-ghost use Rattle.mq_process.specs.Today.{ChoosesBy, ChoosesDay, ChoosesNow, StopsFrom, today_of, is_today};
+ghost use Rattle.mq_arguments.specs.Arguments.{IsDayUpTo};
+ghost use Rattle.mq_ledger.specs.Day.{day_of};
+ghost use Rattle.mq_process.specs.Today.{ChoosesBy, ChoosesDay, ChoosesNow, IsDaysAgo, IsNoDay, NamesDay, RefusesAgo, StopsFrom};
+ghost use Rattle.mq_process.specs.Today.{is_today, today_of};
 
 use crate::fault::ProcessFault;
 use crate::moment::moment_or_now;
 use crate::settings::server_settings;
+use crate::whom::named_settings;
+use mq_arguments::DayArgument;
 use mq_ledger::Zone;
 use mq_request::bounds::LAST_DAY;
 use std::rt::{Clock, Files};
@@ -36,85 +41,147 @@ fn is_today(zone: Option<&Zone>, moment: u64, day: u32) -> bool
     }
 }
 
-/// The day that is given, where it can be today, or else today, where a day follows it.
-fn chosen_day(zone: Option<&Zone>, moment: u64, given: Option<u32>) -> Result<u32, ProcessFault>
-    requires moment { IsMoment moment }
-    requires given { IfSome given (IsWithin 0 376199) }
-    ensures chooses { ChoosesDay (option_map (λ z. z.now) zone.entry) moment given result }
-    ensures in_range { IfOk result (IsWithin 0 376199) }
-{
-    let today = today_of(zone, moment);
-    match given {
-        Some(day) => {
-            if is_today(zone, moment, day) {
-                Ok(day)
-            } else {
-                Err(ProcessFault::NotToday(day, today))
-            }
-        }
-        None => {
-            if today < LAST_DAY {
-                Ok(today)
-            } else {
-                Err(ProcessFault::NoMoment)
-            }
-        }
-    }
-}
-
-/// The day that is given, where it can be today by the clock, or else today.
-fn day_by_clock(
-    rt: &impl Clock,
-    zone: Option<&Zone>,
-    given: Option<u32>,
-) -> Result<u32, ProcessFault>
-    requires { IfSome given (IsWithin 0 376199) }
-    ensures chooses { ChoosesNow (option_map (λ z. z.now) zone.entry) given result }
-    ensures in_range { IfOk result (IsWithin 0 376199) }
+/// The day so many days before today, in this zone, by the clock: at most this last one.
+fn day_before(rt: &impl Clock, zone: &Zone, ago: u32, last: u32) -> Result<u32, ProcessFault>
+    ensures day { MatchResult result
+        (λ day. (moment : ℕ) × IsMoment moment × (day + ago ≡ day_of zone.now moment))
+        (λ fault. fault ≡ ProcessFault.NoMoment) }
+    ensures in_range { IfOk result (IsWithin 0 last) }
 {
     match moment_or_now(rt, None) {
-        Ok(moment) => chosen_day(zone, moment, given),
+        Ok(moment) => {
+            let today = zone.day_at(moment);
+            if today < ago || last < today - ago {
+                return Err(ProcessFault::NoMoment);
+            }
+            Ok(today - ago)
+        }
         Err(fault) => Err(fault),
     }
 }
 
-/// The day that is given, where it can be today by the zone of the settings in a file, or in some zone where none is named,
-/// or else today.
+/// The day so many days before today, in the zone of the server's settings: at most this last one.
+fn days_ago<R: Files + Clock + Eprint + AllocGlobal>(
+    rt: &R,
+    config: Option<&str>,
+    ago: u32,
+    last: u32,
+) -> Result<u32, ProcessFault>
+    ensures day { MatchResult result (IsDaysAgo R.File.remaining ago) (IsNoDay R.File.remaining) }
+    ensures in_range { IfOk result (IsWithin 0 last) }
+{
+    match named_settings(rt, config) {
+        Ok(Some(settings)) => day_before(rt, &settings.zone, ago, last),
+        Ok(None) => Err(ProcessFault::NoDay),
+        Err(fault) => Err(fault),
+    }
+}
+
+/// The day that words name, by its number, or by today in the zone of the server's settings: of those in the file that the words
+/// name, or else in their place.
+///
+/// It fails with `NoDay` where it is named by today and no settings are there, and with `NoMoment` where the clock can't be read, or
+/// the day would be before day 0 or after the last one. `last` is the greatest number that may be given.
+pub fn day_named<R: Files + Clock + Eprint + AllocGlobal>(
+    rt: &R,
+    given: DayArgument,
+    config: Option<&str>,
+    last: u32,
+) -> Result<u32, ProcessFault>
+    requires { IsDayUpTo last given }
+    ensures day { MatchResult result (NamesDay R.File.remaining given) (IsNoDay R.File.remaining) }
+    ensures in_range { IfOk result (IsWithin 0 last) }
+{
+    match given {
+        DayArgument::Today => days_ago(rt, config, 0, last),
+        DayArgument::Ago(ago) => days_ago(rt, config, ago, last),
+        DayArgument::Given(number) => Ok(number),
+    }
+}
+
+/// The day that is given, where it can be today.
+fn chosen_day(zone: Option<&Zone>, moment: u64, day: u32) -> Result<u32, ProcessFault>
+    requires { IsMoment moment }
+    ensures { ChoosesDay (option_map (λ z. z.now) zone.entry) moment day result }
+{
+    let today = today_of(zone, moment);
+    if is_today(zone, moment, day) {
+        Ok(day)
+    } else {
+        Err(ProcessFault::NotToday(day, today))
+    }
+}
+
+/// The day that is given, where it can be today by the clock.
+fn day_by_clock(rt: &impl Clock, zone: Option<&Zone>, day: u32) -> Result<u32, ProcessFault>
+    ensures { ChoosesNow (option_map (λ z. z.now) zone.entry) day result }
+{
+    match moment_or_now(rt, None) {
+        Ok(moment) => chosen_day(zone, moment, day),
+        Err(fault) => Err(fault),
+    }
+}
+
+/// The day that is given, where it can be today by the zone of the settings in a file, or in some zone where none is named.
 fn day_by_settings<R: Files + Clock + Eprint + AllocGlobal>(
     rt: &R,
-    given: Option<u32>,
+    day: u32,
     config: Option<&str>,
 ) -> Result<u32, ProcessFault>
-    requires { IfSome given (IsWithin 0 376199) }
-    ensures chooses { ChoosesBy R.File.remaining config.entry given result }
-    ensures in_range { IfOk result (IsWithin 0 376199) }
+    ensures { ChoosesBy R.File.remaining config.entry day result }
 {
     match config {
-        None => day_by_clock(rt, None, given),
+        None => day_by_clock(rt, None, day),
         Some(file) => match server_settings(rt, file) {
-            Ok(settings) => day_by_clock(rt, Some(&settings.zone), given),
+            Ok(settings) => day_by_clock(rt, Some(&settings.zone), day),
             Err(fault) => Err(fault),
         },
     }
 }
 
-/// The day from which a login is stopped: the one that is given, where it is today by the zone of the settings in a file and
-/// by the clock, or it is forced; or today, where none is given. Where no file is named the day has to be today in some zone.
+/// Refuses a day that lies so many days before today, unless it is today.
+fn day_not_ago<R: Files + Clock + Eprint + AllocGlobal>(
+    rt: &R,
+    ago: u32,
+    config: Option<&str>,
+) -> Result<u32, ProcessFault>
+    requires { IsWithin 0 376200 ago }
+    ensures chooses { RefusesAgo R.File.remaining ago result }
+    ensures in_range { IfOk result (IsWithin 0 376199) }
+{
+    match days_ago(rt, config, ago, LAST_DAY - 1) {
+        Ok(day) => {
+            if ago == 0 {
+                Ok(day)
+            } else {
+                Err(ProcessFault::NotToday(day, day + ago))
+            }
+        }
+        Err(fault) => Err(fault),
+    }
+}
+
+/// The day from which a login is stopped: that of the words, where it is forced, or is today by the clock and the zone of the
+/// server's settings. A day that is given by its number, where the words name no settings, has to be today in some zone.
 ///
-/// It fails with `NotToday` for another day, with `NoMoment` where the clock can't be read or shows the last day, and where
-/// the settings can't be used.
+/// It fails with `NotToday` for another day, with `NoDay` and `NoMoment` as [`day_named`] does, and where the settings can't be
+/// used.
 pub fn day_to_stop<R: Files + Clock + Eprint + AllocGlobal>(
     rt: &R,
-    given: Option<u32>,
+    given: DayArgument,
     config: Option<&str>,
     is_forced: bool,
 ) -> Result<u32, ProcessFault>
-    requires { IfSome given (IsWithin 0 376199) }
+    requires { IsDayUpTo 376199 given }
     ensures stops { StopsFrom R.File.remaining config.entry is_forced given result }
     ensures in_range { IfOk result (IsWithin 0 376199) }
 {
-    if is_forced && let Some(day) = given {
-        return Ok(day);
+    if is_forced {
+        return day_named(rt, given, config, LAST_DAY - 1);
     }
-    day_by_settings(rt, given, config)
+    match given {
+        DayArgument::Today => days_ago(rt, config, 0, LAST_DAY - 1),
+        DayArgument::Ago(ago) => day_not_ago(rt, ago, config),
+        DayArgument::Given(day) => day_by_settings(rt, day, config),
+    }
 }

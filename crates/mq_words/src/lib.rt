@@ -3,14 +3,15 @@
 //! [`read_arguments`] gives the arguments that the words ask for, or the help or usage fault that [`print_fault`] prints. From
 //! `mailquota/src/program.rt`:
 //!
-//!     match read_arguments(rt.alloc(), words) {
+//!     match read_arguments(rt.alloc(), words, VERSION) {
 //!         Ok(given) => run_subcommand(rt, given, start, new, errors),
 //!
 //! It stands on `mq_arguments` and `mq_request`, and is the one crate that gives options to `clap`; it doesn't know
-//! what a subcommand does. Begin with `subcommands.rt`, the options as a table, and `words.rt`; `mailquota(8)` has them
-//! in words.
+//! what a subcommand does. Begin with `subcommands.rt`, the options as a table, and `meaning.rt`, what they ask for;
+//! `mailquota(8)` has them in words.
 #![tactic(auto)]
 
+mod meaning;
 mod printing;
 mod subcommands;
 mod words;

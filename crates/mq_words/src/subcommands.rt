@@ -1,9 +1,7 @@
 //! The subcommands and their options.
 
+use mq_arguments::{FILTER_SETTINGS, SERVER_SETTINGS};
 use mq_request::bounds::{AMOUNT_LIMIT, FIRST_MOMENT, LAST_DAY, LAST_MOMENT, LAST_RUN};
-
-/// The version that `--version` prints.
-pub const VERSION: &str = "0.1.0";
 
 /// The numbers from the least to the most.
 #[derive(Clone, Copy)]
@@ -38,6 +36,12 @@ pub const CROWDS: Range<u32> = Range {
     most: 1_000_000,
 };
 
+/// Logins of a report.
+pub const TOPS: Range<u32> = Range {
+    least: 1,
+    most: 1_000_000,
+};
+
 /// Minutes between the begin of a day and UTC's.
 pub const MINUTES: Range<u32> = Range {
     least: 0,
@@ -67,20 +71,20 @@ pub enum Takes {
     LongNumber(Range<u64>),
 }
 
-/// Whether an option has to be given.
+/// Which other options an option goes with.
 #[derive(Clone, Copy)]
 pub enum Need {
     Optional,
     Required,
-    /// It has to be given where the option of this name isn't.
-    Unless(&'static str),
     /// It is one of the options of this group, of which at most one is given.
     OneOf(&'static str),
-    /// It may not be given where the option of this name is.
+    /// It may not be given where the option or group of this name is.
     Without(&'static str),
+    /// It may be given only where the option of this name is.
+    With(&'static str),
 }
 
-/// An option of a subcommand.
+/// An option of a subcommand, or one of the words that stand without a name.
 #[derive(Clone, Copy)]
 pub struct CommandOption {
     pub name: &'static str,
@@ -98,9 +102,13 @@ pub struct CommandOption {
 pub struct Subcommand {
     pub name: &'static str,
     pub about: &'static str,
+    /// How help shows its words, where that isn't made of its options.
+    pub usage: Option<&'static str>,
+    /// The words without a name, in order.
+    pub words: &'static [CommandOption],
     pub options: &'static [CommandOption],
-    /// The group of options of which one has to be given, where there is such a group.
-    pub one_of: Option<&'static str>,
+    /// The groups of options of each of which one has to be given.
+    pub groups: &'static [&'static str],
 }
 
 /// The group of options that name the server that is asked.
@@ -109,19 +117,52 @@ const ASKED: &str = "asked server";
 /// The group of options that name a login.
 const NAMED: &str = "named login";
 
+/// The group of options that name a day.
+const DATED: &str = "named day";
+
+/// The group of options that say what a login may have.
+const CAPPED: &str = "given limit";
+
 const CONFIG: CommandOption = CommandOption {
     name: "config",
     value: "FILE",
     help: "Settings",
     takes: Takes::Text,
-    need: Need::Required,
+    need: Need::Optional,
+    default: Some(SERVER_SETTINGS),
+};
+
+const FILTER_CONFIG: CommandOption = CommandOption {
+    name: "config",
+    value: "FILE",
+    help: "Settings",
+    takes: Takes::Text,
+    need: Need::Optional,
+    default: Some(FILTER_SETTINGS),
+};
+
+const ASKED_CONFIG: CommandOption = CommandOption {
+    name: "config",
+    value: "FILE",
+    help: "Settings of the server: its address and its days",
+    takes: Takes::Text,
+    need: Need::Optional,
+    default: None,
+};
+
+const RETIRED_CONFIG: CommandOption = CommandOption {
+    name: "config",
+    value: "FILE",
+    help: "Settings of the server, where --host is given",
+    takes: Takes::Text,
+    need: Need::With("host"),
     default: None,
 };
 
 const CHECK: CommandOption = CommandOption {
     name: "check",
     value: "",
-    help: "Check the settings, ask whether the server takes this host's requests, and end",
+    help: "Check the settings, ask the server, and end",
     takes: Takes::Nothing,
     need: Need::Optional,
     default: None,
@@ -130,7 +171,7 @@ const CHECK: CommandOption = CommandOption {
 const ANY_SERVER: CommandOption = CommandOption {
     name: "server",
     value: "ADDRESS",
-    help: "Numeric address and port of the quota server; each is asked where it is given more than once",
+    help: "Numeric address and port of a server; may be repeated",
     takes: Takes::Texts,
     need: Need::OneOf(ASKED),
     default: None,
@@ -139,7 +180,7 @@ const ANY_SERVER: CommandOption = CommandOption {
 const ITS_SETTINGS: CommandOption = CommandOption {
     name: "config",
     value: "FILE",
-    help: "Settings of the quota server: its address is asked, and its ledger's file is read if it doesn't answer",
+    help: "Settings of the server: read its file if it's silent",
     takes: Takes::Text,
     need: Need::OneOf(ASKED),
     default: None,
@@ -148,7 +189,7 @@ const ITS_SETTINGS: CommandOption = CommandOption {
 const PROBED_HOST: CommandOption = CommandOption {
     name: "host",
     value: "HOST",
-    help: "Mail host: also ask whether the requests of its filter would be taken, if it started now",
+    help: "Also ask whether this mail host's requests are taken",
     takes: Takes::Text,
     need: Need::Without("config"),
     default: None,
@@ -172,10 +213,19 @@ const CONNECTIONS: CommandOption = CommandOption {
     default: Some("1000000"),
 };
 
+const ENDLESS: CommandOption = CommandOption {
+    name: "endless",
+    value: "",
+    help: "Serve any number of connections",
+    takes: Takes::Nothing,
+    need: Need::Without("connections"),
+    default: None,
+};
+
 const RUN: CommandOption = CommandOption {
     name: "run",
     value: "N",
-    help: "Number of the run; the clock's milliseconds where it isn't given",
+    help: "Number of the run; else the clock's milliseconds",
     takes: Takes::LongNumber(RUNS),
     need: Need::Optional,
     default: None,
@@ -184,52 +234,61 @@ const RUN: CommandOption = CommandOption {
 const SERVER: CommandOption = CommandOption {
     name: "server",
     value: "ADDRESS",
-    help: "Numeric address and port of the quota server",
+    help: "Numeric address and port of the server",
     takes: Takes::Text,
-    need: Need::Required,
+    need: Need::Optional,
     default: None,
 };
 
 const SERVERS: CommandOption = CommandOption {
     name: "server",
     value: "ADDRESS",
-    help: "Numeric address and port of the quota server; each is asked where it is given more than once",
+    help: "Numeric address and port of a server; repeatable",
     takes: Takes::Texts,
-    need: Need::Required,
+    need: Need::Optional,
     default: None,
 };
 
 const HOST: CommandOption = CommandOption {
     name: "host",
     value: "HOST",
-    help: "Name under which this command asks, such as admin",
+    help: "Name under which it asks",
     takes: Takes::Text,
-    need: Need::Required,
-    default: None,
+    need: Need::Optional,
+    default: Some("admin"),
 };
 
 const RETIRED_HOST: CommandOption = CommandOption {
     name: "host",
     value: "HOST",
-    help: "Mail host whose earlier filters are retired",
+    help: "Mail host; else that of /etc/mailquota/filter.toml",
     takes: Takes::Text,
-    need: Need::Required,
+    need: Need::Optional,
     default: None,
 };
 
 const RETIRED_RUN: CommandOption = CommandOption {
     name: "run",
     value: "N",
-    help: "Retire filters whose run is below this number, which no filter has; by default the clock's milliseconds",
+    help: "Retire runs below this; else below the clock's time",
     takes: Takes::LongNumber(RUNS),
     need: Need::Optional,
+    default: None,
+};
+
+const LOGIN_WORD: CommandOption = CommandOption {
+    name: "LOGIN",
+    value: "LOGIN",
+    help: "Login, as a report prints it",
+    takes: Takes::Text,
+    need: Need::OneOf(NAMED),
     default: None,
 };
 
 const LOGIN: CommandOption = CommandOption {
     name: "login",
     value: "LOGIN",
-    help: "Login, as smtpd reports it",
+    help: "Login as smtpd reports it, in place of LOGIN",
     takes: Takes::Text,
     need: Need::OneOf(NAMED),
     default: None,
@@ -238,7 +297,7 @@ const LOGIN: CommandOption = CommandOption {
 const LOGIN_TEXT: CommandOption = CommandOption {
     name: "login-text",
     value: "TEXT",
-    help: "Login, as a report prints it",
+    help: "Login as a report prints it, in place of LOGIN",
     takes: Takes::Text,
     need: Need::OneOf(NAMED),
     default: None,
@@ -247,90 +306,99 @@ const LOGIN_TEXT: CommandOption = CommandOption {
 const FROM: CommandOption = CommandOption {
     name: "from",
     value: "DAY",
-    help: "Day number from which on the limit governs",
+    help: "Number of the limit's first day; else today",
     takes: Takes::Number(DAYS),
-    need: Need::Required,
+    need: Need::OneOf(DATED),
+    default: None,
+};
+
+const AGO: CommandOption = CommandOption {
+    name: "ago",
+    value: "N",
+    help: "That many days before today",
+    takes: Takes::Number(DAYS),
+    need: Need::OneOf(DATED),
+    default: None,
+};
+
+const CAP_WORD: CommandOption = CommandOption {
+    name: "CAP",
+    value: "CAP",
+    help: "Recipients a day",
+    takes: Takes::Number(AMOUNTS),
+    need: Need::OneOf(CAPPED),
     default: None,
 };
 
 const CAP: CommandOption = CommandOption {
     name: "cap",
     value: "N",
-    help: "Recipients a day",
+    help: "Recipients a day, in place of CAP",
     takes: Takes::Number(AMOUNTS),
-    need: Need::Required,
+    need: Need::OneOf(CAPPED),
     default: None,
 };
 
 const DAY: CommandOption = CommandOption {
     name: "day",
     value: "DAY",
-    help: "Day number, counted from 1970-01-01",
+    help: "Day number, from 1970-01-01 on; else today",
     takes: Takes::Number(DAYS),
-    need: Need::Required,
+    need: Need::OneOf(DATED),
     default: None,
 };
 
-const STOP_DAY: CommandOption = CommandOption {
+const EARLIER_DAY: CommandOption = CommandOption {
     name: "day",
     value: "DAY",
-    help: "Day number of today; by --config where it isn't given",
+    help: "Day number, from 1970-01-01 on; else today",
     takes: Takes::Number(EARLIER_DAYS),
-    need: Need::Unless("config"),
-    default: None,
-};
-
-const ZONE_SETTINGS: CommandOption = CommandOption {
-    name: "config",
-    value: "FILE",
-    help: "Settings of the quota server, whose offset or rule says which day is today",
-    takes: Takes::Text,
-    need: Need::Optional,
+    need: Need::OneOf(DATED),
     default: None,
 };
 
 const FORCE: CommandOption = CommandOption {
     name: "force",
     value: "",
-    help: "Stop it also if the day isn't today, or if it has sent nothing lately",
+    help: "Also on another day, or if it sent nothing lately",
     takes: Takes::Nothing,
     need: Need::Optional,
     default: None,
 };
 
-const RESUME_DAY: CommandOption = CommandOption {
-    name: "day",
-    value: "DAY",
-    help: "Day number of today",
-    takes: Takes::Number(EARLIER_DAYS),
-    need: Need::Required,
+const ALL: CommandOption = CommandOption {
+    name: "all",
+    value: "",
+    help: "Also from each later day with a limit of its own",
+    takes: Takes::Nothing,
+    need: Need::Optional,
     default: None,
 };
 
 const MORE: CommandOption = CommandOption {
     name: "cap",
     value: "N",
-    help: "Recipients that it may have more today, and on each later day; the limit that it had where it isn't given",
+    help: "Recipients more, each day; else the limit it had",
     takes: Takes::Number(AMOUNTS),
     need: Need::Optional,
+    default: None,
+};
+
+const TOP: CommandOption = CommandOption {
+    name: "top",
+    value: "N",
+    help: "The N logins that used most, most first",
+    takes: Takes::Number(TOPS),
+    need: Need::Without(NAMED),
     default: None,
 };
 
 const AT: CommandOption = CommandOption {
     name: "at",
     value: "SECONDS",
-    help: "Second since 1970-01-01 UTC; now where it isn't given",
+    help: "Second since 1970-01-01 UTC; else now",
     takes: Takes::LongNumber(MOMENTS),
     need: Need::Optional,
-    default: None,
-};
-
-const ONE_LOGIN: CommandOption = CommandOption {
-    name: "login",
-    value: "LOGIN",
-    help: "One login, as smtpd reports it; all where it isn't given",
-    takes: Takes::Text,
-    need: Need::OneOf(NAMED),
     default: None,
 };
 
@@ -382,7 +450,7 @@ const RULE: CommandOption = CommandOption {
 const BEFORE: CommandOption = CommandOption {
     name: "before",
     value: "DAY",
-    help: "First day number that is kept; earlier days are forgotten",
+    help: "First day number that is kept",
     takes: Takes::Number(DAYS),
     need: Need::Required,
     default: None,
@@ -402,93 +470,142 @@ pub const SUBCOMMANDS: [Subcommand; 14] = [
     Subcommand {
         name: "init",
         about: "Make the ledger of a server's settings",
+        usage: None,
+        words: &[],
         options: &[CONFIG],
-        one_of: None,
+        groups: &[],
     },
     Subcommand {
         name: "server",
         about: "Serve the ledger to filters",
-        options: &[CONFIG, CREATE, CONNECTIONS],
-        one_of: None,
+        usage: None,
+        words: &[],
+        options: &[CONFIG, CREATE, CONNECTIONS, ENDLESS],
+        groups: &[],
     },
     Subcommand {
         name: "filter",
         about: "Answer smtpd on standard input and output",
-        options: &[CONFIG, RUN, CHECK],
-        one_of: None,
+        usage: None,
+        words: &[],
+        options: &[FILTER_CONFIG, RUN, CHECK],
+        groups: &[],
     },
     Subcommand {
         name: "status",
-        about: "Say whether the quota server answers; with --config also what its ledger's file holds if it doesn't",
+        about: "Say whether the quota server answers",
+        usage: None,
+        words: &[],
         options: &[ANY_SERVER, PROBED_HOST, ITS_SETTINGS],
-        one_of: Some(ASKED),
+        groups: &[],
     },
     Subcommand {
         name: "limit",
         about: "Set the limit of a login from a day on",
-        options: &[SERVERS, HOST, LOGIN, LOGIN_TEXT, FROM, CAP, RUN],
-        one_of: Some(NAMED),
+        usage: Some("mailquota limit [OPTIONS] <LOGIN> <CAP>"),
+        words: &[LOGIN_WORD, CAP_WORD],
+        options: &[
+            SERVERS,
+            ASKED_CONFIG,
+            HOST,
+            LOGIN,
+            LOGIN_TEXT,
+            FROM,
+            AGO,
+            CAP,
+            RUN,
+        ],
+        groups: &[NAMED, CAPPED],
     },
     Subcommand {
         name: "stop",
         about: "Let a login have nothing more, today and on each later day",
+        usage: Some("mailquota stop [OPTIONS] <LOGIN>"),
+        words: &[LOGIN_WORD],
         options: &[
             SERVERS,
+            ASKED_CONFIG,
             HOST,
             LOGIN,
             LOGIN_TEXT,
-            STOP_DAY,
-            ZONE_SETTINGS,
+            EARLIER_DAY,
+            AGO,
             FORCE,
+            ALL,
         ],
-        one_of: Some(NAMED),
+        groups: &[NAMED],
     },
     Subcommand {
         name: "resume",
         about: "Let a login have more again, today and on each later day",
-        options: &[SERVERS, HOST, LOGIN, LOGIN_TEXT, RESUME_DAY, MORE],
-        one_of: Some(NAMED),
+        usage: Some("mailquota resume [OPTIONS] <LOGIN>"),
+        words: &[LOGIN_WORD],
+        options: &[
+            SERVERS,
+            ASKED_CONFIG,
+            HOST,
+            LOGIN,
+            LOGIN_TEXT,
+            EARLIER_DAY,
+            AGO,
+            MORE,
+        ],
+        groups: &[NAMED],
     },
     Subcommand {
         name: "day",
         about: "Print today's day number by a server's settings",
+        usage: None,
+        words: &[],
         options: &[CONFIG, AT],
-        one_of: None,
+        groups: &[],
     },
     Subcommand {
         name: "retire",
-        about: "Retire a host's earlier filters: what they reserved counts as sent, their requests are refused",
-        options: &[SERVER, RETIRED_HOST, RETIRED_RUN],
-        one_of: None,
+        about: "Retire a host's earlier filters: what they reserved counts as sent",
+        usage: None,
+        words: &[],
+        options: &[SERVER, RETIRED_CONFIG, RETIRED_HOST, RETIRED_RUN],
+        groups: &[],
     },
     Subcommand {
         name: "report",
         about: "Print what logins used on a day",
-        options: &[SERVERS, DAY, ONE_LOGIN, LOGIN_TEXT],
-        one_of: None,
+        usage: None,
+        words: &[LOGIN_WORD],
+        options: &[SERVERS, ASKED_CONFIG, DAY, AGO, LOGIN, LOGIN_TEXT, TOP],
+        groups: &[],
     },
     Subcommand {
         name: "limits",
         about: "Print the limits that are set in the ledger in a file",
+        usage: None,
+        words: &[],
         options: &[CONFIG],
-        one_of: None,
+        groups: &[],
     },
     Subcommand {
         name: "audit",
         about: "Check the books of the ledger in a file",
+        usage: None,
+        words: &[],
         options: &[CONFIG],
-        one_of: None,
+        groups: &[],
     },
     Subcommand {
         name: "forget",
         about: "Make a new ledger file without the days before a day",
+        usage: None,
+        words: &[],
         options: &[CONFIG, BEFORE, INTO],
-        one_of: None,
+        groups: &[],
     },
     Subcommand {
         name: "replay",
         about: "Answer frames in hexadecimal from standard input over a new ledger",
+        usage: None,
+        words: &[],
         options: &[DEFAULT, EAST, WEST, RULE, SQL],
-        one_of: None,
+        groups: &[],
     },
 ];

@@ -1,0 +1,311 @@
+//! What the options of a subcommand ask for.
+ghost use Rattle.std.specs.Prelude.{◌≡◌, ◌≤◌, IfOk, IfSome, codes};
+ghost use Rattle.clap.specs.Matches.{found_of};
+ghost use Rattle.mq_request.specs.Range.{IsAmount, IsDay, IsMoment, IsRun, IsWithin};
+ghost use Rattle.mq_arguments.specs.Arguments.{IsArguments, IsConnections, IsDayUpTo, IsLimitArguments, IsReplayArguments};
+ghost use Rattle.mq_arguments.specs.Arguments.{IsReportArguments, IsResumeArguments, IsStopArguments};
+ghost use Rattle.mq_words.specs.Meaning.{HasCap, HasConnections, HasDay, HasLogin, HasLoginOrNone, HasNumber, HasNumberOrNone, HasText};
+ghost use Rattle.mq_words.specs.Meaning.{Means, MeansDay, MeansFilter, MeansForget, MeansLimit, MeansReplay, MeansReport, MeansResume};
+ghost use Rattle.mq_words.specs.Meaning.{MeansRetire, MeansServer, MeansStatus, MeansStop, texts_of};
+
+use crate::subcommands::{
+    AMOUNTS, CROWDS, DAYS, EARLIER_DAYS, MINUTES, MOMENTS, RUNS, Range, TOPS,
+};
+use clap::ArgMatches;
+use mq_arguments::{
+    Arguments, AuditArguments, ConnectionsArgument, DayArgument, DayArguments, FilterArguments,
+    ForgetArguments, InitArguments, LimitArguments, LimitsArguments, LoginArgument, ProbeArguments,
+    ReplayArguments, ReportArguments, ResumeArguments, RetireArguments, ServerArguments, Servers,
+    StatusArguments, StopArguments,
+};
+use std::alloc::{AllocError, Global};
+
+/// What the subcommand of this name asks for by the options that were found.
+pub fn arguments_of<'a>(
+    alloc: Global,
+    name: &str,
+    found: &ArgMatches<'a>,
+) -> Result<Arguments<'a>, AllocError>
+    ensures in_range { IfOk result IsArguments }
+    ensures meant { IfOk result (Means name.now (found_of found.now)) }
+{
+    Ok(match name {
+        "filter" => Arguments::Filter(filter_of(found)),
+        "init" => Arguments::Init(InitArguments {
+            config: text_of(found, "config"),
+        }),
+        "status" => status_of(alloc, found)?,
+        "server" => Arguments::Server(server_of(found)),
+        "limit" => Arguments::Limit(limit_of(alloc, found)?),
+        "stop" => Arguments::Stop(stop_of(alloc, found)?),
+        "resume" => Arguments::Resume(resume_of(alloc, found)?),
+        "day" => Arguments::Day(moment_of(found)),
+        "retire" => Arguments::Retire(retire_of(found)),
+        "report" => Arguments::Report(report_of(alloc, found)?),
+        "limits" => Arguments::Limits(LimitsArguments {
+            config: text_of(found, "config"),
+        }),
+        "audit" => Arguments::Audit(AuditArguments {
+            config: text_of(found, "config"),
+        }),
+        "forget" => Arguments::Forget(forget_of(found)),
+        _ => Arguments::Replay(replay_of(found)),
+    })
+}
+
+/// The text of an option that has to be given or has a default.
+fn text_of<'a>(found: &ArgMatches<'a>, name: &str) -> &'a str
+    ensures { HasText (found_of found.now) name.now result.now }
+{
+    found.get_str(name).unwrap_or("")
+}
+
+/// The number of an option, if it is given. clap refused one out of its range.
+fn number_if_given(found: &ArgMatches<'_>, name: &str, range: Range<u32>) -> Option<u32>
+    requires { range.least ≤ range.most }
+    ensures in_range { IfSome result (IsWithin range.least range.most) }
+    ensures number { HasNumberOrNone (found_of found.now) name.now range.least range.most result }
+{
+    match found.get_one::<u32>(name) {
+        Some(short) => Some(short.clamp(range.least, range.most)),
+        None => None,
+    }
+}
+
+/// The number of an option, if it is given. clap refused one out of its range.
+fn long_number_if_given(found: &ArgMatches<'_>, name: &str, range: Range<u64>) -> Option<u64>
+    requires { range.least ≤ range.most }
+    ensures in_range { IfSome result (IsWithin range.least range.most) }
+    ensures number { HasNumberOrNone (found_of found.now) name.now range.least range.most result }
+{
+    match found.get_one::<u64>(name) {
+        Some(number) => Some(number.clamp(range.least, range.most)),
+        None => None,
+    }
+}
+
+/// The number of an option that has to be given or has a default.
+fn number_of(found: &ArgMatches<'_>, name: &str, range: Range<u32>) -> u32
+    requires { range.least ≤ range.most }
+    ensures in_range { IsWithin range.least range.most result }
+    ensures number { HasNumber (found_of found.now) name.now range.least range.most result }
+{
+    number_if_given(found, name, range).unwrap_or(range.least)
+}
+
+/// The number of the run, if it is given.
+fn run_of(found: &ArgMatches<'_>) -> Option<u64>
+    ensures in_range { IfSome result IsRun }
+    ensures number { HasNumberOrNone (found_of found.now) (codes "run") 1 281474976710655 result }
+{
+    long_number_if_given(found, "run", RUNS)
+}
+
+/// How many connections are served.
+fn connections_of(found: &ArgMatches<'_>) -> ConnectionsArgument
+    ensures in_range { IsConnections result }
+    ensures meant { HasConnections (found_of found.now) result }
+{
+    if found.get_flag("endless") {
+        ConnectionsArgument::Endless
+    } else {
+        ConnectionsArgument::Count(number_of(found, "connections", CROWDS))
+    }
+}
+
+/// The limit, in recipients a day: the word, or the option.
+fn cap_of(found: &ArgMatches<'_>) -> u32
+    ensures in_range { IsAmount result }
+    ensures meant { HasCap (found_of found.now) result }
+{
+    match number_if_given(found, "CAP", AMOUNTS) {
+        Some(cap) => cap,
+        None => number_of(found, "cap", AMOUNTS),
+    }
+}
+
+/// The day, by the option of this name, or by how long ago it is.
+fn day_of(found: &ArgMatches<'_>, name: &str, range: Range<u32>) -> DayArgument
+    requires { range.least ≡ 0 }
+    ensures in_range { IsDayUpTo range.most result }
+    ensures meant { HasDay (found_of found.now) name.now range.most result }
+{
+    match (
+        number_if_given(found, name, range),
+        number_if_given(found, "ago", DAYS),
+    ) {
+        (Some(day), _) => DayArgument::Given(day),
+        (None, Some(days)) => DayArgument::Ago(days),
+        (None, None) => DayArgument::Today,
+    }
+}
+
+/// The login, if it is given: the word without a name is one as a report prints it.
+fn one_login_of<'a>(found: &ArgMatches<'a>) -> Option<LoginArgument<'a>>
+    ensures { HasLoginOrNone (found_of found.now) result }
+{
+    if let Some(login) = found.get_str("login") {
+        return Some(LoginArgument::Reported(login));
+    }
+    match found.get_str("LOGIN") {
+        Some(text) => Some(LoginArgument::Printed(text)),
+        None => Some(LoginArgument::Printed(found.get_str("login-text")?)),
+    }
+}
+
+/// The login, which has to be given.
+fn login_of<'a>(found: &ArgMatches<'a>) -> LoginArgument<'a>
+    ensures { HasLogin (found_of found.now) result }
+{
+    one_login_of(found).unwrap_or(LoginArgument::Reported(""))
+}
+
+/// The servers that are named.
+fn servers_of<'a>(alloc: Global, found: &ArgMatches<'a>) -> Result<Servers<'a>, AllocError>
+    ensures { IfOk result (λ servers. servers ≡ texts_of (found_of found.now) (codes "server")) }
+{
+    let addresses = match found.get_strs("server") {
+        Some(addresses) => Vec::from_slice(alloc, addresses)?,
+        None => Vec::new(alloc),
+    };
+    Ok(Servers::new(addresses))
+}
+
+fn filter_of<'a>(found: &ArgMatches<'a>) -> FilterArguments<'a>
+    ensures in_range { IfSome result.run IsRun }
+    ensures meant { MeansFilter (found_of found.now) result }
+{
+    FilterArguments {
+        config: text_of(found, "config"),
+        run: run_of(found),
+        check: found.get_flag("check"),
+    }
+}
+
+fn server_of<'a>(found: &ArgMatches<'a>) -> ServerArguments<'a>
+    ensures in_range { IsConnections result.connections }
+    ensures meant { MeansServer (found_of found.now) result }
+{
+    ServerArguments {
+        config: text_of(found, "config"),
+        create: found.get_flag("create"),
+        connections: connections_of(found),
+    }
+}
+
+/// What `status` is asked: the server of these settings, or the servers at these addresses.
+fn status_of<'a>(alloc: Global, found: &ArgMatches<'a>) -> Result<Arguments<'a>, AllocError>
+    ensures in_range { IfOk result IsArguments }
+    ensures meant { IfOk result (MeansStatus (found_of found.now)) }
+{
+    Ok(match found.get_str("config") {
+        Some(file) => Arguments::Status(StatusArguments { config: file }),
+        None => Arguments::Probe(ProbeArguments {
+            servers: servers_of(alloc, found)?,
+            host: found.get_str("host"),
+        }),
+    })
+}
+
+fn limit_of<'a>(alloc: Global, found: &ArgMatches<'a>) -> Result<LimitArguments<'a>, AllocError>
+    ensures in_range { IfOk result IsLimitArguments }
+    ensures meant { IfOk result (MeansLimit (found_of found.now)) }
+{
+    Ok(LimitArguments {
+        servers: servers_of(alloc, found)?,
+        config: found.get_str("config"),
+        host: text_of(found, "host"),
+        login: login_of(found),
+        from: day_of(found, "from", DAYS),
+        cap: cap_of(found),
+        run: run_of(found),
+    })
+}
+
+fn stop_of<'a>(alloc: Global, found: &ArgMatches<'a>) -> Result<StopArguments<'a>, AllocError>
+    ensures in_range { IfOk result IsStopArguments }
+    ensures meant { IfOk result (MeansStop (found_of found.now)) }
+{
+    Ok(StopArguments {
+        servers: servers_of(alloc, found)?,
+        config: found.get_str("config"),
+        host: text_of(found, "host"),
+        login: login_of(found),
+        day: day_of(found, "day", EARLIER_DAYS),
+        is_forced: found.get_flag("force"),
+        is_all: found.get_flag("all"),
+    })
+}
+
+fn resume_of<'a>(alloc: Global, found: &ArgMatches<'a>) -> Result<ResumeArguments<'a>, AllocError>
+    ensures in_range { IfOk result IsResumeArguments }
+    ensures meant { IfOk result (MeansResume (found_of found.now)) }
+{
+    Ok(ResumeArguments {
+        servers: servers_of(alloc, found)?,
+        config: found.get_str("config"),
+        host: text_of(found, "host"),
+        login: login_of(found),
+        day: day_of(found, "day", EARLIER_DAYS),
+        cap: number_if_given(found, "cap", AMOUNTS),
+    })
+}
+
+fn moment_of<'a>(found: &ArgMatches<'a>) -> DayArguments<'a>
+    ensures in_range { IfSome result.moment IsMoment }
+    ensures meant { MeansDay (found_of found.now) result }
+{
+    DayArguments {
+        config: text_of(found, "config"),
+        moment: long_number_if_given(found, "at", MOMENTS),
+    }
+}
+
+fn retire_of<'a>(found: &ArgMatches<'a>) -> RetireArguments<'a>
+    ensures in_range { IfSome result.run IsRun }
+    ensures meant { MeansRetire (found_of found.now) result }
+{
+    RetireArguments {
+        server: found.get_str("server"),
+        config: found.get_str("config"),
+        host: found.get_str("host"),
+        run: run_of(found),
+    }
+}
+
+fn report_of<'a>(alloc: Global, found: &ArgMatches<'a>) -> Result<ReportArguments<'a>, AllocError>
+    ensures in_range { IfOk result IsReportArguments }
+    ensures meant { IfOk result (MeansReport (found_of found.now)) }
+{
+    Ok(ReportArguments {
+        servers: servers_of(alloc, found)?,
+        config: found.get_str("config"),
+        day: day_of(found, "day", DAYS),
+        login: one_login_of(found),
+        top: number_if_given(found, "top", TOPS),
+    })
+}
+
+fn forget_of<'a>(found: &ArgMatches<'a>) -> ForgetArguments<'a>
+    ensures in_range { IsDay result.before }
+    ensures meant { MeansForget (found_of found.now) result }
+{
+    ForgetArguments {
+        config: text_of(found, "config"),
+        before: number_of(found, "before", DAYS),
+        into: text_of(found, "into"),
+    }
+}
+
+fn replay_of<'a>(found: &ArgMatches<'a>) -> ReplayArguments<'a>
+    ensures in_range { IsReplayArguments result }
+    ensures meant { MeansReplay (found_of found.now) result }
+{
+    ReplayArguments {
+        default: number_of(found, "default", AMOUNTS),
+        east: number_of(found, "east", MINUTES),
+        west: number_of(found, "west", MINUTES),
+        rule: found.get_str("rule"),
+        sql: found.get_flag("sql"),
+    }
+}
