@@ -1,13 +1,17 @@
 -- The room that grows with each refusal, and the line that is told.
-use Rattle.std.proofs.Common.{◌≡◌, ◌+◌, ◌*◌, ℕ, suc, List, [], Option, None, Some, Result, Ok, Err, min, refl, sym, ap, subst, inr, ◌∙◌, append-nil, arith}
+use Rattle.std.proofs.Common.{◌≡◌, ◌+◌, ◌*◌, ℕ, zero, suc, List, [], Option, None, Some, Result, Ok, Err, min, refl, sym, ap, subst, inr, ◌∙◌, append-nil, arith}
 use Rattle.std.specs.Prelude.{IfOk, MatchResult}
 use Rattle.std.specs.Io.KnownBytes.{Appends, Keeps}
 use Rattle.mq_command.specs.Allowing.{SetsBoth, room}
+use Rattle.mq_command.specs.Later.{ClearsLater, later_status}
 use Rattle.mq_command.specs.Orders.{PrintsLine}
-use Rattle.mq_command.specs.Stopping.{GivesLimit, at_least}
+use Rattle.mq_command.specs.Stopping.{GivesLimit, LooksLater, at_least}
 use Rattle.mq_command.specs.Usage.{AsksUsed}
 use Rattle.mq_command.specs.declared.allow.Setter.{Setter}
+use Rattle.mq_command.specs.declared.later.Later.{Later}
 use Rattle.mq_command.specs.declared.order.OrderFault.{OrderFault}
+use Rattle.mq_command.specs.declared.stop.StopOrder.{StopOrder}
+use Rattle.mq_command.specs.declared.stop.Stopped.{Stopped}
 use Rattle.mq_command.specs.declared.usage.DayUsage.{DayUsage}
 use Rattle.mq_link.specs.declared.link.Told.{Told}
 
@@ -35,3 +39,16 @@ limit_given setter day limit most usage old asked new (Ok cap) answered is sent 
     (usage, asked, answered, subst (λ m. SetsBoth setter day m limit usage.used asked new (Ok cap)) is sent)
 limit_given setter day limit most usage old asked new (Err fault) answered is sent =
     inr (usage, asked, answered, subst (λ m. SetsBoth setter day m limit usage.used asked new (Err fault)) is sent)
+
+-- nothing more was asked where what was printed isn't whole
+pub not_later : (setter : Setter) (order : StopOrder) (stopped : Stopped) (first : ℕ) (told : Option (List Told)) → (first ≡ 0 → ⊥)
+    → LooksLater setter order (Ok stopped) first first told told
+not_later setter order stopped zero told never = absurd (never refl)
+not_later setter order stopped (suc first) told never = (refl, refl)
+
+-- and limits of later days were looked for where it is
+pub looked_later : (setter : Setter) (order : StopOrder) (stopped : Stopped) (first status : ℕ) (old new : Option (List Told)) (found : Result (Option Later) OrderFault)
+    → first ≡ 0 → status ≡ later_status found → ClearsLater setter order.day stopped.later order.is_all old new found
+    → LooksLater setter order (Ok stopped) first status old new
+looked_later setter order stopped first status old new found whole is looks =
+    subst (λ f. LooksLater setter order (Ok stopped) f status old new) (sym whole) (found, is, looks)

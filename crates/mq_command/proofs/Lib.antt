@@ -3,6 +3,7 @@ pub mod AllowSteps
 pub mod AnswerSteps
 pub mod AskSteps
 pub mod CheckSteps
+pub mod CollectSteps
 pub mod Fronts
 pub mod OrderSteps
 pub mod PageSteps

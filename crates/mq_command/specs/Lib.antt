@@ -1,10 +1,13 @@
 pub mod Allowing
 pub mod Asking
+pub mod Holding
+pub mod Later
 pub mod Orders
 pub mod Printed
 pub mod Probing
 pub mod Report
 pub mod Stopping
+pub mod Top
 pub mod Unchanged
 pub mod Usage
 pub mod Vis

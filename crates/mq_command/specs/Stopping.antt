@@ -1,17 +1,25 @@
 -- What stopping a login and letting it go again leads to.
-use Rattle.std.specs.Prelude.{◌≡◌, ◌⊎◌, ◌<◌, ◌+◌, ◌-◌, ◌++◌, ◌∷◌, ◌==◌, ◌||◌, [], ℕ, List, true, false, Bool, not, Option, None, Some, Result, Ok, Err, max, min, codes}
+use Rattle.std.specs.Prelude.{◌≡◌, ◌⊎◌, ◌<◌, ◌+◌, ◌-◌, ◌++◌, ◌∷◌, ◌==◌, ◌||◌, [], ℕ, zero, suc, List, true, false, Bool, not, Option, None, Some, Result, Ok, Err, max, min, codes}
+use Rattle.std.specs.Prelude.{if◌then◌else◌}
 use Rattle.std.specs.Fmt.{decimal}
 use Rattle.mq_command.specs.Allowing.{SetsBoth, day_line}
-use Rattle.mq_command.specs.Usage.{AsksUsed, LooksBack}
+use Rattle.mq_command.specs.Holding.{Holds, HoldsLater}
+use Rattle.mq_command.specs.Later.{ClearsLater, later_status}
+use Rattle.mq_command.specs.Orders.{Prints}
+use Rattle.mq_command.specs.Usage.{AsksUsed, ByUsage, FailsToAsk, LooksBack}
 use Rattle.mq_command.specs.declared.allow.AllowFault.{AllowFault}
 use Rattle.mq_command.specs.declared.allow.AllowFault.TheVariants.{Order, Idle, NotStopped, NoFormer}
 use Rattle.mq_command.specs.declared.allow.Restored.{Restored}
 use Rattle.mq_command.specs.declared.allow.Setter.{Setter}
-use Rattle.mq_command.specs.declared.allow.Stopped.{Stopped}
 use Rattle.mq_command.specs.declared.ask.AskFault.{AskFault}
+use Rattle.mq_command.specs.declared.hold.Held.{Held}
+use Rattle.mq_command.specs.declared.hold.LaterUse.{LaterUse}
+use Rattle.mq_command.specs.declared.later.Later.{Later}
 use Rattle.mq_command.specs.declared.look_back.Sought.TheVariants.{Use, Limit}
 use Rattle.mq_command.specs.declared.order.OrderFault.{OrderFault}
 use Rattle.mq_command.specs.declared.order.OrderFault.TheVariants.{Unanswered}
+use Rattle.mq_command.specs.declared.stop.StopOrder.{StopOrder}
+use Rattle.mq_command.specs.declared.stop.Stopped.{Stopped}
 use Rattle.mq_command.specs.declared.usage.DayUsage.{DayUsage}
 use Rattle.mq_link.specs.declared.link.Told.{Told}
 
@@ -37,32 +45,30 @@ ChecksUse login day false old new (Err (Order fault)) =
     (cause : AskFault) × LooksBack Use login day 3 old new (Err cause) × (fault ≡ Unanswered cause)
 ChecksUse login day false old new (Err _) = ⊥
 
--- what the login used wasn't answered
-abbrev pub FailsToAsk : Setter → ℕ → Option (List Told) → Option (List Told) → OrderFault → Type 0
-FailsToAsk setter day old new fault =
-    (cause : AskFault) × AsksUsed setter.login day old new (Err cause) × (fault ≡ Unanswered cause)
-
--- the server answered what the login used and its limit, and this followed
-abbrev pub ByUsage : Setter → ℕ → Option (List Told) → (DayUsage → Option (List Told) → Type 0) → Type 0
-ByUsage setter day old Then =
-    (usage : DayUsage) × (asked : Option (List Told)) × AsksUsed setter.login day old asked (Ok usage) × Then usage asked
-
 -- it is clear that a login is meant, since that is said or it used something
 abbrev pub is_clear : Bool → DayUsage → Bool
 is_clear meant usage = meant || not (usage.used == 0)
 
--- What `stop` leads to: nothing more, where the login is meant, and no limit of the day above the one that it had.
+-- What letting a login that used so much on a day have nothing more, there and on each later day, leads to.
+abbrev pub HoldsAll : Setter → ℕ → DayUsage → Option (List Told) → Option (List Told) → Result Stopped OrderFault → Type 0
+HoldsAll setter day usage old new (Ok stopped) =
+    (stopped.former ≡ usage.cap)
+    × ((mid : Option (List Told)) × Holds setter 1 day usage old mid (Ok stopped.held) × HoldsLater setter day mid new (Ok stopped.later))
+HoldsAll setter day usage old new (Err fault) =
+    Holds setter 1 day usage old new (Err fault)
+    ⊎ ((held : Held) × (mid : Option (List Told)) × Holds setter 1 day usage old mid (Ok held) × HoldsLater setter day mid new (Err fault))
+
+-- What stopping a login leads to: it has nothing more, where it is meant, and no limit of the day above the one that it had.
 abbrev pub Stops : Setter → ℕ → Bool → Option (List Told) → Option (List Told) → Result Stopped AllowFault → Type 0
 Stops setter day meant old new (Ok stopped) =
-    ByUsage setter day old (λ usage asked. (usage.cap ≡ stopped.former)
-    × ((clear : Option (List Told)) × ChecksUse setter.login day (is_clear meant usage) asked clear (Ok tt)
-    × SetsBoth setter day usage.cap 0 usage.used clear new (Ok stopped.cap)))
+    ByUsage setter day old (λ usage asked. (clear : Option (List Told))
+    × ChecksUse setter.login day (is_clear meant usage) asked clear (Ok tt) × HoldsAll setter day usage clear new (Ok stopped))
 Stops setter day meant old new (Err fault) =
     ((cause : OrderFault) × FailsToAsk setter day old new cause × (fault ≡ Order cause))
     ⊎ (ByUsage setter day old (λ usage asked. ChecksUse setter.login day (is_clear meant usage) asked new (Err fault))
     ⊎ ByUsage setter day old (λ usage asked. (clear : Option (List Told)) × (cause : OrderFault)
     × ChecksUse setter.login day (is_clear meant usage) asked clear (Ok tt)
-    × SetsBoth setter day usage.cap 0 usage.used clear new (Err cause) × (fault ≡ Order cause)))
+    × HoldsAll setter day usage clear new (Err cause) × (fault ≡ Order cause)))
 
 -- What letting a login have so many more leads to, up to the most that a limit may be.
 abbrev pub GivesMore : Setter → ℕ → ℕ → Option (List Told) → Option (List Told) → Result ℕ OrderFault → Type 0
@@ -123,11 +129,40 @@ Restores setter day old new (Err fault) =
     ⊎ ((limit : ℕ) × (asked : Option (List Told)) × (cause : OrderFault) × FindsFormer setter.login day old asked (Ok limit)
     × GivesLimit setter day limit asked new (Err cause) × (fault ≡ Order cause))
 
+-- what it did on the day, or may do
+abbrev pub verb : Bool → List ℕ
+verb true = codes " may use "
+verb false = codes " used "
+
+-- what it may have on later days, where it used something on one
+abbrev pub later_line : ℕ → LaterUse → List ℕ
+later_line day later =
+    if later.last == day then [] else codes "limit after: " ++ decimal later.most ++ codes " up to day " ++ decimal later.last ++ 10 ∷ []
+
+-- the limit that it had on the day, and what it may have on later days
+abbrev pub former_lines : Stopped → ℕ → List ℕ
+former_lines stopped day = codes "limit before: " ++ decimal stopped.former ++ 10 ∷ later_line day stopped.later
+
 -- what `stop` prints where it is done
 abbrev pub stopped_lines : List ℕ → Stopped → ℕ → List ℕ
 stopped_lines login stopped day =
-    day_line (codes "stopped: ") login (codes " used ") stopped.cap day
-    ++ codes "limit before: " ++ decimal stopped.former ++ 10 ∷ []
+    day_line (codes "stopped: ") login (verb stopped.held.is_more) stopped.held.cap day ++ former_lines stopped day
+
+-- limits of later days were looked for where the login is stopped and that was printed, and nothing more was asked where not
+abbrev pub LooksLater : Setter → StopOrder → Result Stopped AllowFault → ℕ → ℕ → Option (List Told) → Option (List Told) → Type 0
+LooksLater setter order (Ok stopped) zero status old new =
+    (found : Result (Option Later) OrderFault) × (status ≡ later_status found)
+    × ClearsLater setter order.day stopped.later order.is_all old new found
+LooksLater setter order (Ok stopped) (suc first) status old new = (status ≡ suc first) × (new ≡ old)
+LooksLater setter order (Err fault) first status old new = (status ≡ first) × (new ≡ old)
+
+-- What `stop` leads to at a server: the login is stopped, that is printed, and limits of later days are looked for.
+abbrev pub RunsStop : Setter → StopOrder → ℕ → Option (List Told) → Option (List Told) → Option (List ℕ) → Option (List ℕ) → Type 0
+RunsStop setter order status old new output output' =
+    (ended : Result Stopped AllowFault) × (first : ℕ) × (mid : Option (List Told))
+    × Stops setter order.day order.is_meant old mid ended
+    × Prints (λ stopped. stopped_lines setter.login stopped order.day) output output' ended first
+    × LooksLater setter order ended first status mid new
 
 -- what `resume` prints where it gave a limit back
 abbrev pub restored_lines : List ℕ → Restored → ℕ → List ℕ

@@ -8,6 +8,9 @@ use Rattle.mq_command.specs.declared.usage.DayUsage.{DayUsage}
 use Rattle.mq_command.specs.declared.look_back.Sought.{Sought}
 use Rattle.mq_command.specs.declared.look_back.Sought.TheVariants.{Use, Limit}
 use Rattle.mq_command.specs.declared.ask.AskFault.{AskFault}
+use Rattle.mq_command.specs.declared.allow.Setter.{Setter}
+use Rattle.mq_command.specs.declared.order.OrderFault.{OrderFault}
+use Rattle.mq_command.specs.declared.order.OrderFault.TheVariants.{Unanswered}
 use Rattle.mq_link.specs.declared.link.Told.{Told}
 
 -- the reply says that so much is used, settled and reserved, under this limit
@@ -21,6 +24,16 @@ abbrev pub AsksUsed : List ℕ → ℕ → Option (List Told) → Option (List T
 AsksUsed login day old new (Ok usage) =
     (reply : Reply) × IsAnswered (asks.Usage login day) reply old new × IsUsed reply usage
 AsksUsed login day old new (Err fault) = Asks (asks.Usage login day) old new (Err fault)
+
+-- what the login used wasn't answered
+abbrev pub FailsToAsk : Setter → ℕ → Option (List Told) → Option (List Told) → OrderFault → Type 0
+FailsToAsk setter day old new fault =
+    (cause : AskFault) × AsksUsed setter.login day old new (Err cause) × (fault ≡ Unanswered cause)
+
+-- the server answered what the login used and its limit, and this followed
+abbrev pub ByUsage : Setter → ℕ → Option (List Told) → (DayUsage → Option (List Told) → Type 0) → Type 0
+ByUsage setter day old Then =
+    (usage : DayUsage) × (asked : Option (List Told)) × AsksUsed setter.login day old asked (Ok usage) × Then usage asked
 
 -- whether a day is one that is sought: one on which something is used, or one whose limit isn't 0
 abbrev pub is_sought : Sought → DayUsage → Bool

@@ -1,13 +1,11 @@
-//! `stop` and `resume`: how many recipients a login may have, today and on each later day.
+//! `resume`: how many recipients a login may have, today and on each later day; and the limits that `stop` sets, too.
 ghost use Rattle.std.specs.Prelude.{◌≡◌, ◌+◌, ℕ, IfOk, string_bytes, Result as AnyResult};
 ghost use Rattle.mq_request.specs.Range.{IsAmount, IsDay, IsLogin, IsWithin};
 ghost use Rattle.mq_command.specs.Allowing.{IsSetter, SetsAbove, SetsBoth, allowed, day_line, limit_of, resumed_line};
-ghost use Rattle.mq_command.specs.Stopping.{ChecksUse, FindsFormer, GivesLimit, GivesMore, HasSent, Restores};
-ghost use Rattle.mq_command.specs.Stopping.{Stops, restored_lines, stopped_lines};
+ghost use Rattle.mq_command.specs.Stopping.{FindsFormer, GivesLimit, GivesMore, Restores, restored_lines};
 ghost use Rattle.mq_command.specs.Orders.{OrdersFresh, Prints};
 ghost use Rattle.mq_command.specs.declared.allow.AllowFault.{AllowFault as AnyAllowFault};
 ghost use Rattle.mq_command.specs.declared.allow.Restored.{Restored as AnyRestored};
-ghost use Rattle.mq_command.specs.declared.allow.Stopped.{Stopped as AnyStopped};
 ghost use Rattle.mq_command.specs.declared.order.OrderFault.{OrderFault as AnyOrderFault};
 
 use crate::ask::AskFault;
@@ -25,10 +23,7 @@ use thiserror::Error;
 
 /// How often the limit of a day is sent where the login uses more meanwhile. The last is the most that a limit may be, or
 /// the one that the login had, if it is to have nothing more; no login uses more than its limit.
-const LIMITS: u32 = 18;
-
-/// On how many days, that of a `stop` and those before, a login used nothing that isn't stopped unless it is meant.
-const IDLE_DAYS: u32 = 3;
+pub(crate) const LIMITS: u32 = 18;
 
 /// How many days back a limit is sought that the login had before it was stopped.
 const FORMER_DAYS: u32 = 400;
@@ -47,15 +42,6 @@ pub enum AllowFault {
     /// No limit is found that it had before it was stopped.
     #[error("no earlier limit found; use --cap")]
     NoFormer,
-}
-
-/// What stopping a login came to.
-#[derive(Clone, Copy, Debug)]
-struct Stopped {
-    /// The limit of the day.
-    cap: u32,
-    /// The limit of the day before it was stopped.
-    former: u32,
 }
 
 /// A login whose limits are set, and the run of the host that sets them.
@@ -92,7 +78,7 @@ fn limit_of(
 }
 
 /// Sets a limit under the first number of its place that isn't used.
-fn set_limit<L: Link>(
+pub(crate) fn set_limit<L: Link>(
     alloc: Global,
     link: &mut L,
     setter: &Setter,
@@ -101,7 +87,7 @@ fn set_limit<L: Link>(
     cap: u32,
 ) -> Result<(), OrderFault>
     requires setter { IsSetter setter.now }
-    requires number { IsWithin 1 100 number }
+    requires number { IsWithin 1 3000 number }
     requires day { IsDay day }
     requires cap { IsAmount cap }
     ensures { OrdersFresh (limit_of setter.now number day cap) (L.told link.old) (L.told link.new) result }
@@ -114,7 +100,7 @@ fn set_limit<L: Link>(
 
 /// The limit of a day on which so much is used: so many more, and room for what is used meanwhile, but never above the
 /// most.
-fn allowed(most: u32, used: u32, more: u32, room: u32) -> u32
+pub(crate) fn allowed(most: u32, used: u32, more: u32, room: u32) -> u32
     requires { IsAmount most }
     ensures { result ≡ allowed most used more room }
 {
@@ -184,74 +170,6 @@ fn set_both<L: Link>(
     match set_limit(alloc, link, setter, LIMITS + 1, day + 1, more) {
         Ok(()) => Ok(cap),
         Err(fault) => Err(fault),
-    }
-}
-
-/// Whether the server answers that a login used something on a day or on one of the two before. It isn't so where no answer
-/// comes. Of several servers one that says so is enough for `run_stop` at each: the login is meant. `day` is a day number, 0 to
-/// 376,200.
-pub fn has_sent<L: Link>(alloc: Global, link: &mut L, login: &Login, day: u32) -> bool
-    requires login { IsLogin login.now }
-    requires day { IsDay day }
-    ensures { HasSent login.now day (L.told link.old) (L.told link.new) result }
-{
-    matches!(
-        look_back(alloc, link, Sought::Use, login, day, IDLE_DAYS),
-        Ok(Some(_))
-    )
-}
-
-/// Refuses to stop a login that used nothing on a day, nor on the two before, unless it is clear that it is meant: its name
-/// may be misspelled.
-fn check_use<L: Link>(
-    alloc: Global,
-    link: &mut L,
-    login: &Login,
-    day: u32,
-    is_clear: bool,
-) -> Result<(), AllowFault>
-    requires login { IsLogin login.now }
-    requires day { IsDay day }
-    ensures { ChecksUse login.now day is_clear (L.told link.old) (L.told link.new) result }
-{
-    if is_clear {
-        return Ok(());
-    }
-    match look_back(alloc, link, Sought::Use, login, day, IDLE_DAYS) {
-        Ok(Some(_day)) => Ok(()),
-        Ok(None) => Err(AllowFault::Idle(day)),
-        Err(fault) => Err(AllowFault::Order(OrderFault::Unanswered(fault))),
-    }
-}
-
-/// Lets a login have nothing more on a day and on each later day, where it sent something lately or is meant. The limit of
-/// the day is never above the one that it had.
-fn stop<L: Link>(
-    alloc: Global,
-    link: &mut L,
-    setter: &Setter,
-    day: u32,
-    is_meant: bool,
-) -> Result<Stopped, AllowFault>
-    requires setter { IsSetter setter.now }
-    requires day { IsDay (day + 1) }
-    ensures { Stops setter.now day is_meant (L.told link.old) (L.told link.new) result }
-{
-    let usage = match ask_used(alloc, link, &setter.login, day) {
-        Ok(usage) => usage,
-        Err(fault) => return Err(AllowFault::Order(OrderFault::Unanswered(fault))),
-    };
-    let is_clear = is_meant || usage.used != 0;
-    match check_use(alloc, link, &setter.login, day, is_clear) {
-        Ok(()) => {}
-        Err(fault) => return Err(fault),
-    }
-    match set_both(alloc, link, setter, day, usage.cap, 0, usage.used) {
-        Ok(cap) => Ok(Stopped {
-            cap,
-            former: usage.cap,
-        }),
-        Err(fault) => Err(AllowFault::Order(fault)),
     }
 }
 
@@ -332,7 +250,7 @@ fn give_limit<L: Link>(
 }
 
 /// The line that says how much a login used, or may use, on a day.
-fn line_of(
+pub(crate) fn line_of(
     alloc: Global,
     begin: &str,
     login: &Login,
@@ -350,54 +268,6 @@ fn line_of(
     line.push_str(day.to_string(alloc)?.as_str())?;
     line.push('\n')?;
     Ok(line)
-}
-
-/// The lines that say that a login is stopped: how much it used on the day, and which limit it had there.
-fn stopped_text(
-    alloc: Global,
-    login: &Login,
-    stopped: Stopped,
-    day: u32,
-) -> Result<String, AllocError>
-    ensures { IfOk result (λ lines. string_bytes lines ≡ stopped_lines login.now stopped day) }
-{
-    let mut lines = line_of(alloc, "stopped: ", login, " used ", stopped.cap, day)?;
-    lines.push_str("limit before: ")?;
-    lines.push_str(stopped.former.to_string(alloc)?.as_str())?;
-    lines.push('\n')?;
-    Ok(lines)
-}
-
-/// Lets a login have nothing more on a day and on each later day, and prints on `output` the day's limit and the one that it
-/// had there, or says on `errors` why not both limits are set. The result is the exit status, 0 or 1.
-///
-/// A login that sent nothing on that day and the two before isn't stopped, unless `is_meant`. No limit that it sets is above
-/// the one that the login had on that day. A limit that was set from a day after the next stays in force, and governs from
-/// that day on. `day` is a day number, 0 to 376,199.
-pub fn run_stop<L: Link, W: Write, E: Write>(
-    alloc: Global,
-    link: &mut L,
-    setter: &Setter,
-    day: u32,
-    is_meant: bool,
-    output: &mut W,
-    errors: &mut E,
-) -> u8
-    requires setter { IsSetter setter.now }
-    requires day { IsDay (day + 1) }
-    ensures stops { (ended : AnyResult AnyStopped AnyAllowFault)
-        × Stops setter.now day is_meant (L.told link.old) (L.told link.new) ended
-        × Prints (λ stopped. stopped_lines setter.now.login stopped day) (W.contents output.old) (W.contents output.new)
-        ended result }
-    ensures quiet { result ≡ 0 → errors.new ≡ errors.old }
-{
-    match stop(alloc, link, setter, day, is_meant) {
-        Ok(stopped) => {
-            let lines = stopped_text(alloc, &setter.login, stopped, day);
-            tell_line(lines, output, errors)
-        }
-        Err(fault) => say(errors, &fault),
-    }
 }
 
 /// Lets a login have so many recipients more on a day, and so many on each later day, and prints on `output` how many it

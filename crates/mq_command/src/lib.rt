@@ -3,7 +3,7 @@
 //! [`run_limit`], [`run_retire`] and [`run_report`] ask the server and print what comes of it; the result is the exit
 //! status. From `mq_remote/src/subcommands/report.rt`:
 //!
-//!     Ok(run_report(rt.alloc(), &mut link, day, login, &mut output, errors))
+//!     Reported::One(login) => run_report(alloc, link, day, Some(login), output, errors),
 //!
 //! It stands on `mq_request`, `mq_stream`, `mq_frame`, `mq_ledger` and `mq_link`: it knows requests, any link and the
 //! days of a zone, and neither sockets, files nor the words of a command line. Begin with `ask.rt`, one question, and
@@ -15,6 +15,8 @@ mod allow;
 mod ask;
 mod day;
 mod heading;
+mod hold;
+mod later;
 pub mod laws;
 mod look_back;
 mod note;
@@ -23,10 +25,11 @@ mod output;
 mod printed;
 mod probe;
 mod report;
+mod stop;
 mod telling;
 mod usage;
 
-pub use allow::{AllowFault, Setter, has_sent, run_restore, run_resume, run_stop};
+pub use allow::{AllowFault, Setter, run_restore, run_resume};
 pub use ask::{AskFault, TRIES};
 pub use day::run_day;
 pub use heading::{print_heading, say_undone};
@@ -35,4 +38,5 @@ pub use order::{NUMBERS, OrderFault, run_fresh, run_limit, run_retire};
 pub use output::{OutputFault, write_whole};
 pub use printed::{is_login_text, login_of_text, login_text};
 pub use probe::{HostFault, run_check, run_host_probe, run_probe};
-pub use report::{ReportFault, run_report};
+pub use report::{ReportFault, print_columns, run_report, run_top};
+pub use stop::{StopOrder, has_sent, run_stop};

@@ -1,19 +1,24 @@
 //! `report`: prints what logins used on a day.
-ghost use Rattle.std.specs.Prelude.{◌≡◌, IfOk, IfSome, option_map, Ok, Err, Result as AnyResult};
+ghost use Rattle.std.specs.Prelude.{◌≡◌, ◌++◌, IfOk, IfSome, OnOk, option_map, MatchResult, Ok, Err, Result as AnyResult};
 ghost use Rattle.mq_request.specs.Range.{IsDay, IsAfter, IsLogin, IsPage as IsPageInRange, IsReply};
 ghost use Rattle.mq_command.specs.Asking.{status_of};
 ghost use Rattle.mq_command.specs.Report.{AnswersList, AnswersUsage, AsksPage, AsksUsage, HasRow, output_fault};
 ghost use Rattle.mq_command.specs.Report.{PrintsRow, Reports, ReportsAll, ReportsOne, TakesPage};
+ghost use Rattle.mq_command.specs.Orders.{PrintsLine};
+ghost use Rattle.mq_command.specs.Top.{CollectsAll, PrintsTop, ReportsTop, columns_line};
 ghost use Rattle.mq_command.specs.declared.report.ReportFault.{ReportFault as AnyReportFault};
 ghost use Rattle.mq_command.specs.declared.report.ReportFault.TheVariants.{Memory as NoMemory};
 
 mod page;
 mod row;
+mod top;
 
 use crate::ask::{AskFault, ask};
 use crate::output::OutputFault;
 use crate::report::page::is_ascending;
 use crate::report::row::{write_row, write_rows};
+use crate::report::top::top_of;
+use crate::telling::{say, tell};
 use mq_link::Link;
 use mq_request::bounds::ROW_LIMIT;
 use mq_request::{Login, Reply, Request, UsageRow, UsageRows};
@@ -244,11 +249,110 @@ pub fn run_report<L: Link, W: Write, E: Write>(
         (W.contents output.new) outcome }
     ensures quiet { result ≡ 0 → errors.new ≡ errors.old }
 {
-    match report(alloc, link, day, login, output) {
+    tell_report(report(alloc, link, day, login, output), errors)
+}
+
+/// Says on `errors` why a report isn't done, if it isn't. The result is the exit status, 0 or 1.
+fn tell_report<E: Write>(outcome: Result<(), ReportFault>, errors: &mut E) -> u8
+    ensures status { result ≡ status_of outcome }
+    ensures quiet { result ≡ 0 → errors.new ≡ errors.old }
+{
+    match outcome {
         Ok(()) => 0,
-        Err(fault) => {
-            let _ = writeln!(errors, "mailquota: {fault}");
-            1
-        }
+        Err(fault) => say(errors, &fault),
     }
+}
+
+/// Appends the rows of a page.
+fn append(all: &mut Vec<UsageRow>, rows: UsageRows) -> Result<(), AllocError>
+    ensures { OnOk result (all.new.items ≡ all.old.items ++ rows) }
+{
+    all.extend(rows.into_rows().into_iter())
+}
+
+/// The rows of all logins of the day, page by page until one isn't full.
+fn all_rows<L: Link>(alloc: Global, link: &mut L, day: u32) -> Result<Vec<UsageRow>, ReportFault>
+    requires { IsDay day }
+    ensures { MatchResult result (λ rows. CollectsAll day (L.told link.old) (L.told link.new) (Ok rows.items))
+        (λ fault. CollectsAll day (L.told link.old) (L.told link.new) (Err fault)) }
+{
+    let mut all = Vec::new(alloc);
+    let mut after = Login::new(Vec::new(alloc));
+    for _page in 0..MOST_PAGES {
+        let rows = match ask_page(alloc, link, day, &after) {
+            Ok(rows) => rows,
+            Err(fault) => return Err(fault),
+        };
+        let page = rows.as_slice();
+        if page.len() < PAGE {
+            append(&mut all, rows)?;
+            return Ok(all);
+        }
+        after = page[page.len() - 1].login.clone()?;
+        append(&mut all, rows)?;
+    }
+    Err(ReportFault::TooManyPages)
+}
+
+/// Prints the lines of those that used most, so many at most.
+fn print_top<W: Write>(
+    alloc: Global,
+    rows: Vec<UsageRow>,
+    count: usize,
+    output: &mut W,
+) -> Result<(), ReportFault>
+    ensures { PrintsTop count rows.items (W.contents output.old) (W.contents output.new) result }
+{
+    let top = top_of(rows, count)?;
+    write_rows(alloc, output, top.as_slice())?;
+    if output.flush().is_err() {
+        return Err(ReportFault::Write);
+    }
+    Ok(())
+}
+
+/// Asks for the rows of all logins of the day, and prints the lines of those that used most.
+fn report_top<L: Link, W: Write>(
+    alloc: Global,
+    link: &mut L,
+    day: u32,
+    count: usize,
+    output: &mut W,
+) -> Result<(), ReportFault>
+    requires { IsDay day }
+    ensures { ReportsTop day count (L.told link.old) (L.told link.new) (W.contents output.old)
+        (W.contents output.new) result }
+{
+    let rows = all_rows(alloc, link, day)?;
+    print_top(alloc, rows, count, output)
+}
+
+/// Prints on `output` the lines of the logins that used most on a day, most first and of equal ones the lower login, so many at
+/// most, and says on `errors` why not. The result is the exit status, 0 or 1.
+///
+/// `day` is a day number, 0 to 376,200. All logins are asked for, page by page, as [`run_report`] does, and nothing is printed
+/// where not all pages come.
+pub fn run_top<L: Link, W: Write, E: Write>(
+    alloc: Global,
+    link: &mut L,
+    day: u32,
+    count: usize,
+    output: &mut W,
+    errors: &mut E,
+) -> u8
+    requires { IsDay day }
+    ensures reports { (outcome : AnyResult (Unit {0}) AnyReportFault) × (result ≡ status_of outcome)
+        × ReportsTop day count (L.told link.old) (L.told link.new) (W.contents output.old) (W.contents output.new) outcome }
+    ensures quiet { result ≡ 0 → errors.new ≡ errors.old }
+{
+    tell_report(report_top(alloc, link, day, count, output), errors)
+}
+
+/// Prints on `output` the line above the columns of a report, or says on `errors` why it can't be printed. The result is the exit
+/// status, 0 or 1.
+pub fn print_columns<W: Write, E: Write>(output: &mut W, errors: &mut E) -> u8
+    ensures prints { PrintsLine columns_line (W.contents output.old) (W.contents output.new) result }
+    ensures quiet { result ≡ 0 → errors.new ≡ errors.old }
+{
+    tell(Ok(()), "settled reserved  limit login\n", output, errors)
 }
