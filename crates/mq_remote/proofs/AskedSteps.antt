@@ -1,26 +1,32 @@
 -- What the servers of a command were asked.
-use Rattle.std.proofs.Common.{◌≡◌, ◌==◌, ℕ, List, Bool, length, map, Option, None, Some, Result, Ok, is_some, ap, inr, refl, sym, ◌∙◌, subst}
-use Rattle.std.specs.Prelude.{IfSome}
+use Rattle.std.proofs.Common.{◌≡◌, ◌==◌, ℕ, List, Bool, true, false, [], ◌∷◌, length, map, Option, None, Some, Result, Ok, Err, is_some, ap, inl, inr, refl, sym, ◌∙◌, subst}
+use Rattle.std.specs.Prelude.{IfSome, IfOk, IfErr, MatchResult}
 use Rattle.std.proofs.lemmas.List.{length-map}
 use Rattle.std.specs.Borrow.{Bor}
+use Rattle.std.specs.Net.Text.{socket_text}
 use Rattle.std.specs.declared.net.SocketAddr.{SocketAddr}
 use Rattle.mq_client.specs.declared.spans.Spans.{Spans}
 use Rattle.mq_arguments.specs.declared.LimitArguments.{LimitArguments}
 use Rattle.mq_link.specs.declared.link.Told.{Told}
 use Rattle.mq_request.specs.Range.{IsRun}
 use Rattle.mq_request.specs.declared.message.Request.{Request}
+use Rattle.mq_process.specs.Faults.{process_status}
 use Rattle.mq_process.specs.Links.{AsksOver}
-use Rattle.mq_process.specs.Servers.{AsksEach, no_server, server}
+use Rattle.mq_process.specs.Servers.{AsksEach, AsksUntil, no, no_one, server, yes}
+use Rattle.mq_process.specs.Servers.{no_server as none_asked}
+use Rattle.mq_process.specs.Whom.{FindsAddress, IsWhom, servers_or}
 use Rattle.mq_process.specs.declared.asking.TheConstants.{TIMEOUT}
 use Rattle.mq_process.specs.declared.fault.ProcessFault.{ProcessFault}
-use Rattle.mq_remote.specs.Asked.{AsksAt, IsLimitBy, IsRunBy, SendsLimit, SendsLimitBy, SendsOrder}
-use Rattle.mq_remote.specs.Servers.{AsksAll, none_left, asks_one}
+use Rattle.mq_process.specs.declared.fault.ProcessFault.TheVariants.{Memory}
+use Rattle.mq_remote.specs.Asked.{AsksAt, IsLimitBy, IsRunBy, SendsLimit, SendsLimitBy}
+use Rattle.mq_command.specs.Orders.{PrintsLine}
+use Rattle.mq_remote.specs.Servers.{AsksAll, AsksToYes, asks_one, no_server, none_left, says_no, says_yes}
 
 -- what each call of this state brings was asked at each server
 all_asked : {F : Type 0} {Asks : F → SocketAddr → ℕ → F → Type 0} {At : SocketAddr → ℕ → Type 0} {is_alone : Bool} {last : F} {status : ℕ} (state : F)
     → ((address : SocketAddr) (said : ℕ) (after : F) → Asks state address said after → At address said × (after ≡ state))
     → (before : F) (texts : List (List ℕ)) (so_far : ℕ) → before ≡ state → AsksEach Asks is_alone last status before texts so_far → AsksAll At is_alone status texts so_far
-all_asked state each before texts so_far is no_server = none_left
+all_asked state each before texts so_far is none_asked = none_left
 all_asked {Asks = Asks} state each before texts so_far is (server before' after text others address so_far' told said spelled alone asked rest) =
     let one = each address said after (subst (λ b. Asks b address said after) is asked) in
     asks_one text others address so_far told said spelled alone one.0 (all_asked state each after others _ one.1 rest)
@@ -33,33 +39,58 @@ pub servers_asked : {F : Type 0} {Asks : F → SocketAddr → ℕ → F → Type
 servers_asked {At = At} {status = status} state texts each asked =
     subst (λ n. AsksAll At (n == 1) status (map (λ s. s.now) texts) 0) (sym (length-map texts (λ s. s.now))) (all_asked state each state _ _ refl asked)
 
--- and of the servers of the words
-pub those_asked : {At : SocketAddr → ℕ → Type 0} {status : ℕ} (texts servers : List (List ℕ)) → texts ≡ servers
-    → AsksAll At (length texts == 1) status texts 0 → AsksAll At (length servers == 1) status servers 0
-those_asked {At = At} {status = status} texts servers is asked = subst (λ l. AsksAll At (length l == 1) status l 0) is asked
+-- what each call of this state brings was asked at each server, up to the first that said yes
+asked_to_yes : {F : Type 0} {Asks : F → SocketAddr → Bool → F → Type 0} {At : SocketAddr → Bool → Type 0} {last : F} {result : Bool} (state : F)
+    → ((address : SocketAddr) (said : Bool) (after : F) → Asks state address said after → At address said × (after ≡ state))
+    → (before : F) (texts : List (List ℕ)) → before ≡ state → AsksUntil Asks last before texts result → AsksToYes At texts result
+asked_to_yes state each before texts is no_one = no_server
+asked_to_yes {Asks = Asks} {last = last} state each before texts is (yes before' text others address spelled asked) =
+    let one = each address true last (subst (λ b. Asks b address true last) is asked) in
+    says_yes text others address spelled one.0
+asked_to_yes {Asks = Asks} state each before texts is (no before' after text others address result spelled asked rest) =
+    let one = each address false after (subst (λ b. Asks b address false after) is asked) in
+    says_no text others address result spelled one.0 (asked_to_yes state each after others one.1 rest)
+
+-- the same of servers that are lent
+pub servers_to_yes : {F : Type 0} {Asks : F → SocketAddr → Bool → F → Type 0} {At : SocketAddr → Bool → Type 0} {last : F} {result : Bool} (state : F) (texts : List (List ℕ))
+    → ((address : SocketAddr) (said : Bool) (after : F) → Asks state address said after → At address said × (after ≡ state))
+    → AsksUntil Asks last state texts result → AsksToYes At texts result
+servers_to_yes state texts each asked = asked_to_yes state each state texts refl asked
+
+-- the servers of the words, or the one that was found
+pub whom_of : {F X : Type 0} (remaining : F → Option (List ℕ)) (named : Option X) (words given asked servers : List (List ℕ)) (found shown : List ℕ) → words ≡ given → shown ≡ found
+    → (words ≡ [] → (address : SocketAddr) × FindsAddress remaining named (Ok address) × (found ≡ socket_text address))
+    → servers ≡ servers_or shown words → asked ≡ servers → IsWhom remaining named given asked
+whom_of remaining named words [] asked servers found shown same text finds chosen is =
+    let it = finds same in
+    (it.0, it.1, is ∙ chosen ∙ ap (servers_or shown) same ∙ ap (λ t. t ∷ []) (text ∙ it.2))
+whom_of remaining named words (given ∷ more) asked servers found shown same text finds chosen is = is ∙ chosen ∙ ap (servers_or shown) same
 
 -- the run that is given, or another one
 pub run_by : (given : Option ℕ) (run : ℕ) (numbered : Result ℕ ProcessFault) → numbered ≡ Ok run → IfSome given (λ g. numbered ≡ Ok g) → IsRun run → IsRunBy given run
 run_by (Some g) run numbered was is in_range = let e = sym was ∙ is in cc
 run_by None run numbered was is in_range = in_range
 
+-- a server was asked, or memory ran out before
+pub asked_or_not : {L : Type 0} (leads : L → SocketAddr → ℕ → Type 0) (told : L → Option (List Told))
+    (Asks : ℕ → Option (List Told) → Option (List Told) → Option (List ℕ) → Option (List ℕ) → Type 0) (address : SocketAddr) (asked : Result ℕ ProcessFault) (said : ℕ)
+    → IfOk asked (λ status. AsksOver leads told address TIMEOUT (Asks status)) → IfErr asked (λ fault. fault ≡ Memory)
+    → MatchResult asked (λ status. said ≡ status) (λ fault. said ≡ process_status fault) → AsksAt leads told Asks address said
+asked_or_not leads told Asks address (Ok status) said over memory is = inr (subst (λ s. AsksOver leads told address TIMEOUT (Asks s)) (sym is) over)
+asked_or_not leads told Asks address (Err fault) said over memory is = inl (is ∙ ap (λ f. process_status f) memory)
+
 -- the limit of the words was sent, over a link that leads there
-pub limit_asked : {L : Type 0} (leads : L → SocketAddr → ℕ → Type 0) (told : L → Option (List Told)) (address : SocketAddr) (given : LimitArguments) (run : ℕ) (request : Request)
-    (is_given : Bool) (status : ℕ) → is_given ≡ is_some given.run → IsLimitBy given run request → AsksOver leads told address TIMEOUT (SendsLimit is_given request status)
-    → AsksAt leads told (SendsLimitBy given run) address status
-limit_asked leads told address given run request is_given status is by asked = inr (record {
+pub limit_asked : {L : Type 0} (leads : L → SocketAddr → ℕ → Type 0) (told : L → Option (List Told)) (address : SocketAddr) (given : LimitArguments) (day run : ℕ) (request : Request)
+    (is_given : Bool) (status : ℕ) → is_given ≡ is_some given.run → IsLimitBy given day run request → AsksOver leads told address TIMEOUT (SendsLimit is_given request status)
+    → AsksOver leads told address TIMEOUT (SendsLimitBy given day run status)
+limit_asked leads told address given day run request is_given status is by asked = record {
   link = asked.link;
   after = asked.after;
   output = asked.output;
   output' = asked.output';
   is_led = asked.is_led;
   asked = (request, by, subst (λ b. SendsLimit b request status (told asked.link) (told asked.after) asked.output asked.output') is asked.asked);
-})
-
--- an order was sent that is this one
-pub order_asked : {L : Type 0} (leads : L → SocketAddr → ℕ → Type 0) (told : L → Option (List Told)) (address : SocketAddr) (request order : Request) (status : ℕ) → request ≡ order
-    → AsksOver leads told address TIMEOUT (SendsOrder request status) → AsksOver leads told address TIMEOUT (SendsOrder order status)
-order_asked leads told address request order status is asked = subst (λ r. AsksOver leads told address TIMEOUT (SendsOrder r status)) is asked
+}
 
 -- another link that is this one leads there too
 pub led_by : {L : Type 0} (leads : L → SocketAddr → ℕ → Type 0) (link same : L) (address : SocketAddr) (timeout given : ℕ) → same ≡ link → timeout ≡ given → leads link address timeout
@@ -75,3 +106,8 @@ spans pause hold = record { pause = pause; hold = hold }
 pub spans_are : (pause hold seconds more : ℕ) → pause ≡ seconds → hold ≡ more → spans pause hold ≡ spans seconds more
 spans_are pause hold seconds more is_pause is_hold =
     ap (λ p. spans p hold) is_pause ∙ ap (λ h. spans seconds h) is_hold
+
+-- a line that couldn't be printed whole
+pub not_printed : (line : List ℕ) (old new : Option (List ℕ)) (status : ℕ) → (status ≡ 0 → ⊥) → PrintsLine line old new status → (status ≡ 1) × PrintsLine line old new 1
+not_printed line old new status never (inl whole) = absurd (never whole.0)
+not_printed line old new status never (inr front) = (front.0, inr (refl, front.1))

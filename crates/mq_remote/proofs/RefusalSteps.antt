@@ -1,8 +1,12 @@
 -- How an order ends where a word of it is at fault.
-use Rattle.std.proofs.Common.{◌≡◌, ℕ, List, Result, Ok, Err, subst, sym, ◌∙◌}
-use Rattle.std.specs.Prelude.{IsErrAnd}
+use Rattle.std.proofs.Common.{◌≡◌, ℕ, List, Option, None, Some, Result, Ok, Err, ap, subst, sym, ◌∙◌}
+use Rattle.std.specs.Prelude.{IfSome, IsErrAnd}
+use Rattle.mq_request.specs.Range.{IsHost}
+use Rattle.mq_arguments.specs.declared.ProbeArguments.{ProbeArguments}
+use Rattle.mq_arguments.specs.declared.ReportArguments.{ReportArguments}
+use Rattle.mq_arguments.specs.declared.RetireArguments.{RetireArguments}
 use Rattle.mq_arguments.specs.declared.LoginArgument.{LoginArgument}
-use Rattle.mq_process.specs.Refusals.{OrderRefuses}
+use Rattle.mq_process.specs.Refusals.{HasNoAddress, NamesLogin, OrderRefuses, ProbeRefuses, ReportRefuses, RetireRefuses}
 use Rattle.mq_process.specs.declared.fault.ProcessFault.{ProcessFault}
 use Rattle.mq_process.specs.declared.fault.ProcessFault.TheVariants.{Host, Login, Address}
 
@@ -23,3 +27,39 @@ order_refused host login texts servers checked fault (Ok status) same was is ref
 order_refused host login texts servers checked fault (Err other) same was is refuses =
     for_order host login servers (λ f. checked ≡ Err f) (λ f. Err other ≡ Err f) (λ f e. let same = sym was ∙ e in cc)
     (subst (λ s. OrderRefuses host login s (λ f. checked ≡ Err f)) same refuses)
+
+-- a word that is right isn't refused
+right_or : {X : Type 0} (word : Option X) (IsRight : X → Type 0) (Refused : Type 0) → IfSome word IsRight → IfSome word (λ w. (IsRight w → ⊥) → Refused)
+right_or None IsRight Refused is = is
+right_or (Some w) IsRight Refused is = λ no. absurd (no is)
+
+-- whatever a word is, it ends so
+whatever : {X : Type 0} (word : Option X) (Is : X → Type 0) (Ended : Type 0) → Ended → IfSome word (λ w. Is w → Ended)
+whatever None Is Ended ended = tt
+whatever (Some w) Is Ended ended = λ is. ended
+
+-- `status` whose words are right isn't refused
+pub probe_right : (given : ProbeArguments) (EndsBy : ProcessFault → Type 0) → IfSome given.host (λ host. IsHost host.now) → (HasNoAddress given.servers → ⊥) → ProbeRefuses given EndsBy
+probe_right given EndsBy host right = record {
+  bad_host = right_or given.host (λ h. IsHost h.now) (EndsBy Host) host;
+  bad_address = λ is no. absurd (right no);
+}
+
+-- nor is `report`
+pub report_right : (given : ReportArguments) (EndsBy : ProcessFault → Type 0) → IfSome given.login NamesLogin → (HasNoAddress given.servers → ⊥) → ReportRefuses given EndsBy
+report_right given EndsBy login right = record {
+  login = right_or given.login NamesLogin (EndsBy Login) login;
+  address = λ is no. absurd (right no);
+}
+
+by_address : (ended : Result ℕ ProcessFault) (fault : ProcessFault) → fault ≡ Address → IsErrAnd ended (λ f. f ≡ fault) → ended ≡ Err Address
+by_address (Ok status) fault is same = absurd same
+by_address (Err other) fault is same = ap Err (same ∙ is)
+
+-- `retire` ends by an address that is none
+pub retire_refused : (given : RetireArguments) (ended : Result ℕ ProcessFault) (fault : ProcessFault) → IfSome given.host (λ host. IsHost host.now) → fault ≡ Address
+    → IsErrAnd ended (λ f. f ≡ fault) → RetireRefuses given (λ f. ended ≡ Err f)
+retire_refused given ended fault host is same = record {
+  host = right_or given.host (λ h. IsHost h.now) (ended ≡ Err Host) host;
+  address = λ right. whatever given.server _ (ended ≡ Err Address) (by_address ended fault is same);
+}

@@ -1,31 +1,46 @@
 -- What quota servers are asked, by the words of a command: about which login and day, under which host and run, at which
 -- addresses.
-use Rattle.std.specs.Prelude.{◌≡◌, ◌⊎◌, ◌==◌, ℕ, List, length, Bool, true, false, is_some, Option, None, Some, Result, Ok}
+use Rattle.std.specs.Prelude.{◌≡◌, ◌⊎◌, ◌<◌, ◌==◌, ℕ, List, length, Bool, true, false, is_some, IsSomeAnd, option_map, unwrap_or}
+use Rattle.std.specs.Prelude.{Option, None, Some, Result, Ok, ⊤}
+use Rattle.std.specs.Borrow.{Bor}
 use Rattle.std.specs.Net.Grammar.{IsSocketText}
+use Rattle.std.specs.Net.Text.{socket_text}
 use Rattle.std.specs.declared.net.SocketAddr.{SocketAddr}
-use Rattle.mq_request.specs.Range.{IsRun}
+use Rattle.mq_request.specs.Range.{IsLogin, IsRun}
 use Rattle.mq_request.specs.declared.message.Request.{Request}
 use Rattle.mq_request.specs.declared.message.Request.TheVariants as asks
 use Rattle.mq_link.specs.declared.link.Told.{Told}
 use Rattle.mq_arguments.specs.declared.LoginArgument.{LoginArgument}
 use Rattle.mq_arguments.specs.declared.LimitArguments.{LimitArguments}
+use Rattle.mq_arguments.specs.declared.ProbeArguments.{ProbeArguments}
 use Rattle.mq_arguments.specs.declared.ReportArguments.{ReportArguments}
 use Rattle.mq_arguments.specs.declared.ResumeArguments.{ResumeArguments}
 use Rattle.mq_arguments.specs.declared.RetireArguments.{RetireArguments}
 use Rattle.mq_arguments.specs.declared.StopArguments.{StopArguments}
 use Rattle.mq_command.specs.Allowing.{resumed_line}
 use Rattle.mq_command.specs.Asking.{status_of}
-use Rattle.mq_command.specs.Orders.{Orders, OrdersFresh, Prints, word}
+use Rattle.mq_command.specs.Orders.{Orders, OrdersFresh, Prints, PrintsLine, word}
 use Rattle.mq_command.specs.Report.{Reports}
-use Rattle.mq_command.specs.Stopping.{GivesMore, Restores, Stops, restored_lines, stopped_lines}
+use Rattle.mq_command.specs.Stopping.{GivesMore, HasSent, Restores, RunsStop, restored_lines}
+use Rattle.mq_command.specs.Top.{ReportsTop, columns_line}
 use Rattle.mq_command.specs.declared.allow.Setter.{Setter}
 use Rattle.mq_command.specs.declared.order.OrderFault.{OrderFault}
 use Rattle.mq_command.specs.declared.report.ReportFault.{ReportFault}
+use Rattle.mq_command.specs.declared.stop.StopOrder.{StopOrder}
 use Rattle.mq_process.specs.Links.{AsksOver}
-use Rattle.mq_process.specs.Refusals.{Names, NamesOneOrAll}
-use Rattle.mq_process.specs.Today.{StopsFrom}
+use Rattle.mq_process.specs.Questions.{Puts}
+use Rattle.mq_process.specs.Refusals.{Names}
+use Rattle.mq_process.specs.Settings.{ReadsFilter}
+use Rattle.mq_process.specs.Today.{NamesDay, StopsFrom}
+use Rattle.mq_process.specs.Whom.{FindsAddress, IsWhom}
 use Rattle.mq_process.specs.declared.asking.TheConstants.{TIMEOUT}
-use Rattle.mq_remote.specs.Servers.{AsksAll}
+use Rattle.mq_process.specs.declared.probing.Question.{Question}
+use Rattle.mq_process.specs.declared.probing.Question.TheVariants.{Status, Host}
+use Rattle.mq_remote.specs.Servers.{AsksAll, AsksToYes}
+use Rattle.mq_remote.specs.declared.subcommands.report.Reported.{Reported}
+use Rattle.mq_remote.specs.declared.subcommands.report.Reported.TheVariants.{One, Top, All}
+use Rattle.mq_remote.specs.declared.subcommands.retire.Target.{Target}
+use Rattle.mq_settings.specs.declared.settings.FilterSettings.{FilterSettings}
 
 -- the run that is given, or another in range where none is
 abbrev pub IsRunBy : Option ℕ → ℕ → Type 0
@@ -47,13 +62,30 @@ abbrev pub SendsOrder : Request → ℕ → Option (List Told) → Option (List 
 SendsOrder request status old new output output' =
     (sent : Result (Unit {0}) OrderFault) × Orders request old new sent × Prints (λ _. word request) output output' sent status
 
+-- ---- `status` of addresses
+
+-- whether the server answers, or whether it takes the requests of the host of the words, too, at a time in range
+abbrev pub AsksAbout : Option (List ℕ) → Question → Type 0
+AsksAbout None question = question ≡ Status
+AsksAbout (Some host) question = (lent : Bor (List ℕ)) × (now : ℕ) × (question ≡ Host lent now) × (lent.now ≡ host) × IsRun now
+
+-- what `status` of addresses asks: each server the same, once
+pub record AsksProbe {L F : Type 0} (leads : L → SocketAddr → ℕ → Type 0) (told : L → Option (List Told))
+    (remaining : F → Option (List ℕ)) (given : ProbeArguments) (status : ℕ) : Type 0 where
+  pub servers : List (List ℕ)
+  pub whom : IsWhom {X = Bor (List ℕ)} remaining None given.servers servers
+  pub question : Question
+  pub about : AsksAbout (option_map (λ host. host.now) given.host) question
+  pub asked : AsksAll (λ address. AsksAt leads told (Puts (socket_text address) question) address)
+      (length servers == 1) status servers 0
+
 -- ---- `limit`
 
--- the limit that the words ask for, under the first number of this run
-pub record IsLimitBy (given : LimitArguments) (run : ℕ) (request : Request) : Type 0 where
+-- the limit that the words ask for, from this day on, under the first number of this run
+pub record IsLimitBy (given : LimitArguments) (day run : ℕ) (request : Request) : Type 0 where
   pub login : List ℕ
   pub named : Names given.login login
-  pub is : request ≡ asks.Limit (record { host = given.host.now; run = run; number = 1 }) given.from given.cap login
+  pub is : request ≡ asks.Limit (record { host = given.host.now; run = run; number = 1 }) day given.cap login
 
 -- it was sent: under its number alone where the words give that, else under the first one that isn't used
 abbrev pub SendsLimit : Bool → Request → ℕ → Option (List Told) → Option (List Told) → Option (List ℕ) → Option (List ℕ) → Type 0
@@ -62,16 +94,20 @@ SendsLimit false request status old new output output' =
     (sent : Result (Unit {0}) OrderFault) × OrdersFresh request old new sent × Prints (λ _. word request) output output' sent status
 
 -- that of the words was sent
-abbrev pub SendsLimitBy : LimitArguments → ℕ → ℕ → Option (List Told) → Option (List Told) → Option (List ℕ) → Option (List ℕ) → Type 0
-SendsLimitBy given run status old new output output' =
-    (request : Request) × IsLimitBy given run request × SendsLimit (is_some given.run) request status old new output output'
+abbrev pub SendsLimitBy : LimitArguments → ℕ → ℕ → ℕ → Option (List Told) → Option (List Told) → Option (List ℕ) → Option (List ℕ) → Type 0
+SendsLimitBy given day run status old new output output' =
+    (request : Request) × IsLimitBy given day run request × SendsLimit (is_some given.run) request status old new output output'
 
 -- what `limit` asks: of each server the same
-pub record AsksLimit {L : Type 0} (leads : L → SocketAddr → ℕ → Type 0) (told : L → Option (List Told))
-    (given : LimitArguments) (status : ℕ) : Type 0 where
+pub record AsksLimit {L F : Type 0} (leads : L → SocketAddr → ℕ → Type 0) (told : L → Option (List Told))
+    (remaining : F → Option (List ℕ)) (given : LimitArguments) (status : ℕ) : Type 0 where
+  pub servers : List (List ℕ)
+  pub whom : IsWhom remaining given.config given.servers servers
+  pub day : ℕ
+  pub from : NamesDay remaining given.from day
   pub run : ℕ
   pub is_run : IsRunBy given.run run
-  pub asked : AsksEachOf leads told (SendsLimitBy given run) given.servers status
+  pub asked : AsksEachOf leads told (SendsLimitBy given day run) servers status
 
 -- ---- `stop` and `resume`
 
@@ -81,22 +117,30 @@ pub record IsSetterBy (host : List ℕ) (login : LoginArgument) (setter : Setter
   pub in_run : IsRun setter.run
   pub named : Names login setter.login
 
--- the login was to be stopped from this day on
-abbrev pub StopsThere : Setter → ℕ → Bool → ℕ → Option (List Told) → Option (List Told) → Option (List ℕ) → Option (List ℕ) → Type 0
-StopsThere setter day meant status old new output output' =
-    (ended : _) × Stops setter day meant old new ended
-    × Prints (λ stopped. stopped_lines setter.login stopped day) output output' ended status
+-- the server at an address was asked whether this login used something on this day or one of the two before
+abbrev pub UseAt : {L : Type 0} → (L → SocketAddr → ℕ → Type 0) → (L → Option (List Told)) → List ℕ → ℕ → SocketAddr → Bool → Type 0
+UseAt leads told login day address said =
+    AsksOver leads told address TIMEOUT (λ old new output output'. HasSent login day old new said)
+
+-- Whether a login is meant at each of these servers: it is said so, or one of several was asked, and the first of them that knows
+-- that it used something on this day or one of the two before says so. Of one server alone nothing is asked beforehand.
+abbrev pub IsMeant : {L : Type 0} → (L → SocketAddr → ℕ → Type 0) → (L → Option (List Told)) → List ℕ → ℕ → Bool → List (List ℕ) → Bool → Type 0
+IsMeant leads told login day true servers meant = meant ≡ true
+IsMeant leads told login day false servers meant =
+    ((length servers < 2) × (meant ≡ false)) ⊎ ((1 < length servers) × AsksToYes (UseAt leads told login day) servers meant)
 
 -- what `stop` asks: of each server the same, from the day on that the words or the clock say
 pub record AsksStop {L F : Type 0} (leads : L → SocketAddr → ℕ → Type 0) (told : L → Option (List Told))
     (remaining : F → Option (List ℕ)) (given : StopArguments) (status : ℕ) : Type 0 where
+  pub servers : List (List ℕ)
+  pub whom : IsWhom remaining given.config given.servers servers
   pub setter : Setter
   pub is_setter : IsSetterBy given.host.now given.login setter
-  pub day : ℕ
-  pub from : StopsFrom remaining given.config given.is_forced given.day (Ok day)
-  pub meant : Bool
-  pub forced : given.is_forced ≡ true → meant ≡ true
-  pub asked : AsksEachOf leads told (StopsThere setter day meant) given.servers status
+  pub order : StopOrder
+  pub from : StopsFrom remaining given.config given.is_forced given.day (Ok order.day)
+  pub meant : IsMeant leads told setter.login order.day given.is_forced servers order.is_meant
+  pub all : order.is_all ≡ given.is_all
+  pub asked : AsksEachOf leads told (RunsStop setter order) servers status
 
 -- the login was to have so many more from this day on, or the limit that it had
 abbrev pub ResumesThere : Setter → ℕ → Option ℕ → ℕ → Option (List Told) → Option (List Told) → Option (List ℕ) → Option (List ℕ) → Type 0
@@ -108,34 +152,91 @@ ResumesThere setter day None status old new output output' =
     × Prints (λ restored. restored_lines setter.login restored day) output output' ended status
 
 -- what `resume` asks: of each server the same
-pub record AsksResume {L : Type 0} (leads : L → SocketAddr → ℕ → Type 0) (told : L → Option (List Told))
-    (given : ResumeArguments) (status : ℕ) : Type 0 where
+pub record AsksResume {L F : Type 0} (leads : L → SocketAddr → ℕ → Type 0) (told : L → Option (List Told))
+    (remaining : F → Option (List ℕ)) (given : ResumeArguments) (status : ℕ) : Type 0 where
+  pub servers : List (List ℕ)
+  pub whom : IsWhom remaining given.config given.servers servers
   pub setter : Setter
   pub is_setter : IsSetterBy given.host.now given.login setter
-  pub asked : AsksEachOf leads told (ResumesThere setter given.day given.cap) given.servers status
+  pub day : ℕ
+  pub from : NamesDay remaining given.day day
+  pub asked : AsksEachOf leads told (ResumesThere setter day given.cap) servers status
 
 -- ---- `retire`
 
+-- the address that the words spell, or none where they name none
+abbrev pub IsAddressBy : Option (List ℕ) → Option SocketAddr → Type 0
+IsAddressBy None found = found ≡ None
+IsAddressBy (Some text) found = IsSomeAnd found (IsSocketText text)
+
+-- the address that is given, or else the one that settings have
+abbrev pub IsAddressOr : {F X : Type 0} → (F → Option (List ℕ)) → Option X → Option SocketAddr → SocketAddr → Type 0
+IsAddressOr remaining named (Some given) address = address ≡ given
+IsAddressOr remaining named None address = FindsAddress remaining named (Ok address)
+
+-- the host of a filter's settings, at the address that is given, or else at their server's
+abbrev pub IsTargetOfFilter : {F : Type 0} → (F → Option (List ℕ)) → Option SocketAddr → Target → Type 0
+IsTargetOfFilter remaining given target =
+    (settings : FilterSettings) × ReadsFilter remaining (Ok settings) × (target.host ≡ settings.host)
+    × (target.address ≡ unwrap_or given settings.server)
+
+-- the host of the words, or else that of a filter's settings, and where its runs are given up
+abbrev pub IsTarget : {F X : Type 0} → (F → Option (List ℕ)) → Option X → Option (List ℕ) → Option SocketAddr → Target → Type 0
+IsTarget remaining named (Some host) given target = (target.host ≡ host) × IsAddressOr remaining named given target.address
+IsTarget remaining named None given target = IsTargetOfFilter remaining given target
+
 -- what `retire` asks: that the runs of the host below this one are given up
-pub record AsksRetire {L : Type 0} (leads : L → SocketAddr → ℕ → Type 0) (told : L → Option (List Told))
-    (given : RetireArguments) (status : ℕ) : Type 0 where
+pub record AsksRetire {L F : Type 0} (leads : L → SocketAddr → ℕ → Type 0) (told : L → Option (List Told))
+    (remaining : F → Option (List ℕ)) (given : RetireArguments) (status : ℕ) : Type 0 where
   pub run : ℕ
   pub is_run : IsRunBy given.run run
-  pub address : SocketAddr
-  pub spelled : IsSocketText given.server.now address
-  pub asked : AsksOver leads told address TIMEOUT
-      (SendsOrder (asks.Retire (record { host = given.host.now; run = run; number = 1 })) status)
+  pub server : Option SocketAddr
+  pub spelled : IsAddressBy (option_map (λ text. text.now) given.server) server
+  pub target : Target
+  pub is_target : IsTarget remaining given.config (option_map (λ host. host.now) given.host) server target
+  pub asked : AsksOver leads told target.address TIMEOUT
+      (SendsOrder (asks.Retire (record { host = target.host; run = run; number = 1 })) status)
 
 -- ---- `report`
 
--- what the login, or all, used on the day was asked, and printed
-abbrev pub ReportsThere : ℕ → Option (List ℕ) → ℕ → Option (List Told) → Option (List Told) → Option (List ℕ) → Option (List ℕ) → Type 0
-ReportsThere day login status old new output output' =
-    (ended : Result (Unit {0}) ReportFault) × (status ≡ status_of ended) × Reports day login old new output output' ended
+-- the logins that the words name: one, or so many of those that used most, or all
+abbrev pub NamesReported : Option LoginArgument → Option ℕ → Reported → Type 0
+NamesReported (Some given) top (One login) = Names given login
+NamesReported None (Some count) (Top number) = number ≡ count
+NamesReported None None All = ⊤
+NamesReported _ _ _ = ⊥
+
+-- a login that is reported alone is in range
+abbrev pub IsReported : Reported → Type 0
+IsReported (One login) = IsLogin login
+IsReported _ = ⊤
+
+-- how what was asked of these logins and the day is printed
+abbrev pub ReportsOf : ℕ → Reported → Option (List Told) → Option (List Told) → Option (List ℕ) → Option (List ℕ)
+    → Result (Unit {0}) ReportFault → Type 0
+ReportsOf day (One login) = Reports day (Some login)
+ReportsOf day (Top count) = ReportsTop day count
+ReportsOf day All = Reports day None
+
+-- what these logins used on the day was asked, and printed
+abbrev pub ReportsRows : ℕ → Reported → ℕ → Option (List Told) → Option (List Told) → Option (List ℕ) → Option (List ℕ) → Type 0
+ReportsRows day reported status old new output output' =
+    (ended : Result (Unit {0}) ReportFault) × (status ≡ status_of ended) × ReportsOf day reported old new output output' ended
+
+-- the same, below a line of columns where that is wanted; where that can't be printed, nothing is asked
+abbrev pub ReportsThere : ℕ → Reported → Bool → ℕ → Option (List Told) → Option (List Told) → Option (List ℕ) → Option (List ℕ) → Type 0
+ReportsThere day reported false status old new output output' = ReportsRows day reported status old new output output'
+ReportsThere day reported true status old new output output' =
+    ((headed : Option (List ℕ)) × PrintsLine columns_line output headed 0 × ReportsRows day reported status old new headed output')
+    ⊎ ((status ≡ 1) × PrintsLine columns_line output output' 1 × (new ≡ old))
 
 -- what `report` asks: of each server the same
-pub record AsksReport {L : Type 0} (leads : L → SocketAddr → ℕ → Type 0) (told : L → Option (List Told))
-    (given : ReportArguments) (status : ℕ) : Type 0 where
-  pub login : Option (List ℕ)
-  pub named : NamesOneOrAll given.login login
-  pub asked : AsksEachOf leads told (ReportsThere given.day login) given.servers status
+pub record AsksReport {L F : Type 0} (leads : L → SocketAddr → ℕ → Type 0) (told : L → Option (List Told))
+    (remaining : F → Option (List ℕ)) (given : ReportArguments) (columns : Bool) (status : ℕ) : Type 0 where
+  pub servers : List (List ℕ)
+  pub whom : IsWhom remaining given.config given.servers servers
+  pub day : ℕ
+  pub on : NamesDay remaining given.day day
+  pub reported : Reported
+  pub named : NamesReported given.login given.top reported
+  pub asked : AsksEachOf leads told (ReportsThere day reported columns) servers status

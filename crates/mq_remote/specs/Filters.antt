@@ -1,6 +1,8 @@
 -- What the filter runs by: the settings of its file, and its run.
-use Rattle.std.specs.Prelude.{◌≡◌, ◌⊎◌, ℕ, List, [], Bool, true, false, Option, Result, Ok, Err, ⊤}
+use Rattle.std.specs.Prelude.{◌≡◌, ◌⊎◌, ℕ, List, [], Bool, true, false, Option, Result, Ok, Err}
+use Rattle.std.specs.Net.Text.{socket_text}
 use Rattle.std.specs.declared.net.SocketAddr.{SocketAddr}
+use Rattle.mq_request.specs.Range.{IsRun}
 use Rattle.mq_link.specs.declared.link.Told.{Told}
 use Rattle.mq_arguments.specs.declared.FilterArguments.{FilterArguments}
 use Rattle.mq_settings.specs.declared.settings.FilterSettings.{FilterSettings}
@@ -8,6 +10,7 @@ use Rattle.mq_client.specs.Past.{StandsAt, State}
 use Rattle.mq_client.specs.Run.{EndsWith, StopsAt, around}
 use Rattle.mq_client.specs.declared.fault.FilterFault.{FilterFault}
 use Rattle.mq_client.specs.declared.filter.Ended.{Ended}
+use Rattle.mq_command.specs.Probing.{Checks}
 use Rattle.mq_process.specs.Links.{AsksOver}
 use Rattle.mq_process.specs.Settings.{ReadsFilter}
 use Rattle.mq_process.specs.declared.fault.ProcessFault.{ProcessFault}
@@ -62,10 +65,19 @@ abbrev pub FiltersNumbered : {L : Type 0} → (L → SocketAddr → ℕ → Type
 FiltersNumbered leads told given settings ended =
     (ended ≡ Err (Process NoRun)) ⊎ ((run : ℕ) × IsRunBy given run × FiltersRun leads told settings run ended)
 
--- what `filter` does by the settings that were read, unless it only checks them
+-- what `filter --check` asks: whether the server of the settings takes the requests of their host, at a time in range, where
+-- that can be had
+abbrev pub ChecksServer : {L : Type 0} → (L → SocketAddr → ℕ → Type 0) → (L → Option (List Told)) → FilterSettings
+    → Result ℕ FilterEnd → Type 0
+ChecksServer leads told settings (Ok status) =
+    (now : ℕ) × IsRun now × AsksOver leads told settings.server settings.timeout
+    (λ old new output output'. Checks (socket_text settings.server) settings.host now old new output output' status)
+ChecksServer leads told settings (Err fault) = (fault ≡ Process NoRun) ⊎ (fault ≡ Process Memory)
+
+-- what `filter` does by the settings that were read: it runs, or only checks them
 abbrev pub FiltersBy : {L : Type 0} → (L → SocketAddr → ℕ → Type 0) → (L → Option (List Told)) → Bool → Option ℕ
     → FilterSettings → Result ℕ FilterEnd → Type 0
-FiltersBy leads told true given settings ended = ⊤
+FiltersBy leads told true given settings ended = ChecksServer leads told settings ended
 FiltersBy leads told false given settings ended = FiltersNumbered leads told given settings ended
 
 -- what `filter` does: it reads a file of settings, and ends by what is wrong with it, or does what they and the words say

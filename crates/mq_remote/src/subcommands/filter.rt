@@ -2,7 +2,7 @@
 ghost use Rattle.std.specs.Prelude.{◌↔◌, ◌<◌, ◌*◌, ℕ, IfOk, IfSome, IsTrue, List, Option};
 ghost use Rattle.mq_request.specs.Range.{IsRun};
 ghost use Rattle.mq_process.specs.Settings.{CanAsk};
-ghost use Rattle.mq_remote.specs.Filters.{AnswersLines, Begins, FiltersBy, FiltersFile, FiltersNumbered, FiltersRun};
+ghost use Rattle.mq_remote.specs.Filters.{AnswersLines, Begins, ChecksServer, FiltersBy, FiltersFile, FiltersNumbered, FiltersRun};
 
 use crate::fault::FilterEnd;
 use log::sink::Console;
@@ -18,12 +18,11 @@ use mq_tcp::LoggedLink;
 use std::alloc::{AllocError, Global};
 use std::io;
 use std::io::Write;
-use std::net::Net;
 use std::rt::{Clock, Files};
 
 /// Runs the filter until its input ends: the settings first, then the clock. With `check` it reads no input, and only asks
 /// whether the server of its settings takes the requests of its host.
-pub fn filter<R: Files + Clock + Net + Input + Print + Eprint + AllocGlobal, D: Dial, E: Write>(
+pub fn filter<R: Files + Clock + Input + Print + Eprint + AllocGlobal, D: Dial, E: Write>(
     rt: &R,
     dial: &D,
     given: FilterArguments<'_>,
@@ -39,7 +38,7 @@ pub fn filter<R: Files + Clock + Net + Input + Print + Eprint + AllocGlobal, D: 
 }
 
 /// Runs the filter by its settings, or only asks whether their server answers.
-fn filter_by<R: Clock + Net + Input + Print + Eprint + AllocGlobal, D: Dial, E: Write>(
+fn filter_by<R: Clock + Input + Print + Eprint + AllocGlobal, D: Dial, E: Write>(
     rt: &R,
     dial: &D,
     settings: &FilterSettings,
@@ -52,7 +51,7 @@ fn filter_by<R: Clock + Net + Input + Print + Eprint + AllocGlobal, D: Dial, E: 
     ensures { FiltersBy D.leads D.Link.told check run settings.now result }
 {
     if check {
-        return check_server(rt, settings, errors);
+        return check_server(rt, dial, settings, errors);
     }
     run_numbered(rt, dial, settings, run)
 }
@@ -75,16 +74,18 @@ fn run_numbered<R: Clock + Input + Print + Eprint + AllocGlobal, D: Dial>(
 }
 
 /// Asks once whether the server of the settings takes the requests of their host, and prints how long the filter holds back.
-fn check_server<R: Clock + Net + Print + Eprint + AllocGlobal, E: Write>(
+fn check_server<R: Clock + Print + Eprint + AllocGlobal, D: Dial, E: Write>(
     rt: &R,
+    dial: &D,
     settings: &FilterSettings,
     errors: &mut E,
 ) -> Result<u8, FilterEnd>
     requires { CanAsk settings.now }
+    ensures { ChecksServer D.leads D.Link.told settings.now result }
 {
     let timeout = u64::from(settings.timeout);
     let question = Question::Check(&settings.host, run_number(rt, None)?);
-    let status = ask_once(rt, settings.server, timeout, question, errors)?;
+    let status = ask_once(rt, dial, settings.server, timeout, question, errors)?;
     tell_spans(rt, settings);
     Ok(status)
 }

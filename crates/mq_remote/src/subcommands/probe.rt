@@ -1,22 +1,27 @@
 //! `status --server`: whether quota servers answer, and whether they take a host's requests.
-ghost use Rattle.std.specs.Prelude.{◌≡◌, Err, IfOk, IfSome};
+ghost use Rattle.std.specs.Prelude.{◌≡◌, Err, IfOk, IfSome, option_map};
+ghost use Rattle.std.specs.Net.Text.{socket_text};
 ghost use Rattle.mq_request.specs.Range.{IsHost};
+ghost use Rattle.mq_process.specs.Questions.{IsQuestion, Puts};
 ghost use Rattle.mq_process.specs.Refusals.{ProbeRefuses};
+ghost use Rattle.mq_remote.specs.Asked.{AsksAbout, AsksAt, AsksProbe};
 
 use mq_arguments::ProbeArguments;
 use mq_process::{
-    ProcessFault, Question, ask_each, check_addresses, end_process, probe, run_number,
+    Dial, ProcessFault, Question, ask_each, check_addresses, end_process, found_server, probe,
+    run_number, servers_or,
 };
 use mq_request::{Host, is_host};
 use std::alloc::{AllocError, Global};
 use std::io::Write;
-use std::net::Net;
-use std::rt::Clock;
+use std::net::SocketAddr;
+use std::rt::{Clock, Files};
 
 /// The host that is asked about, where one is given.
 fn host_of(alloc: Global, given: Option<&str>) -> Result<Option<Host>, AllocError>
     requires { IfSome given (λ text. IsHost text.now) }
-    ensures { IfOk result (λ host. IfSome host IsHost) }
+    ensures named { IfOk result (λ host. host ≡ option_map (λ text. text.now) given.entry) }
+    ensures in_range { IfOk result (λ host. IfSome host IsHost) }
 {
     match given {
         Some(text) => Ok(Some(Host::from_slice(alloc, text.as_bytes())?)),
@@ -24,26 +29,57 @@ fn host_of(alloc: Global, given: Option<&str>) -> Result<Option<Host>, AllocErro
     }
 }
 
+/// What each server is asked: whether it answers, and whether it takes the requests of this host now, where one is given.
+fn question_of<'a>(rt: &impl Clock, host: Option<&'a Host>) -> Result<Question<'a>, ProcessFault>
+    requires { IfSome host (λ host. IsHost host.now) }
+    ensures about { IfOk result (AsksAbout (option_map (λ host. host.now) host.entry)) }
+    ensures in_range { IfOk result IsQuestion }
+{
+    match host {
+        Some(host) => Ok(Question::Host(host, run_number(rt, None)?)),
+        None => Ok(Question::Status),
+    }
+}
+
 /// `status` of addresses: asks the server at each once, and prints that it answers, and that it takes the requests of the host
 /// that is given. The status is 1 where one doesn't.
-pub fn probe_servers<R: Clock + Net + Print + Eprint + AllocGlobal, E: Write>(
+pub fn probe_servers<R: Files + Clock + Print + Eprint + AllocGlobal, D: Dial, E: Write>(
     rt: &R,
+    dial: &D,
     given: ProbeArguments<'_>,
     errors: &mut E,
 ) -> Result<u8, ProcessFault>
-    ensures { ProbeRefuses given.entry (λ fault. result ≡ Err fault) }
+    ensures refuses { ProbeRefuses given.entry (λ fault. result ≡ Err fault) }
+    ensures asks { IfOk result (AsksProbe D.leads D.Link.told R.File.remaining given.entry) }
 {
     if !given.host.is_none_or(|host| is_host(host.as_bytes())) {
         return Err(ProcessFault::Host);
     }
-    let servers = given.servers.as_slice();
-    check_addresses(rt, servers)?;
+    let words = given.servers.as_slice();
+    check_addresses(rt, words)?;
+    let found = found_server(rt, words, None)?;
+    let chosen = servers_or(rt.alloc(), words, found.as_str())?;
+    let servers = chosen.as_slice();
     let host = host_of(rt.alloc(), given.host)?;
-    let question = match &host {
-        Some(host) => Question::Host(host, run_number(rt, None)?),
-        None => Question::Status,
-    };
-    Ok(ask_each(rt, servers, errors, |address, errors| {
-        end_process(probe(rt, address, question, errors), errors)
-    }))
+    let question = question_of(rt, host.as_ref())?;
+    Ok(ask_each(
+        rt,
+        servers,
+        errors,
+        |address, errors| probe_at(rt, dial, address, question, errors),
+    ))
+}
+
+/// Puts the question to the server at this address, and prints what comes of it. Where memory runs out it isn't asked.
+fn probe_at<R: Print + Eprint + AllocGlobal, D: Dial, E: Write>(
+    rt: &R,
+    dial: &D,
+    address: SocketAddr,
+    question: Question<'_>,
+    errors: &mut E,
+) -> u8
+    requires { IsQuestion question }
+    ensures { AsksAt D.leads D.Link.told (Puts (socket_text address) question.entry) address result }
+{
+    end_process(probe(rt, dial, address, question, errors), errors)
 }

@@ -1,101 +1,179 @@
 //! `report`: prints what logins used on a day.
 ghost use Rattle.std.specs.Prelude.{◌≡◌, Err, IfErr, IfOk, IfSome};
-ghost use Rattle.mq_request.specs.Range.{IsDay, IsLogin};
+ghost use Rattle.mq_request.specs.Range.{IsDay, IsLogin, IsWithin};
+ghost use Rattle.mq_arguments.specs.Arguments.{IsReportArguments};
 ghost use Rattle.mq_process.specs.Links.{AsksOver};
-ghost use Rattle.mq_process.specs.Refusals.{NamesLogin, NamesOneOrAll, ReportRefuses};
-ghost use Rattle.mq_remote.specs.Asked.{AsksAt, AsksReport, ReportsThere};
+ghost use Rattle.mq_process.specs.Refusals.{NamesLogin, ReportRefuses};
+ghost use Rattle.mq_remote.specs.Asked.{AsksAt, AsksReport, IsReported, NamesReported, ReportsRows, ReportsThere};
 
 use log::sink::Console;
 use log::{LevelFilter, Logged};
 use mq_arguments::{LoginArgument, ReportArguments};
-use mq_command::run_report;
+use mq_command::{print_columns, run_report, run_top};
+use mq_link::Link;
 use mq_process::{
-    Dial, ProcessFault, TIMEOUT, ask_each, check_addresses, end_process, link_to, login_of,
-    names_login,
+    Dial, ProcessFault, TIMEOUT, ask_each, check_addresses, day_named, end_process, found_server,
+    link_to, login_of, names_login, servers_or,
 };
 use mq_request::Login;
+use mq_request::bounds::LAST_DAY;
 use std::alloc::Global;
 use std::io;
 use std::io::{BufWriter, Write};
 use std::net::SocketAddr;
+use std::rt::{Clock, Files};
 
-/// The login that is reported alone, where one is given.
-fn one_login_of(
+/// Which logins are reported.
+#[derive(Drop)]
+pub enum Reported {
+    /// This one.
+    One(Login),
+    /// So many of those that used most, 1 to 1,000,000.
+    Top(u32),
+    /// All.
+    All,
+}
+
+/// The logins that the words name.
+fn reported_of(
     alloc: Global,
     given: Option<LoginArgument<'_>>,
-) -> Result<Option<Login>, ProcessFault>
+    top: Option<u32>,
+) -> Result<Reported, ProcessFault>
     requires { IfSome given NamesLogin }
-    ensures named { IfOk result (NamesOneOrAll given.entry) }
-    ensures in_range { IfOk result (λ login. IfSome login IsLogin) }
+    ensures named { IfOk result (NamesReported given.entry top) }
+    ensures in_range { IfOk result IsReported }
 {
-    match given {
-        None => Ok(None),
-        Some(login) => Ok(Some(login_of(alloc, login)?)),
+    match (given, top) {
+        (Some(login), _) => Ok(Reported::One(login_of(alloc, login)?)),
+        (None, Some(count)) => Ok(Reported::Top(count)),
+        (None, None) => Ok(Reported::All),
     }
 }
 
-/// `report`: prints what one login, or all, used on a day.
-pub fn report<R: Print + Eprint + AllocGlobal, D: Dial, E: Write>(
+/// `report`: prints what one login, or all, or those that used most, used on a day. With `has_columns` a line above says what the
+/// columns are.
+pub fn report<R: Files + Clock + Print + Eprint + AllocGlobal, D: Dial, E: Write>(
     rt: &R,
     dial: &D,
     given: ReportArguments<'_>,
+    has_columns: bool,
     errors: &mut E,
 ) -> Result<u8, ProcessFault>
-    requires { IsDay given.day }
+    requires { IsReportArguments given }
     ensures refuses { ReportRefuses given.entry (λ fault. result ≡ Err fault) }
-    ensures asks { IfOk result (AsksReport D.leads D.Link.told given.entry) }
+    ensures asks { IfOk result (AsksReport D.leads D.Link.told R.File.remaining given.entry has_columns) }
 {
     if !given.login.is_none_or(|login| names_login(login)) {
         return Err(ProcessFault::Login);
     }
-    let servers = given.servers.as_slice();
-    check_addresses(rt, servers)?;
-    let login = one_login_of(rt.alloc(), given.login)?;
-    let day = given.day;
+    let words = given.servers.as_slice();
+    check_addresses(rt, words)?;
+    let found = found_server(rt, words, given.config)?;
+    let chosen = servers_or(rt.alloc(), words, found.as_str())?;
+    let servers = chosen.as_slice();
+    let day = day_named(rt, given.day, given.config, LAST_DAY)?;
+    let reported = reported_of(rt.alloc(), given.login, given.top)?;
     Ok(ask_each(
         rt,
         servers,
         errors,
-        |address, errors| report_at(rt, dial, address, day, &login, errors),
+        |address, errors| report_at(rt, dial, address, day, &reported, has_columns, errors),
     ))
 }
 
-/// Asks the server at this address what one login, or all, used on a day, and prints it. Where memory runs out it isn't asked.
+/// Asks the server at this address what these logins used on a day, and prints it. Where memory runs out it isn't asked.
 fn report_at<R: Print + Eprint + AllocGlobal, D: Dial, E: Write>(
     rt: &R,
     dial: &D,
     address: SocketAddr,
     day: u32,
-    login: &Option<Login>,
+    reported: &Reported,
+    has_columns: bool,
     errors: &mut E,
 ) -> u8
     requires day { IsDay day }
-    requires login { IfSome login.now IsLogin }
-    ensures { AsksAt D.leads D.Link.told (ReportsThere day login.now) address result }
+    requires reported { IsReported reported.now }
+    ensures { AsksAt D.leads D.Link.told (ReportsThere day reported.now has_columns) address result }
 {
-    match ask_report(rt, dial, address, day, login, errors) {
-        Ok(status) => status,
-        Err(fault) => end_process(Err(fault), errors),
-    }
+    end_process(
+        ask_report(rt, dial, address, day, reported, has_columns, errors),
+        errors,
+    )
 }
 
-/// Asks the server at this address what one login, or all, used on a day, and prints it.
+/// Asks the server at this address what these logins used on a day, and prints it.
 fn ask_report<R: Print + Eprint + AllocGlobal, D: Dial, E: Write>(
     rt: &R,
     dial: &D,
     address: SocketAddr,
     day: u32,
-    login: &Option<Login>,
+    reported: &Reported,
+    has_columns: bool,
     errors: &mut E,
 ) -> Result<u8, ProcessFault>
     requires day { IsDay day }
-    requires login { IfSome login.now IsLogin }
-    ensures asks { IfOk result (λ status. AsksOver D.leads D.Link.told address TIMEOUT (ReportsThere day login.now status)) }
+    requires reported { IsReported reported.now }
+    ensures asks { IfOk result (λ status. AsksOver D.leads D.Link.told address TIMEOUT
+        (ReportsThere day reported.now has_columns status)) }
     ensures memory { IfErr result (λ fault. fault ≡ ProcessFault.Memory) }
 {
     let mut output = BufWriter::new(rt.alloc(), io::writer(rt)).map_err(|_| ProcessFault::Memory)?;
     let logged = Logged::new(rt, LevelFilter::Error, Console(rt));
     let mut link = link_to(dial, address, &logged);
-    let login = login.as_ref();
-    Ok(run_report(rt.alloc(), &mut link, day, login, &mut output, errors))
+    Ok(report_over(
+        rt.alloc(),
+        &mut link,
+        day,
+        reported,
+        has_columns,
+        &mut output,
+        errors,
+    ))
+}
+
+/// Asks over a link what these logins used on a day, and prints it, below a line that says what the columns are, where that is
+/// wanted.
+fn report_over<L: Link, W: Write, E: Write>(
+    alloc: Global,
+    link: &mut L,
+    day: u32,
+    reported: &Reported,
+    has_columns: bool,
+    output: &mut W,
+    errors: &mut E,
+) -> u8
+    requires day { IsDay day }
+    requires reported { IsReported reported.now }
+    ensures { ReportsThere day reported.now has_columns result (L.told link.old) (L.told link.new) (W.contents output.old)
+        (W.contents output.new) }
+{
+    if has_columns {
+        let printed = print_columns(output, errors);
+        if printed != 0 {
+            return printed;
+        }
+    }
+    report_rows(alloc, link, day, reported, output, errors)
+}
+
+/// Asks over a link what these logins used on a day, and prints it.
+fn report_rows<L: Link, W: Write, E: Write>(
+    alloc: Global,
+    link: &mut L,
+    day: u32,
+    reported: &Reported,
+    output: &mut W,
+    errors: &mut E,
+) -> u8
+    requires day { IsDay day }
+    requires reported { IsReported reported.now }
+    ensures { ReportsRows day reported.now result (L.told link.old) (L.told link.new) (W.contents output.old)
+        (W.contents output.new) }
+{
+    match reported {
+        Reported::One(login) => run_report(alloc, link, day, Some(login), output, errors),
+        Reported::Top(count) => run_top(alloc, link, day, *count as usize, output, errors),
+        Reported::All => run_report(alloc, link, day, None, output, errors),
+    }
 }

@@ -1,20 +1,23 @@
 //! `stop` and `resume`: how many recipients more a login may have.
-ghost use Rattle.std.specs.Prelude.{◌≡◌, Err, IfOk, IfSome, map, true};
+ghost use Rattle.std.specs.Prelude.{◌≡◌, Err, IfOk, IfSome, map};
 ghost use Rattle.mq_request.specs.Range.{IsAmount, IsHost, IsRun, IsWithin};
 ghost use Rattle.mq_command.specs.Allowing.{IsSetter};
 ghost use Rattle.mq_arguments.specs.Arguments.{IsResumeArguments, IsStopArguments};
 ghost use Rattle.mq_process.specs.Refusals.{HasNoAddress, NamesLogin, OrderRefuses};
-ghost use Rattle.mq_remote.specs.Asked.{AsksAt, AsksEachOf, AsksResume, AsksStop, IsSetterBy, ResumesThere, StopsThere};
+ghost use Rattle.mq_command.specs.Stopping.{RunsStop};
+ghost use Rattle.mq_remote.specs.Asked.{AsksAt, AsksEachOf, AsksResume, AsksStop, IsMeant, IsSetterBy, ResumesThere, UseAt};
+ghost use Rattle.mq_remote.specs.Servers.{AsksToYes};
 
 use log::sink::Console;
 use log::{LevelFilter, Logged};
 use mq_arguments::{LoginArgument, ResumeArguments, StopArguments};
-use mq_command::{Setter, has_sent, run_restore, run_resume, run_stop};
+use mq_command::{Setter, StopOrder, has_sent, run_restore, run_resume, run_stop};
 use mq_process::{
-    Dial, ProcessFault, ask_each, ask_until, checked, day_to_stop, link_to, login_of, run_number,
-    tell_note,
+    Dial, ProcessFault, ask_each, ask_until, checked, day_named, day_to_stop, found_server,
+    link_to, login_of, run_number, servers_or, tell_note,
 };
 use mq_request::Host;
+use mq_request::bounds::LAST_DAY;
 use std::alloc::Global;
 use std::io;
 use std::io::Write;
@@ -54,14 +57,22 @@ pub fn stop<R: Files + Clock + Print + Eprint + AllocGlobal, D: Dial, E: Write>(
     ensures refuses { OrderRefuses given.entry.host.now given.entry.login given.entry.servers (λ fault. result ≡ Err fault) }
     ensures asks { IfOk result (AsksStop D.leads D.Link.told R.File.remaining given.entry) }
 {
-    let servers = given.servers.as_slice();
-    checked(rt, given.host, given.login, servers)?;
+    let words = given.servers.as_slice();
+    checked(rt, given.host, given.login, words)?;
+    let found = found_server(rt, words, given.config)?;
+    let chosen = servers_or(rt.alloc(), words, found.as_str())?;
+    let servers = chosen.as_slice();
     let day = day_to_stop(rt, given.day, given.config, given.is_forced)?;
     let run = run_number(rt, None)?;
     let setter = setter_of(rt.alloc(), given.host, run, given.login)?;
     tell_note(rt.alloc(), &login_of(rt.alloc(), given.login)?, errors)?;
     let is_meant = is_meant_at_one(rt, dial, servers, &setter, day, given.is_forced);
-    Ok(stop_at_each(rt, dial, servers, &setter, day, is_meant, errors))
+    let order = StopOrder {
+        day,
+        is_meant,
+        is_all: given.is_all,
+    };
+    Ok(stop_at_each(rt, dial, servers, &setter, order, errors))
 }
 
 /// Stops a login at each of these servers.
@@ -70,24 +81,24 @@ fn stop_at_each<R: Print + Eprint + AllocGlobal, D: Dial, E: Write>(
     dial: &D,
     servers: &[&str],
     setter: &Setter,
-    day: u32,
-    is_meant: bool,
+    order: StopOrder,
     errors: &mut E,
 ) -> u8
     requires servers { ¬ HasNoAddress (map (λ s. s.now) servers.now) }
     requires setter { IsSetter setter.now }
-    requires day { IsWithin 0 376199 day }
-    ensures { AsksEachOf D.leads D.Link.told (StopsThere setter.now day is_meant) (map (λ s. s.now) servers.now) result }
+    requires day { IsWithin 0 376199 order.day }
+    ensures { AsksEachOf D.leads D.Link.told (RunsStop setter.now order) (map (λ s. s.now) servers.now) result }
 {
     ask_each(
         rt,
         servers,
         errors,
-        |address, errors| ask_stop(rt, dial, address, setter, day, is_meant, errors),
+        |address, errors| ask_stop(rt, dial, address, setter, order, errors),
     )
 }
 
-/// Whether a login is meant: it is said so, or one of several servers answers that it sent something lately.
+/// Whether a login is meant: it is said so, or one of several servers answers that it sent something lately. A server that is
+/// asked alone finds that out itself.
 fn is_meant_at_one<R: Eprint + AllocGlobal, D: Dial>(
     rt: &R,
     dial: &D,
@@ -99,9 +110,15 @@ fn is_meant_at_one<R: Eprint + AllocGlobal, D: Dial>(
     requires servers { ¬ HasNoAddress (map (λ s. s.now) servers.now) }
     requires setter { IsSetter setter.now }
     requires day { IsWithin 0 376199 day }
-    ensures { is_forced ≡ true → result ≡ true }
+    ensures { IsMeant D.leads D.Link.told setter.now.login day is_forced (map (λ s. s.now) servers.now) result }
 {
-    is_forced || servers.len() > 1 && has_sent_at_one(rt, dial, servers, setter, day)
+    if is_forced {
+        return true;
+    }
+    if servers.len() < 2 {
+        return false;
+    }
+    has_sent_at_one(rt, dial, servers, setter, day)
 }
 
 /// Whether one of these servers answers that a login sent something lately.
@@ -115,6 +132,7 @@ fn has_sent_at_one<R: Eprint + AllocGlobal, D: Dial>(
     requires servers { ¬ HasNoAddress (map (λ s. s.now) servers.now) }
     requires setter { IsSetter setter.now }
     requires day { IsWithin 0 376199 day }
+    ensures { AsksToYes (UseAt D.leads D.Link.told setter.now.login day) (map (λ s. s.now) servers.now) result }
 {
     ask_until(
         rt,
@@ -134,42 +152,35 @@ fn ask_use<R: Eprint + AllocGlobal, D: Dial>(
 ) -> bool
     requires setter { IsSetter setter.now }
     requires day { IsWithin 0 376199 day }
+    ensures { UseAt D.leads D.Link.told setter.now.login day address result }
 {
     let logged = Logged::new(rt, LevelFilter::Off, Console(rt));
     let mut link = link_to(dial, address, &logged);
     has_sent(rt.alloc(), &mut link, &setter.login, day)
 }
 
-/// Asks the server at this address to stop a login, and prints what comes of it.
+/// Asks the server at this address to stop a login, and prints what comes of it. Where it is stopped, limits of later days are
+/// looked for.
 fn ask_stop<R: Print + Eprint + AllocGlobal, D: Dial, E: Write>(
     rt: &R,
     dial: &D,
     address: SocketAddr,
     setter: &Setter,
-    day: u32,
-    is_meant: bool,
+    order: StopOrder,
     errors: &mut E,
 ) -> u8
     requires setter { IsSetter setter.now }
-    requires day { IsWithin 0 376199 day }
-    ensures { AsksAt D.leads D.Link.told (StopsThere setter.now day is_meant) address result }
+    requires day { IsWithin 0 376199 order.day }
+    ensures { AsksAt D.leads D.Link.told (RunsStop setter.now order) address result }
 {
     let logged = Logged::new(rt, LevelFilter::Error, Console(rt));
     let mut link = link_to(dial, address, &logged);
     let mut output = io::writer(rt);
-    run_stop(
-        rt.alloc(),
-        &mut link,
-        setter,
-        day,
-        is_meant,
-        &mut output,
-        errors,
-    )
+    run_stop(rt.alloc(), &mut link, setter, order, &mut output, errors)
 }
 
 /// `resume`: lets a login have more again.
-pub fn resume<R: Clock + Print + Eprint + AllocGlobal, D: Dial, E: Write>(
+pub fn resume<R: Files + Clock + Print + Eprint + AllocGlobal, D: Dial, E: Write>(
     rt: &R,
     dial: &D,
     given: ResumeArguments<'_>,
@@ -177,14 +188,18 @@ pub fn resume<R: Clock + Print + Eprint + AllocGlobal, D: Dial, E: Write>(
 ) -> Result<u8, ProcessFault>
     requires { IsResumeArguments given }
     ensures refuses { OrderRefuses given.entry.host.now given.entry.login given.entry.servers (λ fault. result ≡ Err fault) }
-    ensures asks { IfOk result (AsksResume D.leads D.Link.told given.entry) }
+    ensures asks { IfOk result (AsksResume D.leads D.Link.told R.File.remaining given.entry) }
 {
-    let servers = given.servers.as_slice();
-    checked(rt, given.host, given.login, servers)?;
+    let words = given.servers.as_slice();
+    checked(rt, given.host, given.login, words)?;
+    let found = found_server(rt, words, given.config)?;
+    let chosen = servers_or(rt.alloc(), words, found.as_str())?;
+    let servers = chosen.as_slice();
+    let day = day_named(rt, given.day, given.config, LAST_DAY - 1)?;
     let run = run_number(rt, None)?;
     let setter = setter_of(rt.alloc(), given.host, run, given.login)?;
     tell_note(rt.alloc(), &login_of(rt.alloc(), given.login)?, errors)?;
-    Ok(resume_at_each(rt, dial, servers, &setter, given.day, given.cap, errors))
+    Ok(resume_at_each(rt, dial, servers, &setter, day, given.cap, errors))
 }
 
 /// Lets a login have more again at each of these servers, or the limit that it had.

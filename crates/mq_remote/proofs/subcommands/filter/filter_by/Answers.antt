@@ -4,7 +4,7 @@ use Rattle.mq_remote.proofs.subcommands.filter.filter_by.Goals as goal
 
 pub returns-then-check : goal.returns-then-check
 returns-then-check g c =
-    subst (λ b. FiltersBy g.D.Dial.leads g.D.Link.Link.told b c.args.run c.args.settings.now c.check_server.result) (sym c.if-check.true) tt
+    subst (λ b. FiltersBy g.D.Dial.leads g.D.Link.Link.told b c.args.run c.args.settings.now c.check_server.result) (sym c.if-check.true) c.check_server.ensures
 
 pub returns : goal.returns
 returns g c =

@@ -1,10 +1,25 @@
-use Rattle.std.proofs.Common.{rules}
-use Rattle.mq_remote.proofs.AskedSteps.{servers_asked, those_asked}
+use Rattle.std.proofs.Common.{ap, map, rules, subst}
+use Rattle.mq_process.specs.Refusals.{HasNoAddress}
+use Rattle.mq_remote.proofs.RefusalSteps.{report_right}
+use Rattle.mq_remote.proofs.AskedSteps.{servers_asked, whom_of}
 use Rattle.mq_remote.proofs.subcommands.report.report.Goals as goal
 
 pub returns-clause-asks : goal.returns-clause-asks
 returns-clause-asks g c = record {
-  login = c.in_ok-login.login;
-  named = c.in_ok-login.ensures.named;
-  asked = those_asked _ _ c.as_slice-servers.ensures (servers_asked _ _ (λ address said after k. let called = k.2 in search rules) c.ask_each.ensures.1);
+  servers = (map (λ s. s.now) c.as_slice-servers.result.now);
+  whom = whom_of _ _ _ _ _ _ _ _ c.as_slice-words.ensures c.as_str.ensures.value c.in_ok-found.ensures.found c.in_ok-chosen.ensures.servers (ap (map (λ s. s.now)) c.as_slice-servers.ensures.value);
+  day = c.in_ok-day.day;
+  on = c.in_ok-day.ensures.day;
+  reported = c.in_ok-reported.reported;
+  named = c.in_ok-reported.ensures.named;
+  asked = servers_asked _ _ (λ address said after k. let called = k.2 in search rules) c.ask_each.ensures.1;
 }
+
+pub returns-in_err-day-clause-refuses : goal.returns-in_err-day-clause-refuses
+returns-in_err-day-clause-refuses g c = report_right c.args.given _ (search rules) (subst (λ l. HasNoAddress l → ⊥) c.as_slice-words.ensures c.in_ok-check_addresses.ensures)
+
+pub returns-in_err-reported-clause-refuses : goal.returns-in_err-reported-clause-refuses
+returns-in_err-reported-clause-refuses g c = report_right c.args.given _ (search rules) (subst (λ l. HasNoAddress l → ⊥) c.as_slice-words.ensures c.in_ok-check_addresses.ensures)
+
+pub returns-clause-refuses : goal.returns-clause-refuses
+returns-clause-refuses g c = report_right c.args.given _ (search rules) (subst (λ l. HasNoAddress l → ⊥) c.as_slice-words.ensures c.in_ok-check_addresses.ensures)
