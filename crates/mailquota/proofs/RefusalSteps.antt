@@ -1,15 +1,17 @@
--- The exit status of a status, a report or a replay of which a word is at fault.
+-- The exit status of a status, a report, a resume, a retire or a replay of which a word is at fault.
 use Rattle.std.proofs.Common.{◌≡◌, ℕ, List, Option, None, Some, Result, Ok, Err, sym, subst}
 use Rattle.std.specs.Prelude.{IfSome, MatchResult}
 use Rattle.std.specs.Borrow.{Bor}
 use Rattle.mq_arguments.specs.declared.LoginArgument.{LoginArgument}
 use Rattle.mq_arguments.specs.declared.ProbeArguments.{ProbeArguments}
 use Rattle.mq_arguments.specs.declared.ReportArguments.{ReportArguments}
+use Rattle.mq_arguments.specs.declared.ResumeArguments.{ResumeArguments}
+use Rattle.mq_arguments.specs.declared.RetireArguments.{RetireArguments}
 use Rattle.mq_arguments.specs.declared.ReplayArguments.{ReplayArguments}
 use Rattle.mq_arguments.specs.declared.Arguments.{Arguments}
-use Rattle.mq_arguments.specs.declared.Arguments.TheVariants.{Probe, Replay, Report}
+use Rattle.mq_arguments.specs.declared.Arguments.TheVariants.{Probe, Replay, Report, Resume, Retire}
 use Rattle.mq_process.specs.Faults.{process_status}
-use Rattle.mq_process.specs.Refusals.{NamesLogin, ProbeRefuses, ReportRefuses}
+use Rattle.mq_process.specs.Refusals.{NamesLogin, OrderRefuses, ProbeRefuses, ReportRefuses, RetireRefuses}
 use Rattle.mq_process.specs.declared.fault.ProcessFault.{ProcessFault}
 use Rattle.mq_process.specs.declared.fault.ProcessFault.TheVariants.{Host, Login, Address}
 use Rattle.mq_program.specs.Faults.{fault_status}
@@ -43,6 +45,21 @@ for_probe given A B step refuses = record {
   bad_address = λ host no. step Address (refuses.bad_address host no);
 }
 
+-- another way to say how an order about a login ends
+for_order : (host : List ℕ) (login : LoginArgument) (servers : List (List ℕ)) (A B : ProcessFault → Type 0) → ((fault : ProcessFault) → A fault → B fault) → OrderRefuses host login servers A → OrderRefuses host login servers B
+for_order host login servers A B step refuses = record {
+  bad_host = λ no. step Host (refuses.bad_host no);
+  bad_login = λ is no. step Login (refuses.bad_login is no);
+  bad_address = λ is names no. step Address (refuses.bad_address is names no);
+}
+
+-- another way to say how a retire ends
+for_retire : (given : RetireArguments) (A B : ProcessFault → Type 0) → ((fault : ProcessFault) → A fault → B fault) → RetireRefuses given A → RetireRefuses given B
+for_retire given A B step refuses = record {
+  host = for_text given.host _ _ refuses.host (λ host ends no. step Host (ends no));
+  address = λ is_host. for_text given.server _ _ (refuses.address is_host) (λ server ends no. step Address (ends no));
+}
+
 -- what follows for a rule that is at fault
 for_rule : (rule : Option (Bor (List ℕ))) (east west : ℕ) (A B : Type 0) → (A → B) → IfSome rule (λ text. ¬ IsRuleAlone east west text.now → A)
     → IfSome rule (λ text. ¬ IsRuleAlone east west text.now → B)
@@ -60,6 +77,18 @@ pub probe_ends : (all : Arguments) (given : ProbeArguments) (asked : Result ℕ 
 probe_ends all given asked status is ends refuses =
     subst (λ words. Refuses words status) (sym is)
     (for_probe given (λ f. asked ≡ Err f) (λ f. status ≡ process_status f) (status_of process_status asked status ends) refuses)
+
+pub resume_ends : (all : Arguments) (given : ResumeArguments) (asked : Result ℕ ProcessFault) (status : ℕ) → all ≡ Resume given
+    → MatchResult asked (λ s. status ≡ s) (λ f. status ≡ process_status f) → OrderRefuses given.host.now given.login given.servers (λ f. asked ≡ Err f) → Refuses all status
+resume_ends all given asked status is ends refuses =
+    subst (λ words. Refuses words status) (sym is)
+    (for_order given.host.now given.login given.servers (λ f. asked ≡ Err f) (λ f. status ≡ process_status f) (status_of process_status asked status ends) refuses)
+
+pub retire_ends : (all : Arguments) (given : RetireArguments) (asked : Result ℕ ProcessFault) (status : ℕ) → all ≡ Retire given
+    → MatchResult asked (λ s. status ≡ s) (λ f. status ≡ process_status f) → RetireRefuses given (λ f. asked ≡ Err f) → Refuses all status
+retire_ends all given asked status is ends refuses =
+    subst (λ words. Refuses words status) (sym is)
+    (for_retire given (λ f. asked ≡ Err f) (λ f. status ≡ process_status f) (status_of process_status asked status ends) refuses)
 
 pub report_ends : (all : Arguments) (given : ReportArguments) (asked : Result ℕ ProcessFault) (status : ℕ) → all ≡ Report given
     → MatchResult asked (λ s. status ≡ s) (λ f. status ≡ process_status f) → ReportRefuses given (λ f. asked ≡ Err f) → Refuses all status

@@ -12,6 +12,7 @@
 
 mod program;
 mod subcommand;
+mod version;
 
 use sqlite::Unknown;
 use std::process::ExitCode;

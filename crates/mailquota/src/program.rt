@@ -1,6 +1,7 @@
 //! The program by the words of its command line.
 
 use crate::subcommand::run_subcommand;
+use crate::version::VERSION;
 use mq_program::{ProgramFault, end_program, or_memory};
 use mq_words::{Unprinted, print_fault, read_arguments};
 use sqlite::Start;
@@ -37,7 +38,7 @@ fn run_words<E: Write, S: Start, N: Start>(
     new: N,
     errors: &mut E,
 ) -> u8 {
-    match read_arguments(rt.alloc(), words) {
+    match read_arguments(rt.alloc(), words, VERSION) {
         Ok(given) => run_subcommand(rt, given, start, new, errors),
         Err(fault) => match print_fault(rt, fault) {
             Ok(status) => status,

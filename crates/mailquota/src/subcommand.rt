@@ -8,7 +8,7 @@ use mq_program::{audit, end_program, forget, init, limits, replay, server, statu
 use mq_remote::{end_filter, filter, limit, probe_servers, report, resume, retire, stop};
 use sqlite::Start;
 use std::io;
-use std::io::Write;
+use std::io::{IsTerminal, Write};
 
 /// Runs a subcommand, prints on `errors` why it isn't done, and gives the exit status: 0 done,
 /// 1 fault, 2 usage.
@@ -33,7 +33,7 @@ pub fn run_subcommand<E: Write, S: Start, N: Start>(
         }
         Arguments::Filter(given) => end_filter(filter(rt, dial, given, errors), errors),
         Arguments::Status(given) => end_program(status(rt, given, start, errors), errors),
-        Arguments::Probe(given) => end_process(probe_servers(rt, given, errors), errors),
+        Arguments::Probe(given) => end_process(probe_servers(rt, dial, given, errors), errors),
         Arguments::Server(given) => end_program(server(rt, given, start), errors),
         Arguments::Limit(given) => end_process(limit(rt, dial, given, errors), errors),
         Arguments::Stop(given) => end_process(stop(rt, dial, given, errors), errors),
@@ -42,7 +42,10 @@ pub fn run_subcommand<E: Write, S: Start, N: Start>(
             end_process(day(rt, given, &mut io::writer(rt), errors), errors)
         },
         Arguments::Retire(given) => end_process(retire(rt, dial, given, errors), errors),
-        Arguments::Report(given) => end_process(report(rt, dial, given, errors), errors),
+        Arguments::Report(given) => {
+            let has_columns = rt.stdout().is_terminal();
+            end_process(report(rt, dial, given, has_columns, errors), errors)
+        },
         Arguments::Limits(given) => {
             end_program(limits(rt, given, start, &mut io::writer(rt)), errors)
         }

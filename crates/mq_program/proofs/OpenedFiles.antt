@@ -1,5 +1,5 @@
 -- What a connection that was opened over files shows, and what a ledger in it begins with.
-use Rattle.std.proofs.Common.{arith, ◌≡◌, ℕ, [], length, sym, ap, subst, ◌∙◌, inl, inr}
+use Rattle.std.proofs.Common.{arith, ◌≡◌, ℕ, [], length, Result, sym, ap, subst, ◌∙◌, inl, inr}
 use Rattle.std.specs.Prelude.{false}
 use Rattle.sqlite_trees.specs.Objects.{catalog_tree}
 use Rattle.sqlite_trees.specs.Tree.{Trees}
@@ -14,14 +14,15 @@ use Rattle.mq_ledger.specs.Answer.{build}
 use Rattle.mq_ledger.specs.Day.{day_of}
 use Rattle.mq_ledger.specs.Legal.{Book, IsLegalBook}
 use Rattle.mq_rows.specs.Tables.{AreRows}
-use Rattle.mq_server.specs.Delivery.{HasGrown}
 use Rattle.mq_tables.specs.Ledger.{HasLedger}
 use Rattle.mq_tables.specs.Making.{AreUnnamed}
 use Rattle.mq_store.specs.Soundness.{book_in, HasKept, HasStored, IsNew, IsSound, MeansBook}
 use Rattle.mq_store.specs.Taking.{book_of}
 use Rattle.mq_rows.specs.declared.audited.Audit.TheVariants.{Sound}
 use Rattle.mq_store.specs.Auditing.{IsAuditIn}
-use Rattle.mq_program.specs.Opened.{AreCountsIn, MeansFile, IsMadeIn, GrowsFrom, GrowsFromNothing}
+use Rattle.mq_program.specs.declared.fault.ProgramFault.{ProgramFault}
+use Rattle.mq_program.specs.Opened.{AreCountsIn, MeansFile, IsMadeIn, ServesFrom, ServesFromNothing}
+use Rattle.mq_program.specs.Serving.{HasServed, Serves}
 
 abbrev pub HaveOneSchema : Type 0
 HaveOneSchema = (a b : Database) → IsDatabase a → IsDatabase b → a.trees ≡ b.trees → a ≡ b
@@ -60,21 +61,23 @@ module _ (image : Image) (s : State) (one : HaveOneSchema) (opens : Opens s) (li
         new_there (subst (λ (d : Database). lacks_sequence d.schema ≡ false) same counters) (subst (λ (d : Database). AreUnnamed d.schema) same unnamed);
   }
 
--- what came since is what came
-module _ (zone : Zone) (default : ℕ) (image : Image) (old new : State) (sound_then : IsSound zone default old → IsSound zone default new)
-    (grown : IsSound zone default old → HasGrown (book_in zone default old.now) (book_in zone default new.now)) where
-  pub grows : MeansFile zone default image old → GrowsFrom zone default image new
-  grows means b keeps =
-      let (of_zone, of_default, is, book) = means b keeps in
-      (of_zone, of_default, sound_then is, subst (λ (x : Book). HasGrown x (book_in zone default new.now)) book (grown is))
+-- what was served since is what was served
+module _ (zone : Zone) (default : ℕ) (old new : State) (outcome : Result ℕ ProgramFault) (sound_then : IsSound zone default old → IsSound zone default new)
+    (serves : IsSound zone default old → Serves (book_in zone default old.now) (book_in zone default new.now) outcome) where
+  served_after : (b : Book) → IsSound zone default old → book_in zone default old.now ≡ b → HasServed zone default b new outcome
+  served_after b is book = (sound_then is, subst (λ (x : Book). Serves x (book_in zone default new.now) outcome) book (serves is))
 
-  pub grows_from_nothing : IsMadeIn zone default image old → GrowsFromNothing zone default image new
-  grows_from_nothing made none =
-      let it = made.empty none in
-      (sound_then it.sound, subst (λ (x : Book). HasGrown x (book_in zone default new.now)) (blank_book it) (grown it.sound))
-    where
-      blank_book : IsNew zone default old → book_in zone default old.now ≡ book_of zone default []
-      blank_book it = ap (λ rs. book_of zone default (build (day_of zone) default rs)) it.blank
+  pub serves_from : (image : Image) → MeansFile zone default image old → ServesFrom zone default image new outcome
+  serves_from image means b keeps =
+      let (of_zone, of_default, is, book) = means b keeps in
+      (of_zone, of_default, served_after b is book)
+
+  -- a new ledger means nothing
+  pub served_anew : IsNew zone default old → HasServed zone default (book_of zone default []) new outcome
+  served_anew it = served_after (book_of zone default []) it.sound (ap (λ rs. book_of zone default (build (day_of zone) default rs)) it.blank)
+
+  pub serves_from_nothing : (image : Image) → IsMadeIn zone default image old → ServesFromNothing zone default image new outcome
+  serves_from_nothing image made none = served_anew (made.empty none)
 
 -- a store whose tables stay is as sound as before
 sound_still : (zone : Zone) (default : ℕ) (old new : State) → IsSound zone default old → HasKept new → new.now ≡ old.now → IsSound zone default new

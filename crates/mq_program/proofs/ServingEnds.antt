@@ -4,7 +4,8 @@ use Rattle.mq_connections.specs.declared.fault.RoomFault.{RoomFault}
 use Rattle.mq_connections.specs.declared.fault.RoomFault.TheVariants.{Store}
 use Rattle.mq_connections.specs.Sessions.{EndsServing, Outside}
 use Rattle.mq_program.specs.declared.fault.ProgramFault.{ProgramFault}
-use Rattle.mq_program.specs.declared.fault.ProgramFault.TheVariants.{Listen, Serve}
+use Rattle.mq_ledger.specs.declared.ledger.LedgerFault.{LedgerFault}
+use Rattle.mq_program.specs.declared.fault.ProgramFault.TheVariants.{Audit, Listen, Serve}
 
 -- a failed store under another name
 ends_as : {A B E F : Type 0} (old new : Outside) (store : E) (r : Result A E) (failed : F) (q : Result B F) → EndsServing old new store r → (r ≡ Err store → q ≡ Err failed) → (q ≡ Err failed → r ≡ Err store) → EndsServing old new failed q
@@ -32,6 +33,13 @@ served_back r q cause fault is so gives store = cc
 -- the port can't be had
 pub ends_unheard : (o : Outside) (q : Result ℕ ProgramFault) → q ≡ Err Listen → EndsServing o o Store (Ok (tt {0})) → EndsServing o o (Serve Store) q
 ends_unheard o q is e = ends_as o o Store (Ok (tt {0})) (Serve Store) q e (λ so. absurd (ok_not (tt {0}) Store so)) (λ so. absurd (listen_not q is so))
+
+audit_not : {A : Type 0} (q : Result A ProgramFault) (cause : LedgerFault) → q ≡ Err (Audit cause) → q ≡ Err (Serve Store) → ⊥
+audit_not q cause listed is = cc
+
+-- the ledger's rows can't be read
+pub ends_unread : (o : Outside) (q : Result ℕ ProgramFault) (cause : LedgerFault) → q ≡ Err (Audit cause) → EndsServing o o Store (Ok (tt {0})) → EndsServing o o (Serve Store) q
+ends_unread o q cause is e = ends_as o o Store (Ok (tt {0})) (Serve Store) q e (λ so. absurd (ok_not (tt {0}) Store so)) (λ so. absurd (audit_not q cause is so))
 
 -- the serving ended by a fault
 pub ends_faulty : {A : Type 0} (old new : Outside) (r : Result A RoomFault) (q : Result ℕ ProgramFault) (cause : RoomFault) (fault : ProgramFault) → r ≡ Err cause → q ≡ Err fault → fault ≡ Serve cause → EndsServing old new Store r → EndsServing old new (Serve Store) q

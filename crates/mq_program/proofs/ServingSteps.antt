@@ -1,23 +1,32 @@
 -- What a ledger means after one call after another.
-use Rattle.std.proofs.Common.{◌≡◌, ℕ, sym, subst, subst₂}
+use Rattle.std.proofs.Common.{◌≡◌, ℕ, Result, Ok, Err, None, sym, subst, subst₂}
 use Rattle.sqlite.specs.Effect.{Database}
 use Rattle.sqlite.specs.State.{State}
 use Rattle.mq_ledger.specs.declared.zone.Zone.{Zone}
-use Rattle.mq_ledger.specs.Legal.{Book, IsLegalBook}
-use Rattle.mq_server.specs.Delivery.{HasGrown}
+use Rattle.mq_ledger.specs.declared.ledger.LedgerFault.{LedgerFault}
+use Rattle.mq_ledger.specs.Legal.{IsLegalBook}
+use Rattle.mq_connections.specs.declared.fault.RoomFault.TheVariants.{Store}
+use Rattle.mq_connections.specs.Sessions.{EndsServing, Outside}
+use Rattle.mq_connections.specs.Wires.{unknown}
 use Rattle.mq_store.specs.Soundness.{book_in, IsSound}
+use Rattle.mq_program.specs.declared.fault.ProgramFault.{ProgramFault}
+use Rattle.mq_program.specs.declared.fault.ProgramFault.TheVariants.{Audit}
+use Rattle.mq_program.specs.Serving.{Serves}
+use Rattle.mq_program.proofs.ServingEnds.{ends_unread}
 
 -- the zones and defaults of a ledger stay
 module _ (zone z1 z2 : Zone) (default d1 d2 : ℕ) (zone_is : z1 ≡ zone) (default_is : d1 ≡ default) (zone_stays : z2 ≡ z1) (default_stays : d2 ≡ d1) where
   pub sound_on : (s : State) → IsSound z2 d2 s → IsSound zone default s
   sound_on s is = subst₂ (λ k n. IsSound k n s) zone_is default_is (subst₂ (λ k n. IsSound k n s) zone_stays default_stays is)
 
-  pub grown_on : (db now later : Database) → now ≡ db → HasGrown (book_in z1 d1 now) (book_in z2 d2 later) → HasGrown (book_in zone default db) (book_in zone default later)
-  grown_on db now later same grown =
-      subst₂ (λ k n. HasGrown (book_in k n db) (book_in k n later)) zone_is default_is
-      (subst₂ (λ k n. HasGrown (book_in z1 d1 db) (book_in k n later)) zone_stays default_stays
-      (subst (λ x. HasGrown (book_in z1 d1 x) (book_in z2 d2 later)) same grown))
+  pub served_on : (outcome : Result ℕ ProgramFault) (db now later : Database) → now ≡ db → Serves (book_in z1 d1 now) (book_in z2 d2 later) outcome → Serves (book_in zone default db) (book_in zone default later) outcome
+  served_on outcome db now later same serves =
+      subst₂ (λ k n. Serves (book_in k n db) (book_in k n later) outcome) zone_is default_is
+      (subst₂ (λ k n. Serves (book_in z1 d1 db) (book_in k n later) outcome) zone_stays default_stays
+      (subst (λ x. Serves (book_in z1 d1 x) (book_in z2 d2 later) outcome) same serves))
 
--- a ledger that is as it was has grown by nothing
-pub still_grown : (zone : Zone) (default : ℕ) (db now : Database) → ((b : Book) → IsLegalBook b → HasGrown b b) → IsLegalBook (book_in zone default db) → now ≡ db → HasGrown (book_in zone default db) (book_in zone default now)
-still_grown zone default db now none legal same = subst (λ x. HasGrown (book_in zone default db) (book_in zone default x)) (sym same) (none (book_in zone default db) legal)
+-- nothing was served to a ledger that is as it was
+pub still_served : (zone : Zone) (default : ℕ) (db now : Database) (q : Result ℕ ProgramFault) (cause : LedgerFault) → q ≡ Err (Audit cause) → ((o : Outside) → IsLegalBook o.book → EndsServing {A = Unit {0}} o o Store (Ok tt)) → IsLegalBook (book_in zone default db) → now ≡ db → Serves (book_in zone default db) (book_in zone default now) q
+still_served zone default db now q cause is none legal same =
+    let o : Outside = record { book = book_in zone default db; told = None; wires = unknown } in
+    subst (λ x. Serves (book_in zone default db) (book_in zone default x) q) (sym same) (ends_unread o q cause is (none o legal))

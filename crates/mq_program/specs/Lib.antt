@@ -7,3 +7,4 @@ pub mod Forgetting
 pub mod Describing
 pub mod Listing
 pub mod Refusals
+pub mod Serving

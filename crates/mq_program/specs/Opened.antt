@@ -1,5 +1,5 @@
 -- What a server's file holds, and what a ledger in it begins with.
-use Rattle.std.specs.Prelude.{◌≡◌, ℕ, false, List, [], Option, None, Some, string_bytes}
+use Rattle.std.specs.Prelude.{◌≡◌, ℕ, false, List, [], Option, None, Some, Result, string_bytes}
 use Rattle.sqlite.specs.Does.{lacks_sequence}
 use Rattle.sqlite.specs.Effect.{Database, IsDatabase}
 use Rattle.sqlite.specs.Files.{HoldsDatabase}
@@ -7,7 +7,6 @@ use Rattle.sqlite.specs.Recovery.{Image}
 use Rattle.sqlite.specs.State.{State}
 use Rattle.mq_ledger.specs.declared.zone.Zone.{Zone}
 use Rattle.mq_ledger.specs.Legal.{Book}
-use Rattle.mq_server.specs.Delivery.{HasGrown}
 use Rattle.mq_tables.specs.Making.{AreUnnamed}
 use Rattle.mq_settings.specs.declared.settings.value.Place.{Place}
 use Rattle.mq_settings.specs.declared.settings.value.Place.TheVariants as place
@@ -15,6 +14,8 @@ use Rattle.mq_rows.specs.declared.audited.Audit.TheVariants.{Sound}
 use Rattle.mq_store.specs.Auditing.{IsAuditIn}
 use Rattle.mq_store.specs.Taking.{book_of}
 use Rattle.mq_store.specs.Soundness.{book_in, HasStored, IsNew, IsSound}
+use Rattle.mq_program.specs.declared.fault.ProgramFault.{ProgramFault}
+use Rattle.mq_program.specs.Serving.{HasServed}
 
 -- the path of the file in which a ledger is kept, where it is kept in one
 abbrev pub path_in : Place → Option (List ℕ)
@@ -46,14 +47,14 @@ pub record IsMadeIn (zone : Zone) (default : ℕ) (image : Image) (new : State) 
   pub beside : (db : Database) → IsDatabase db → HoldsDatabase image db.trees → lacks_sequence db.schema ≡ false
       → AreUnnamed db.schema → IsNew zone default new
 
--- A legal history whose rows the files kept is of this zone and default; after it, what came since, and nothing else, is what
--- the sound store means.
-abbrev pub GrowsFrom : Zone → ℕ → Image → State → Type 0
-GrowsFrom zone default image new =
+-- A legal history whose rows the files kept is of this zone and default; what was served after it, and nothing else, is what
+-- the sound store has gained.
+abbrev pub ServesFrom : {A : Type 0} → Zone → ℕ → Image → State → Result A ProgramFault → Type 0
+ServesFrom zone default image new outcome =
     (b : Book) → KeepsBook image b
-    → (b.zone ≡ zone) × (b.default ≡ default) × IsSound zone default new × HasGrown b (book_in zone default new.now)
+    → (b.zone ≡ zone) × (b.default ≡ default) × HasServed zone default b new outcome
 
--- where the database file was empty, what came since, and nothing else, is what the sound store means
-abbrev pub GrowsFromNothing : Zone → ℕ → Image → State → Type 0
-GrowsFromNothing zone default image new =
-    image.db ≡ [] → IsSound zone default new × HasGrown (book_of zone default []) (book_in zone default new.now)
+-- where the database file was empty, what was served, and nothing else, is what the sound store means
+abbrev pub ServesFromNothing : {A : Type 0} → Zone → ℕ → Image → State → Result A ProgramFault → Type 0
+ServesFromNothing zone default image new outcome =
+    image.db ≡ [] → HasServed zone default (book_of zone default []) new outcome

@@ -14,7 +14,7 @@ use crate::store::{ledger_of_settings, let_go, log_cause, path_of};
 use log::sink::Console;
 use log::{Log, Logged};
 use mq_arguments::StatusArguments;
-use mq_process::{Question, probe, server_settings};
+use mq_process::{Dialer, Question, probe, server_settings};
 use mq_settings::ServerSettings;
 use mq_store::SqlLedger;
 use sqlite::{Alter, FileFrom, FileStore, Start};
@@ -35,7 +35,13 @@ pub fn status<E: Write, S: Start>(
     errors: &mut E,
 ) -> Result<u8, ProgramFault> {
     let settings = server_settings(rt, given.config)?;
-    let status = probe(rt, settings.listen, Question::Status, errors)?;
+    let status = probe(
+        rt,
+        &Dialer::new(rt),
+        settings.listen,
+        Question::Status,
+        errors,
+    )?;
     if status == 0 {
         return Ok(0);
     }

@@ -1,11 +1,14 @@
 //! `server`: serves a ledger to filters.
-ghost use Rattle.std.specs.Prelude.{◌≡◌, false, IfOk, IsTrue};
+ghost use Rattle.std.specs.Prelude.{◌≡◌, [], false, IfOk, IsTrue};
 ghost use Rattle.sqlite.specs.Files.{file_state};
 ghost use Rattle.sqlite.specs.Held.{state};
+ghost use Rattle.sqlite.specs.Steps.{over_memory};
 ghost use Rattle.sqlite.specs.WalFiles.{image_at};
 ghost use Rattle.mq_server.specs.Delivery.{HasGrown};
 ghost use Rattle.mq_store.specs.Soundness.{book_in, HasKept, IsSound};
-ghost use Rattle.mq_program.specs.Opened.{GrowsFrom, GrowsFromNothing};
+ghost use Rattle.mq_store.specs.Taking.{book_of};
+ghost use Rattle.mq_program.specs.Serving.{connections_of, HasServed, Serves};
+ghost use Rattle.mq_program.specs.Opened.{ServesFrom, ServesFromNothing};
 ghost use Rattle.mq_connections.specs.declared.fault.RoomFault.TheVariants.{Store as store_failed};
 ghost use Rattle.mq_connections.specs.Sessions.{EndsServing};
 ghost use Rattle.mq_connections.specs.Wires.{unknown};
@@ -18,18 +21,17 @@ use crate::refusal::days_by;
 use crate::store::{ledger_of_settings, log_cause, memory_ledger};
 use log::sink::Console;
 use log::{Log, Logged, error, info};
-use mq_arguments::ServerArguments;
+use mq_arguments::{ConnectionsArgument, ServerArguments};
 use mq_chore::NoChore;
 use mq_connections::laws::nothing_is_served;
 use mq_connections::{Connections, serve_connections};
-use mq_ledger::Ledger;
+use mq_ledger::{Ledger, LedgerFault};
 use mq_process::{elapsed, server_settings};
 use mq_rows::VERSION;
-use mq_server::laws::more_deliveries;
 use mq_settings::{Place, ServerSettings};
 use mq_store::SqlLedger;
 use mq_watch::{Hear, Watched};
-use sqlite::{Alter, FileFrom, FileStore, Start};
+use sqlite::{Alter, FileFrom, FileStore, MemStore, Start};
 use std::alloc::Global;
 use std::fmt;
 use std::net::{Net, TcpListener, TcpStream};
@@ -44,7 +46,36 @@ pub fn server<S: Start>(
     start: S,
 ) -> Result<u8, ProgramFault> {
     let settings = server_settings(rt, given.config)?;
-    serve(rt, &settings, given.create, given.connections, start)
+    serve(
+        rt,
+        &settings,
+        given.create,
+        connections_of(given.connections),
+        start,
+    )
+}
+
+/// The connections that the words ask for.
+fn connections_of(asked: ConnectionsArgument) -> Connections
+    ensures { result ≡ connections_of asked }
+{
+    match asked {
+        ConnectionsArgument::Count(count) => Connections::Count(count),
+        ConnectionsArgument::Endless => Connections::Endless,
+    }
+}
+
+/// How many connections are served, as the log says it.
+#[derive(Clone, Copy)]
+struct Crowd(Connections);
+
+impl fmt::Display for Crowd {
+    fn fmt<W: fmt::Write>(&self, f: &mut fmt::Formatter<W>) -> fmt::Result {
+        match self.0 {
+            Connections::Count(count) => write!(f, "{count} connections"),
+            Connections::Endless => f.write_str("any number of connections"),
+        }
+    }
 }
 
 /// Serves so many connections by these settings.
@@ -52,14 +83,22 @@ fn serve<S: Start>(
     rt: &HostRuntime,
     settings: &ServerSettings,
     create: bool,
-    connections: u32,
+    connections: Connections,
     start: S,
 ) -> Result<u8, ProgramFault>
     requires { AreInRange settings.now }
 {
     let logged = Logged::new(rt, settings.log, Console(rt));
     match &settings.store {
-        Place::Memory => listen_in_memory(rt, &logged, settings, connections),
+        Place::Memory => {
+            let Served { ledger: _, outcome } = listen_in_memory(
+                rt,
+                &logged,
+                settings,
+                connections,
+            )?;
+            outcome
+        }
         Place::File(path) => {
             warn_of_memory(rt, &logged, path.as_str());
             let Served { ledger: _, outcome } = listen_over_file(
@@ -87,15 +126,19 @@ fn listen_in_memory<G: Log>(
     rt: &HostRuntime,
     log: &G,
     settings: &ServerSettings,
-    connections: u32,
-) -> Result<u8, ProgramFault>
+    connections: Connections,
+) -> Result<Served<MemStore>, ProgramFault>
     requires { AreInRange settings.now }
+
+    // It begins with no history, and gains what is served, and nothing else.
+    ensures { IfOk result (λ served. HasServed settings.now.zone settings.now.default
+        (book_of settings.now.zone settings.now.default []) (state over_memory served.ledger.connection)
+        served.outcome) }
 {
     let since = Instant::now(rt).ok();
     let ledger = memory_ledger(rt.alloc(), settings.zone, settings.default)?;
     let took = Took(elapsed(rt, since));
-    let Served { ledger: _, outcome } = listen_over(rt, log, settings, ledger, took, connections);
-    outcome
+    Ok(listen_over(rt, log, settings, ledger, took, connections))
 }
 
 /// Serves so many connections over the ledger in the file of the settings; with `create` over a new one.
@@ -104,19 +147,19 @@ fn listen_over_file<G: Log, S: Start>(
     log: &G,
     settings: &ServerSettings,
     create: bool,
-    connections: u32,
+    connections: Connections,
     start: S,
 ) -> Result<Served<FileStore<FileFrom<S>>>, ProgramFault>
     requires { AreInRange settings.now }
 
-    // A server begins with the history whose rows the files hold, and adds to it what it was sent; so does one that makes
-    // its ledger, with no history.
+    // A server begins with the history whose rows the files hold, and gains what is served, and nothing else; so does one
+    // that makes its ledger, with no history.
     ensures begun { create ≡ false → IfOk result (λ served. HasKept (file_state served.ledger.connection)
-        → GrowsFrom settings.now.zone settings.now.default (image_at S.Start)
-        (file_state served.ledger.connection)) }
+        → ServesFrom settings.now.zone settings.now.default (image_at S.Start)
+        (file_state served.ledger.connection) served.outcome) }
     ensures made { IsTrue create → IfOk result (λ served. HasKept (file_state served.ledger.connection)
-        → GrowsFromNothing settings.now.zone settings.now.default (image_at S.Start)
-        (file_state served.ledger.connection)) }
+        → ServesFromNothing settings.now.zone settings.now.default (image_at S.Start)
+        (file_state served.ledger.connection) served.outcome) }
 {
     let since = Instant::now(rt).ok();
     let ledger = ledger_of_settings(rt, log, settings, create, start)?;
@@ -131,19 +174,19 @@ fn listen_over<G: Log, S: Alter + Drop>(
     settings: &ServerSettings,
     ledger: SqlLedger<S>,
     took: Took,
-    connections: u32,
+    connections: Connections,
 ) -> Served<S>
     ensures same { (result.ledger.zone ≡ ledger.zone) × (result.ledger.default ≡ ledger.default) }
     ensures kept { HasKept (state S.Store result.ledger.connection) → HasKept (state S.Store ledger.connection) }
     ensures sound { HasKept (state S.Store result.ledger.connection)
         → IsSound ledger.zone ledger.default (state S.Store ledger.connection)
         → IsSound ledger.zone ledger.default (state S.Store result.ledger.connection) }
-    ensures grown { HasKept (state S.Store result.ledger.connection)
+    ensures serves { HasKept (state S.Store result.ledger.connection)
         → IsSound ledger.zone ledger.default (state S.Store ledger.connection)
-        → HasGrown (book_in ledger.zone ledger.default (state S.Store ledger.connection).now)
-        (book_in ledger.zone ledger.default (state S.Store result.ledger.connection).now) }
+        → Serves (book_in ledger.zone ledger.default (state S.Store ledger.connection).now)
+        (book_in ledger.zone ledger.default (state S.Store result.ledger.connection).now) result.outcome }
 {
-    more_deliveries();
+    nothing_is_served();
     let mut ledger = ledger;
     match log_ledger(log, settings, &mut ledger, took) {
         Ok(()) => begin(rt, log, settings, ledger, connections),
@@ -151,7 +194,7 @@ fn listen_over<G: Log, S: Alter + Drop>(
             log_cause(log, place_name(&settings.store), &ledger);
             Served {
                 ledger,
-                outcome: Err(fault),
+                outcome: Err(ProgramFault::Audit(fault)),
             }
         }
     }
@@ -163,17 +206,17 @@ fn begin<G: Log, S: Alter + Drop>(
     log: &G,
     settings: &ServerSettings,
     ledger: SqlLedger<S>,
-    connections: u32,
+    connections: Connections,
 ) -> Served<S>
     ensures same { (result.ledger.zone ≡ ledger.zone) × (result.ledger.default ≡ ledger.default) }
     ensures kept { HasKept (state S.Store result.ledger.connection) → HasKept (state S.Store ledger.connection) }
     ensures sound { HasKept (state S.Store result.ledger.connection)
         → IsSound ledger.zone ledger.default (state S.Store ledger.connection)
         → IsSound ledger.zone ledger.default (state S.Store result.ledger.connection) }
-    ensures grown { HasKept (state S.Store result.ledger.connection)
+    ensures serves { HasKept (state S.Store result.ledger.connection)
         → IsSound ledger.zone ledger.default (state S.Store ledger.connection)
-        → HasGrown (book_in ledger.zone ledger.default (state S.Store ledger.connection).now)
-        (book_in ledger.zone ledger.default (state S.Store result.ledger.connection).now) }
+        → Serves (book_in ledger.zone ledger.default (state S.Store ledger.connection).now)
+        (book_in ledger.zone ledger.default (state S.Store result.ledger.connection).now) result.outcome }
 {
     let mut watched = Watched::new(rt, log, rt.alloc(), ledger);
     let outcome = listen(rt, log, rt.alloc(), settings, &mut watched, connections);
@@ -209,7 +252,7 @@ fn log_ledger<G: Log, S: Alter>(
     settings: &ServerSettings,
     ledger: &mut SqlLedger<S>,
     took: Took,
-) -> Result<(), ProgramFault>
+) -> Result<(), LedgerFault>
     ensures lent { (ledger.new.zone ≡ ledger.old.zone) × (ledger.new.default ≡ ledger.old.default) }
     ensures kept { HasKept (state S.Store ledger.new.connection) → HasKept (state S.Store ledger.old.connection) }
     ensures sound { HasKept (state S.Store ledger.new.connection)
@@ -239,7 +282,7 @@ pub fn listen<R, G: Log, L: Ledger + Hear>(
     alloc: Global,
     settings: &ServerSettings,
     ledger: &mut L,
-    connections: u32,
+    connections: Connections,
 ) -> Result<u8, ProgramFault>
 where
     R: Clock + Net<Listener = TcpListener, Stream = TcpStream>,
@@ -262,9 +305,10 @@ where
             return Err(ProgramFault::Listen);
         }
     };
-    info!(log; "listening on {address} for {connections} connections");
+    let crowd = Crowd(connections);
+    info!(log; "listening on {address} for {crowd}");
     let timeout = Duration::from_millis(u64::from(settings.timeout));
-    let mut left = Connections::Count(connections);
+    let mut left = connections;
     let _ended = serve_connections(
         rt,
         log,
@@ -275,6 +319,6 @@ where
         &mut NoChore,
         &mut left,
     )?;
-    info!(log; "ending after {connections} connections");
+    info!(log; "ending after {crowd}");
     Ok(0)
 }

@@ -24,10 +24,11 @@ use mq_settings::{Place, ServerSettings};
 use mq_store::SqlLedger;
 use mq_tables::laws::{empty_databases_have_no_table, trees_have_one_schema};
 use sqlite::{Alter, Connection, Error, ErrorCode, FileFrom, FileStore, MemStore, Start};
-use std::alloc::Global;
-use std::fs::OpenOptions;
+use std::alloc::{AllocError, Global};
+use std::fs::{File, OpenOptions};
 use std::io::ErrorKind;
-use std::os::unix::fs::OpenOptionsExt;
+use std::os::unix::fs::{MetadataExt, OpenOptionsExt, fchown};
+use std::path::Path;
 use std::{fs, io};
 
 /// Who may read and write a file that is made: its owner alone.
@@ -56,14 +57,34 @@ fn unopened<G: Log, C: std::fmt::Display + Drop>(log: &G, path: &str, cause: C) 
 
 /// Makes an empty file with mode 0600. It is an error where one is there.
 fn make_empty(rt: &HostRuntime, path: &str) -> io::Result<()> {
-    match OpenOptions::new()
+    let file = OpenOptions::new()
         .write(true)
         .create_new(true)
         .mode(MODE)
-        .open(rt, path)
-    {
-        Ok(_file) => Ok(()),
-        Err(error) => Err(error),
+        .open(rt, path)?;
+    match give_to_owner(rt, &file, path) {
+        Ok(()) => Ok(()),
+        Err(cause) => {
+            let _ = fs::remove_file(rt, path);
+            Err(cause)
+        }
+    }
+}
+
+/// Gives a file to the owner and the group of its folder, where this process may: what root makes is then the server's.
+fn give_to_owner(rt: &HostRuntime, file: &File, path: &str) -> io::Result<()> {
+    let folder = fs::metadata(rt, folder_of(rt.alloc(), path)?.as_str())?;
+    match fchown(file, Some(folder.uid()), Some(folder.gid())) {
+        Err(cause) if cause.kind() == ErrorKind::PermissionDenied => Ok(()),
+        given => given,
+    }
+}
+
+/// The folder in which the file at a path is.
+fn folder_of(alloc: Global, path: &str) -> Result<String, AllocError> {
+    match Path::new(path).parent() {
+        Some(folder) if !folder.as_str().is_empty() => String::from_str(alloc, folder.as_str()),
+        _ => String::from_str(alloc, "."),
     }
 }
 
