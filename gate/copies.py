@@ -1,21 +1,23 @@
 """Copies of functions and of laws, so that several edits of one can be tried in one check.
 
 A copy has the text, the contract and the proof files of what it is of under another name, and nothing calls it. So what is proved or refused of it,
-with an edit or as it stands, is what would be of the function itself.
+with an edit or as it stands, is what would be of the function itself. A copy may have one clause alone of the contract: a body that breaks this clause
+breaks the contract.
 """
 import os
 import re
 
 import source
 from edit import BadEdit, read
+from second import ANSWER, clause
 
 
 class Copy:
     """A copy of a function under another name, of its contract and its proof files too, with an edit of it or as it stands. So
     several edits of a function can be tried in one check. It has what an edit has."""
 
-    def __init__(self, function, path, number, edit=None):
-        self.function, self.path, self.edit = function, path, edit
+    def __init__(self, function, path, number, edit=None, clause=None):
+        self.function, self.path, self.edit, self.clause = function, path, edit, clause
         self.named = f"{function}_copy{number}"
         self.wanted = self.touched = {self.named}
         self.is_outside = False
@@ -38,14 +40,18 @@ class Copy:
         itself = rf"\bself\s*\.\s*{name}\b|\b(?:Self|{it.names[-2]})\s*::\s*{name}\b" if it.is_of_type else rf"(?<![.:\w]){name}\b|\bself::{name}\b"
         calls_itself = re.search(itself, source.blanked(text[it.body:it.ends]))
         is_by_hand = os.path.lexists(f"{folder}/proofs/{function.replace('::', '/')}/Proof.antt")
-        return None if calls_itself or is_by_hand or function.startswith("laws::") else cls(function, path, number, edit)
+        return None if calls_itself or is_by_hand or function.startswith("laws::") else cls(function, path, number, edit, edit.clause)
+
+    def kind(self):
+        """Returns what a copy without an edit has to share with it, so that it shows what this one shows: the contract, where that isn't whole."""
+        return (self.function, self.clause) if self.clause else None
 
     def as_it_stands(self, folder, number):
         """Returns a copy of the same function without an edit."""
-        return Copy(self.function, self.path, number)
+        return Copy(self.function, self.path, number, None, self.clause)
 
-    def length(self, crate):
-        return crate.length_of(self.function)
+    def cost(self, crate):
+        return crate.cost_of(self.function)
 
     def apply(self, folder, texts):
         """Returns these texts by path with the copy behind its function, and with its proof files."""
@@ -55,6 +61,10 @@ class Copy:
         if not it or not behind:
             raise BadEdit(f"{self.function} is no function of {self.path} any more")
         copy = source.renamed(own[it.begins:it.ends], self.named.rpartition("::")[2])
+        if self.clause:
+            copy = source.with_clause(copy, self.clause)
+            if not copy:
+                raise BadEdit(f"{self.function} has no clause {self.clause}")
         return {**texts, self.path: f"{text[:behind.ends]}\n\n{copy}{text[behind.ends:]}", **self.proofs(folder)}
 
     def proofs(self, folder):
@@ -63,9 +73,22 @@ class Copy:
         for name in ("Invariants.antt", "Answers.antt"):
             if os.path.isfile(f"{folder}/{place}/{name}"):
                 text = read(folder, f"{place}/{name}")
+                if self.clause:
+                    text = ANSWER.sub(self.answer, text)
                 old, new = (f".proofs.{it.replace('::', '.')}." for it in (self.function, self.named))
                 found[f"proofs/{self.named.replace('::', '/')}/{name}"] = text.replace(old, new)
         return found
+
+    def answer(self, found):
+        """Returns an answer of the function's proof file for a copy that has one clause, of whose goals no name says which."""
+        goal = found[1]
+        if not goal.startswith("returns") or "-clause-" not in goal:
+            return found[0]
+        return found[0].replace(goal, goal.partition("-clause-")[0]) if clause(goal) == self.clause else ""
+
+    def goals(self, told, name):
+        """Returns the open goals that were told of the copy, or of a part of it, by their names in its function."""
+        return {f"{it}-clause-{self.clause}" if self.clause and it.startswith("returns") else it for it in told.goals(name)}
 
 
 class LawCopy:
@@ -77,7 +100,7 @@ class LawCopy:
         self.module = f"laws_copy{number}"
         self.named = f"{self.module}::{law}"
         self.wanted, self.touched = {self.named}, {f"{self.module}::{it}" for it in self.laws}
-        self.function, self.is_outside = f"laws::{law}", False
+        self.function, self.is_outside, self.clause = f"laws::{law}", False, None
         if edit:
             self.name, self.case, self.adds_a_way = edit.name, edit.case, edit.adds_a_way
 
@@ -90,14 +113,20 @@ class LawCopy:
             return None
         return cls(folder, function[len("laws::"):], number, edit)
 
+    def kind(self):
+        return None
+
     def as_it_stands(self, folder, number):
         """Returns a copy of the same law without an edit."""
         return LawCopy(folder, self.law, number)
 
-    def length(self, crate):
-        """Returns how many bytes the proofs of its laws have."""
+    def goals(self, told, name):
+        return told.goals(name)
+
+    def cost(self, crate):
+        """Returns that it is a law, and how many bytes the proofs of its laws have."""
         places = [f"{crate.folder}/proofs/laws/{it}" for it in self.laws]
-        return sum(os.path.getsize(f"{it}/{name}") for it in places if os.path.isdir(it) for name in os.listdir(it))
+        return True, sum(os.path.getsize(f"{it}/{name}") for it in places if os.path.isdir(it) for name in os.listdir(it))
 
     def apply(self, folder, texts):
         """Returns these texts by path with the copies."""

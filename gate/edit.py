@@ -3,7 +3,8 @@
 A file of lines 'file: PATH' and then pairs 'old: TEXT' and 'new: TEXT', as rt reads them: each old text stands once in the
 file as the pairs before left it. Lines 'function: module::Type::name' say which functions it is to spoil, where the text that
 it changes lies in none, as a constant's does. A line 'case: GROUP: NAME' says which case of tests/program, or which test of a crate, refuses
-the body, where the prover can't tell so. Any other line is a remark.
+the body, where the prover can't tell so. A line 'clause: NAME' says which clause of the function's contract refuses the body, where it is to be tried
+against that alone. Any other line is a remark.
 """
 import os
 import re
@@ -24,7 +25,7 @@ class BadEdit(Exception):
 class Edit:
     def __init__(self, file, folder):
         """Reads the edit in `file` of the crate in `folder`."""
-        self.name, self.case = os.path.basename(file), None
+        self.name, self.case, self.clause = os.path.basename(file), None, None
         self.pairs, said = [], []
         with open(file, encoding="utf-8") as lines:
             path = old = None
@@ -44,6 +45,8 @@ class Edit:
                     said.append(line[9:].strip())
                 elif line.startswith("case:"):
                     self.case = line[5:].strip()
+                elif line.startswith("clause:"):
+                    self.clause = line[7:].strip()
         if not self.pairs:
             raise BadEdit("it has no 'old:' and 'new:' pair")
         places = []

@@ -50,6 +50,8 @@ FILES = {
     "docs/GATE.md": "The gate.\n",
     "tests/program/run.py": CASES.format(name="cases"),
     "tests/program/cases/peers.py": "peers\n",
+    "tests/model/ledger.py": "ledger\n",
+    "tests/refusals/run.py": CASES.format(name="refusals"),
     "tests/near_the_end/run.py": CASES.format(name="near the end"),
     "tests/near_the_end/low/low.rt.in": "near\n",
     "tests/prose/run.py": "print('1 passed, 0 failed')\n",
@@ -87,7 +89,9 @@ for crate, uses in re.findall(r"^(\\w+):(.*)", open("crates.txt").read(), re.M):
     print(f"rt: {crate} proved")
 print("3 passed, 0 failed")
 ''', "rattle": '''\
-import os, re, sys
+import os, re, resource, sys
+# (the gate lets it write no file)
+resource.setrlimit(resource.RLIMIT_FSIZE, (resource.getrlimit(resource.RLIMIT_FSIZE)[1],) * 2)
 crate, asked = sys.argv[sys.argv.index("--crate-name") + 1], [it for word, it in zip(sys.argv, sys.argv[1:]) if word == "--only"]
 bodies = dict(re.findall(r"fn (\\w+)\\(\\) -> u8 (.*)", open("src/lib.rt").read()))
 wrong = [it for it in asked or bodies if "1" not in bodies[it]]
@@ -100,7 +104,7 @@ sys.exit(1 if wrong and wrong != [missed] else 0)
 '''}
 
 EDITS = ["high", "high_witness"]
-OTHERS = ["near the end", "tests", "cases", "cases"]
+OTHERS = ["near the end", "tests", "cases", "cases", "refusals"]
 OWN = ["OwnTest", "KeepingTest"]
 ALL = ["low", *EDITS, *OTHERS, *OWN]
 OF_KIT = ["low", *EDITS, "near the end", "tests", *OWN]
@@ -118,11 +122,12 @@ CHANGES = [
     ("a script of the gate", "gate/source.py", "", "# as it is\n", ALL),
     ("a test of the gate", "gate/own_test.py", "", "# as it is\n", OWN),
     ("a script that it uses", "scripts/kit.py", "", "# as it is\n", ALL),
-    ("a case", "tests/program/cases/peers.py", "peers", "peer", ["cases", "cases"]),
+    ("a case", "tests/program/cases/peers.py", "peers", "peer", ["cases", "cases", "refusals"]),
+    ("what refuses", "tests/refusals/run.py", "", "# as it is\n", ["refusals"]),
     ("what a case reads", "contrib/smtpd.conf", "listen", "accept", ["cases", "cases"]),
     ("a test near the end", "tests/near_the_end/low/low.rt.in", "near", "nearer", ["near the end"]),
     ("a test in Rattle", "crates/mq_store_tests/src/lib.rt", "test", "tests", ["tests"]),
-    ("the program", "crates/mailquota/src/main.rt", "main", "main()", ["cases", "cases"]),
+    ("the program", "crates/mailquota/src/main.rt", "main", "main()", ["cases", "cases", "refusals"]),
     ("the kit's name", "kit/KIT-ID", "1", "2", OF_KIT),
     ("the prover", "kit/bin/rattle", "import os", "import  os", OF_KIT),
     ("a document", "docs/GATE.md", "gate", "way", []),
@@ -191,7 +196,7 @@ class KeepingTest:
     def tries(self, of, wanted, *words, **environment):
         """Looks whether the gate tries this alone, and counts all the same."""
         tried, said = self.gate(*words, **environment)
-        self.look(of, (tried, re.search(r"\d+ passed, \d+ failed\n\Z", said) and said.split("\n")[-2]), (sorted(wanted), "17 passed, 0 failed"), said)
+        self.look(of, (tried, re.search(r"\d+ passed, \d+ failed\n\Z", said) and said.split("\n")[-2]), (sorted(wanted), "19 passed, 0 failed"), said)
 
     def look(self, of, found, wanted, said=""):
         is_well = found == wanted
@@ -230,7 +235,7 @@ class KeepingTest:
         self.change("crates/low/must-fail/low.edit", "{ 3 }", "{ 4 }")
         for of in ("an edit that isn't refused", "an edit that isn't refused, once more"):
             tried, said = self.gate(MISSED="low")
-            self.look(of, ({*tried}, said.split("\n")[-2]), ({"low"}, "16 passed, 1 failed"), said)
+            self.look(of, ({*tried}, said.split("\n")[-2]), ({"low"}, "18 passed, 1 failed"), said)
         self.tries("an edit that is refused now", ["low"])
 
     def ended(self):

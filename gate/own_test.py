@@ -1,14 +1,14 @@
-"""The test of the rounds themselves, over a crate of four functions: what must not pass for refused doesn't."""
+"""The test of the rounds themselves, over a crate of five functions: what must not pass for refused doesn't."""
 import os
 import tempfile
 
-from prover import Crate
+from prover import Crate, Ran, Told
 from rounds import Result, Rounds
 
 SOURCE = """\
 //! Counting up to a hundred.
 #![tactic(auto)]
-ghost use Rattle.std.specs.Prelude.{◌≡◌, ◌≤◌, ◌+◌, IfSome};
+ghost use Rattle.std.specs.Prelude.{◌≡◌, ◌≤◌, ◌+◌, IfSome, length};
 ghost use Rattle.counting.specs.Levels.{any_loud};
 
 const MOST: u32 = 100;
@@ -40,9 +40,18 @@ pub fn twice(number: u8) -> u16
     u16::from(number) + u16::from(number)
 }
 
+/// The level after.
+pub fn after(level: u8) -> u16
+    ensures above { level ≤ result }
+    ensures near { result ≤ level + 1 }
+{
+    u16::from(level) + 1
+}
+
 /// Whether a level is above 90, where there are few.
 pub fn loud(levels: &[u8]) -> Option<bool>
-    ensures { IfSome result (λ it. it ≡ any_loud levels.now) }
+    ensures found { IfSome result (λ it. it ≡ any_loud levels.now) }
+    ensures few { IfSome result (λ _. length levels.now ≤ 99) }
 {
     if levels.len() < 100 {
         Some(levels.iter().any(|level| *level > 90))
@@ -76,8 +85,8 @@ Decides-from_cases true xs h = (λ _. h, λ _. refl)
 Decides-from_cases false xs h =
     (λ e. absurd (false≢true e), λ w. absurd (omega (arith, h w.0 0 (omega arith) w.1, w.2 0)))
 
-pub returns-then-levels-lt100 : goal.returns-then-levels-lt100
-returns-then-levels-lt100 c =
+pub returns-then-levels-lt100-clause-found : goal.returns-then-levels-lt100-clause-found
+returns-then-levels-lt100-clause-found c =
     let xs = c.args.levels.now in
     let by_call = cases_from_any _ _ _ (λ x. 90 < x) (λ x. x ≤ 90) c.any.ensures.ran (YieldsList-from_slice xs cc) (λ x q k. search (rules, tests))
         (λ x q k. search (rules, tests)) in
@@ -122,10 +131,29 @@ GROUPS = [
         ("has_a_case", f"case: rows: a row\n{TRIPLES}", True, "and rows: a row refuses the body"),
         ("has_a_case_elsewhere", f"case: columns: a column\n{TRIPLES}", False, "BAD EDIT: it names a case of what isn't there"),
     ],
+    [
+        # Against the one clause that each names, and where that holds against both.
+        ("is_too_far", "clause: near\nold: u16::from(level) + 1\nnew: u16::from(level) + 2", True, "_copy"),
+        ("is_too_far_for_another_clause", "clause: above\nold: u16::from(level) + 1\nnew: u16::from(level) + 3", True, "fn counting::after: "),
+        ("is_before", "clause: above\nold: u16::from(level) + 1\nnew: 1", True, "_copy"),
+        ("is_the_number", "clause: near\nold: u16::from(level) + 1\nnew: u16::from(level)", False, "NOT REFUSED"),
+        ("is_loud_above_89", "clause: found\nold: *level > 90\nnew: *level > 89", True, "_copy"),
+        ("names_no_clause", "clause: far\nold: u16::from(level) + 1\nnew: u16::from(level) + 2", False, "BAD EDIT: after has no clause far"),
+    ],
     [("is_of_what_was_not_proved", "function: never\nold: u16::from(number) + u16\nnew: 1 + u16", False, "BAD EDIT: never is none of")],
 ]
+# What the prover says of a function, and whether it is refused for itself by that.
+LINES = [
+    ("no proof: expected answers in ./proofs/next/Answers.antt; `search` did not prove `returns`; it calls `counting::most`, which is not proved", True),
+    ("not proved; it stands on `Rattle.counting.proofs.next.Answers.returns`, which antt refuses", True),
+    ("not proved; it calls `counting::most`, which is not proved", False),
+    ("no proof: the borrow checker's part in its proof is not made yet: a call of `counting::most`, which has no proof", False),
+    ("no proof: expected `next_spec` in ./proofs/next/Proof.antt; the borrow checker does not cover this function yet", False),
+    ("depends on a hole in `Rattle.counting.proofs.Taken.taken`", False),
+    ("no holes", False),
+]
 # The functions of the crate that are told proved as they stand.
-PROVED = ["most", "next", "twice", "loud"]
+PROVED = ["most", "next", "twice", "after", "loud"]
 
 
 class OwnTest:
@@ -141,6 +169,10 @@ class OwnTest:
 
     def run(self):
         self.results = []
+        for why, is_refused in LINES:
+            told = Told(Ran(1, f"fn counting::next: {why}\nonly=1 holes=1\n", 0.0), "counting")
+            is_well = told.ended and (told.refused.keys() == {"next"}) == is_refused
+            self.results.append(Result(is_well, f"{self.name}: {why}", "told rightly" if is_well else "told wrongly"))
         for group in GROUPS:
             said = {it.name.partition("/")[2].partition(".")[0]: it for it in self.tried(group)}
             for name, _, is_refused, words in group:

@@ -35,6 +35,10 @@ pub taken {ℓ} : {A : Type ℓ} → A
 taken = ?
 """
 
+# The words before a command that may write no file (to pipes it may). A check that can keep nothing doesn't go through what it refuses once more, to
+# print which proof files could be written there: that takes a tenth of it, or a fifth.
+WITHOUT_FILES = ["sh", "-c", "trap '' XFSZ; ulimit -S -f 0; exec \"$@\"", "sh"]
+
 # How a command ended (below 0: by that signal; None: it took too long), what it printed, and its processor seconds.
 Ran = namedtuple("Ran", "status said seconds")
 
@@ -101,7 +105,7 @@ class Crate:
     def __init__(self, root, name):
         self.name, self.rows, self.crates = name, rows_of(root), f"{root}/crates"
         self.folder, self.below = f"{root}/crates/{name}", below(name, self.rows)
-        self.lengths = None
+        self.costs = None
 
     def rlib(self, name):
         return f"{self.crates}/{name}/out/rlib/{name}.rlib"
@@ -109,12 +113,12 @@ class Crate:
     def words(self):
         return words_of(self.name, self.rows, self.folder, self.rlib)
 
-    def length_of(self, function):
-        """Returns how many characters the text of a function has, or a very large number where it has none of its own, and for a
-        law, whose proof is all that it does."""
-        if self.lengths is None:
-            self.lengths = source.lengths(self.folder)
-        return 1e9 if function.startswith("laws::") else self.lengths.get(function, 1e9)
+    def cost_of(self, function):
+        """Returns what tells whether one function costs more than another: whether it has a branch, a loop or a closure, and how many characters its
+        text has; a very large number where it has none of its own, and for a law, whose proof is all that it does."""
+        if self.costs is None:
+            self.costs = source.costs(self.folder)
+        return (True, 1e9) if function.startswith("laws::") else self.costs.get(function, (True, 1e9))
 
     def is_generic(self, function):
         """Returns whether a function of the crate, or its type's functions, are over types."""
@@ -128,28 +132,30 @@ class Crate:
         return int(1e9 + 1e6 * lines_in(self.folder, ".rt") + 2e5 * lines_in(self.folder, ".antt") + 8e4 * lines_below
                    + min(5 * sum(os.path.getsize(it) for it in loaded if os.path.isfile(it)), 2.5e9))
 
-    def check(self, texts, only, stated, kept):
-        """Checks these functions of a copy of the crate with these texts by path. The functions of `stated` are taken by their
+    def check(self, texts, only, stated, kept, place, leaves):
+        """Checks these functions of a copy of the crate with these texts by path, in a folder that has nothing but what checks of the same run left
+        there: what of theirs stays the same is taken, and what this one checks is left, or else nothing is. The functions of `stated` are taken by their
         contracts, and so is one that is refused where it is called; where there are such, only those of `kept` keep their bodies."""
-        with tempfile.TemporaryDirectory(prefix="edits-") as place:
-            room = f"{place}/crate"
-            for part in PARTS:
-                if os.path.isdir(f"{self.folder}/{part}"):
-                    shutil.copytree(f"{self.folder}/{part}", f"{room}/{part}")
-            for path, text in texts.items():
-                self.write(f"{room}/{path}", text)
-            if stated:
-                for path, text in source.texts_in(room).items():
-                    self.write(f"{room}/{path}", source.without_bodies(path, text, lambda it: source.overlap({it}, kept)))
-                self.write(f"{room}/proofs/Taken.antt", HOLE)
-                self.write(f"{room}/proofs/Lib.antt", "mod Taken\n", "a")
-            if "proofs/Second.antt" in texts:
-                self.write(f"{room}/proofs/Lib.antt", "mod Second\n", "a")
-            for it in stated:
-                self.leave_open(it, room)
-            # (the prover runs once more to print proof files that it offers: with a folder of its own it needn't check all again for that)
-            words = [RATTLE, "check", *self.words(), "--jobs", "1", "--allow-holes", "--short-goals", "--incremental", f"{place}/checked"]
-            return run(words + [word for it in only for word in ("--only", it)], room, LONGEST)
+        room = f"{place}/crate"
+        shutil.rmtree(room, ignore_errors=True)
+        for part in PARTS:
+            if os.path.isdir(f"{self.folder}/{part}"):
+                shutil.copytree(f"{self.folder}/{part}", f"{room}/{part}")
+        for path, text in texts.items():
+            self.write(f"{room}/{path}", text)
+        if stated:
+            for path, text in source.texts_in(room).items():
+                self.write(f"{room}/{path}", source.without_bodies(path, text, lambda it: source.overlap({it}, kept)))
+            self.write(f"{room}/proofs/Taken.antt", HOLE)
+            self.write(f"{room}/proofs/Lib.antt", "mod Taken\n", "a")
+        if "proofs/Second.antt" in texts:
+            self.write(f"{room}/proofs/Lib.antt", "mod Second\n", "a")
+        for it in stated:
+            self.leave_open(it, room)
+        words = [*([] if leaves else WITHOUT_FILES), RATTLE, "check", *self.words(), "--jobs", "1", "--allow-holes", "--short-goals"]
+        if leaves or os.path.isdir(f"{place}/checked"):
+            words += ["--incremental", f"{place}/checked"]
+        return run(words + [word for it in only for word in ("--only", it)], room, LONGEST)
 
     def check_whole(self):
         """Checks the crate as it stands, from nothing."""
@@ -259,13 +265,13 @@ class Told:
     @staticmethod
     def is_for_itself(kind, crate, name, why, goals):
         """Returns whether one of so many goals that were told or an answer of its own was refused, and not only what it calls or
-        stands on."""
+        stands on. A function that the borrow checker doesn't cover, or that calls one without a proof, has no goals, so nothing is refused of it."""
         if not why.startswith(("not proved", "no proof")):
             return False
         own = f"Rattle.{crate}.proofs.{name.replace('::', '.')}."
         if goals or "`search` did not prove" in why or "expected answers in" in why or own in why:
             return True
-        return kind == "fn" and not re.search(r"it calls|it stands on", why)
+        return kind == "fn" and not re.search(r"it calls|it stands on|the borrow checker", why)
 
 
 def is_part(told, function):

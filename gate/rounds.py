@@ -9,14 +9,16 @@ and were proved before.
 All this rests on the prover's words, so nothing else is believed of a round: an edit counts only where its functions were proved
 as they stand, over the same libraries, and one of a copy only where a copy without an edit is proved; edits whose functions aren't told
 of are tried without the others and at last alone; an unedited function that is refused is a failure, and one of them is asked for in each
-round. No check begins with what another one left. What a round shows is kept for later runs over the very same files (kept.py), unless a
-function was told of that no edit changes.
+round, which no earlier one proved. A check takes what those before it in the run checked of the crate where nothing of that changed, as specs
+and statements, and nothing that other runs left. What a round shows is kept for later runs over the very same files (kept.py), unless a function
+was told of that no edit changes.
 
 A refused goal may be true and only without an answer. So an edit that adds a way out of a function, or takes a goal from its answer, is
 looked at once more (second.py): it fails where its goals are true, and where that can't be told it fails unless it names a case that
 refuses its body.
 """
 import re
+import tempfile
 from collections import namedtuple
 
 from copies import Copy, LawCopy, copy_of
@@ -80,6 +82,11 @@ class Rounds:
         for it in sorted(edit.wanted):
             if not overlap({it}, self.proved):
                 raise BadEdit(f"{it} is none of the functions that were proved as they stand")
+        if edit.clause:
+            copy = copy_of(edit, self.crate.folder, 0)
+            if not copy:
+                raise BadEdit("it names a clause, and its function can't stand twice")
+            copy.apply(self.crate.folder, {})
         return edit
 
     def say(self, is_well, name, said):
@@ -106,7 +113,7 @@ class Rounds:
         # (of an impl over one type alone the prover's name isn't that of the text, so it has its body and its proof)
         over_one_type = {re.sub(r"\+\w+", "", it) for it in self.proved if "+" in it}
         kept = set(only).union(over_one_type, *(it.touched for it in edits))
-        ran = self.crate.check(self.composed(edits, more), only, by_contract, kept)
+        ran = self.crate.check(self.composed(edits, more), only, by_contract, kept, self.folder, self.leaves)
         self.seconds += ran.seconds
         if ran.status == -9:
             raise Killed
@@ -120,17 +127,18 @@ class Rounds:
 
     def planned(self, edits, copies=True):
         """Returns the edits in rounds, in each of which none changes what another is to spoil and they can stand together: a further one of
-        a function with a copy of that, unless none are wanted. An edit outside functions may spoil any, and is alone."""
+        a function with a copy of that, and one that names a clause with a copy that has this clause alone, unless none are wanted. An edit outside
+        functions may spoil any, and is alone."""
         rounds, folder = [], self.crate.folder
         for edit in edits:
             for it in rounds:
-                ways = [None if edit.is_outside else edit, copy_of(edit, folder, len(it)) if copies else None]
+                ways = [None if edit.is_outside or copies and edit.clause else edit, copy_of(edit, folder, len(it)) if copies else None]
                 way = next((way for way in ways if way and self.can_join(way, it)), None)
                 if way:
                     it.append(way)
                     break
             else:
-                first = copy_of(edit, folder, 0) if copies and edit.is_outside else None
+                first = copy_of(edit, folder, 0) if copies and (edit.is_outside or edit.clause) else None
                 rounds.append([first or edit])
         return rounds
 
@@ -147,22 +155,29 @@ class Rounds:
 
     def run(self):
         """Tries all edits, and leaves what is to be said of them in results."""
-        self.results, self.bad, self.doubted, self.looked_at = [], [], {}, 0
+        self.results, self.bad, self.doubted, self.witnesses, self.looked_at = [], [], {}, [], 0
         self.proved = sorted(self.proved_of(self.crate))
         self.read()
-        for it in self.planned(self.edits):
-            self.try_round(it)
-        for it in self.planned([edit for edit in self.edits if edit in self.doubted], copies=False):
-            self.look_again(it)
+        with tempfile.TemporaryDirectory(prefix="edits-") as self.folder:
+            rounds = self.planned(self.edits)
+            for it in rounds:
+                # (what the last one leaves would be of use to few checks)
+                self.leaves = it is not rounds[-1]
+                self.try_round(it)
+            for it in self.planned([edit for edit in self.edits if edit in self.doubted], copies=False):
+                self.look_again(it)
 
     def try_round(self, edits):
-        if len(edits) == 1:
+        if len(edits) == 1 and not edits[0].clause:
             edits = [plain(it) for it in edits]
-        # (the shortest, which costs least, and no law: what spoils a definition may spoil each of them)
-        witness = sorted((it for it in self.unedited(edits) if not it.startswith("laws::")), key=self.crate.length_of)[:1]
-        # (and where there are copies, the shortest function of them as it stands: a copy is to be proved as what it is of)
-        copied = sorted((it for it in edits if is_copy(it)), key=lambda it: it.length(self.crate))[:1]
-        controls = [it.as_it_stands(self.crate.folder, len(edits)) for it in copied]
+        # (one that costs least, and no law: what spoils a definition may spoil each of them)
+        unedited = [it for it in self.unedited(edits) if not it.startswith("laws::")]
+        witness = sorted(unedited, key=lambda it: (it in self.witnesses, *self.crate.cost_of(it)))[:1]
+        self.witnesses += witness
+        # (and where there are copies, the function of them that costs least, as it stands: a copy is to be proved as what it is of; of those that have
+        # one clause of a function one each)
+        copied = {it.kind(): it for it in sorted((it for it in edits if is_copy(it)), key=lambda it: it.cost(self.crate), reverse=True)}
+        controls = [it.as_it_stands(self.crate.folder, len(edits) + number) for number, it in enumerate(copied.values())]
         ran = self.check([*edits, *controls], sorted(set(witness).union(*(it.wanted for it in (*edits, *controls)))))
         told = Told(ran, self.crate.name)
         if told.ended and ran.status == 1 and not told.unread:
@@ -175,6 +190,8 @@ class Rounds:
             if left and left != edits:
                 self.try_round(left)
             again = left if left == edits else []
+        elif is_copy(edits[0]):
+            again = edits
         else:
             self.say_unjudged(edits[0], ran, told)
             again = []
@@ -185,10 +202,10 @@ class Rounds:
             self.try_round(group)
 
     def judge(self, edits, told, controls=()):
-        """Says which edits were refused, and returns those to be tried without the others. Nothing is believed of copies where one without an
-        edit isn't proved."""
+        """Says which edits were refused, and returns those to be tried without the others. Nothing is believed of copies where the one of their kind
+        without an edit isn't proved."""
         touched = set().union(*(it.touched for it in (*edits, *controls)))
-        are_good = all(it.named in told.functions and it.named not in told.refused for it in controls)
+        proved = {it.kind() for it in controls if it.named in told.functions and it.named not in told.refused}
         for name, line in told.refused.items():
             if not any(is_part(name, it) or it.startswith(name + "::") for it in touched):
                 self.say(False, name, "refused, though no edit of its round changes it; if one does, name it there by a line "
@@ -196,14 +213,15 @@ class Rounds:
         again = []
         for edit in edits:
             own = [it for it in told.refused if any(is_part(it, wanted) for wanted in edit.wanted)]
-            real = [it for it in own if it not in told.by_names and (are_good or not is_copy(edit))]
+            real = [it for it in own if it not in told.by_names and (not is_copy(edit) or edit.kind() in proved)]
             case = edit.case if edit.adds_a_way and self.groups is not None else None
             if real and not case and (edit.adds_a_way or self.looks_at_all or any(told.lost_an_answer(it) for it in real)):
-                self.doubted[plain(edit)] = {edit.function if is_copy(edit) else it: told.goals(it) for it in real}
+                goals = [(edit.function, edit.goals(told, it)) if is_copy(edit) else (it, told.goals(it)) for it in real]
+                self.doubted[plain(edit)] = dict(goals)
             elif real:
                 by_case = f", and {case} refuses the body" if case else ""
                 self.say(True, edit.name, f"refused, as it must be{by_case}: {told.refused[real[0]][:200]}")
-            elif len(edits) > 1:
+            elif len(edits) > 1 or is_copy(edit):
                 again.append(edit)
             elif own:
                 self.say(False, edit.name, "refused only because a proof file names what the edit took away, so it says nothing of the "

@@ -2,8 +2,9 @@
 """The gate, and the must-fail edits in rounds.
 
 usage: run.py gate [CRATE ..]        tests/prose; rt ci over a copy of the tree without its must-fail edits, then those edits in rounds over
-                                     the libraries that it built, the tests of the gate itself, and the cases of tests/program over the program
-                                     as each compiler built it. With names: these crates and those below
+                                     the libraries that it built, the tests of the gate itself, the cases of tests/program over the program as
+                                     each compiler built it, and the worked examples with each allocation refused. With names: these crates and
+                                     those below
        run.py must-fail [CRATE ..]   the gate's edits alone, over libraries that `rt lib` builds where they stand
        run.py further [CRATE ..]     the same for the edits of tests/edits/CRATE, which the gate leaves out
        run.py look [CRATE ..]        the gate's edits, each looked at once more, where the gate does so with a few
@@ -240,6 +241,7 @@ def gate(names, sum_, takes):
         # (last, with nothing else running: they wait for what others do)
         if "mailquota" in rows_of(tree):
             run_cases(tree, f"{room}/cases", kept, sum_)
+            run_refusals(tree, f"{room}/refusals", kept, sum_)
         run_near_the_end(tree, sums, kept, sum_)
         run_tests([it for it in TESTS if it in wanted], tree, kept, sum_)
     kept.shrink()
@@ -263,7 +265,7 @@ def is_kept(test, kept, sum_):
 
 
 def run_prose(sum_):
-    """Looks whether words, front pages and lists agree with the tree: over all of it, whatever crates are wanted, since that takes two seconds."""
+    """Looks whether the documents agree with the tree: over all of it, whatever crates are wanted, since that takes two seconds."""
     add_cases("tests/prose", run([sys.executable, f"{TOP}/tests/prose/run.py"], TOP, LONGEST_CASES), sum_)
 
 
@@ -281,6 +283,17 @@ def run_cases(tree, place, kept, sum_):
         counts.add(taken_or_run(f"tests/program over mailquota{ending}", made, words, place, kept, sum_))
     if len(counts) > 1:
         sum_.fail("tests/program", "over one build it tried more cases than over the other")
+
+
+def run_refusals(tree, place, kept, sum_):
+    """Has the program go through the worked examples with each of its allocations refused in turn, in a place where nothing is but what the result
+    is kept by."""
+    program, read = "crates/mailquota/out/mailquota", ["tests/refusals", "tests/program", "tests/model"]
+    for it in read:
+        shutil.copytree(f"{tree}/{it}", f"{place}/{it}")
+    made = [sum_of("refusals", of_gate(), sys.version, sum_of_files(tree, [program, *read]))]
+    words = [sys.executable, f"{place}/tests/refusals/run.py", f"{tree}/{program}", "--examples"]
+    taken_or_run("tests/refusals", made, words, place, kept, sum_)
 
 
 def run_near_the_end(tree, sums, kept, sum_):

@@ -12,9 +12,11 @@ TOKEN = re.compile(
     r"""//[^\n]*|/\*.*?\*/|b?r(#*)".*?"\1|b?"(?:[^"\\]|\\.)*"|b?'(?:[^'\\\n]|\\[^'\n]+|\\')'|'\w+""", re.S)
 # An array's type or value, whose semicolon ends nothing.
 ARRAY = re.compile(r"\[[^\[\]{}]*;[^\[\]{}]*\]")
+ENSURES = re.compile(r"\bensures\s+(?:(\w+)\s*)?\{")
 CLAUSE = re.compile(r"\b(?:requires|ensures)\*?(?:\s+\w+)?\s*\Z|\bghost\b[^;]*\Z")
 FUNCTION = re.compile(r"\bfn\s+(\w+)")
 TYPE = re.compile(r"\b(impl|trait)\b(.*)", re.S)
+BRANCH = re.compile(r"\b(?:if|match|for|while|loop)\b|[?|]")
 
 
 def blanked(text):
@@ -130,6 +132,30 @@ def renamed(text, new):
     return text[:at.start(1)] + new + text[at.end(1):]
 
 
+def with_clause(text, name):
+    """Returns the text of a function with this clause alone of what its contract says of the result, and without its name, so that a goal is the
+    clause itself; or none where it has no such clause."""
+    plain, parts, last, is_there = blanked(text), [], 0, False
+    for it in ENSURES.finditer(plain[:functions(text)[0].body]):
+        if it[1] == name:
+            is_there = True
+            parts.append(text[last:it.start(1)])
+            last = it.end(1)
+        else:
+            parts.append(text[last:it.start()])
+            last = closed_at(plain, it.end())
+    return "".join(parts) + text[last:] if is_there else None
+
+
+def closed_at(plain, at):
+    """Returns the place after the brace that closes the one before a place."""
+    depth = 1
+    while depth:
+        depth += (plain[at] == "{") - (plain[at] == "}")
+        at += 1
+    return at
+
+
 def without_bodies(path, text, is_kept):
     """Returns the text, in which a function whose name isn't kept never ends, whatever its type: it is there to be called alone."""
     parts, last, over = [], 0, 0
@@ -165,7 +191,7 @@ def generic(folder):
     return found
 
 
-def lengths(folder):
-    """Returns how many characters each function of the crate has, by the name that the prover prints."""
-    return {"::".join((*module_of(path), *it.names)): it.ends - it.begins
+def costs(folder):
+    """Returns of each function of the crate, by the name that the prover prints, whether it has a branch, a loop or a closure, and how many characters."""
+    return {"::".join((*module_of(path), *it.names)): (bool(BRANCH.search(blanked(text[it.body:it.ends]))), it.ends - it.begins)
             for path, text in texts_in(folder).items() for it in functions(text)}
