@@ -17,7 +17,7 @@ SMTPD = """
 pki quota.test cert "/etc/mailquota/cert.pem"
 pki quota.test key "/etc/mailquota/key.pem"
 table credentials file:/etc/mailquota/credentials
-filter quota proc-exec "/usr/local/sbin/mailquota filter --config /etc/mailquota/filter1.toml"
+filter quota proc-exec "/usr/sbin/mailquota filter --config /etc/mailquota/filter1.toml"
 filter yes proc-exec "/etc/mailquota/yes"
 listen on 127.0.0.1 port 2501 tls pki quota.test auth-optional <credentials> filter quota
 listen on 127.0.0.1 port 2502 tls pki quota.test auth-optional <credentials> filter yes

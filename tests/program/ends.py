@@ -24,10 +24,12 @@ LIMITED = """import os, resource, signal, sys
 signal.signal(signal.SIGXFSZ, signal.SIG_IGN)
 resource.setrlimit(getattr(resource, sys.argv[1]), (int(sys.argv[2]), int(sys.argv[2])))
 os.execv(sys.argv[3], sys.argv[3:])"""
-# Runs a program of x86-64 whose calls of accept(2) and accept4(2) fail, by a filter of seccomp(2): "accept", the error's number, and the words.
-WITHOUT_ACCEPT = """import ctypes, os, struct, sys
-ALLOWED, FAILS = 0x7fff0000, 0x50000 | int(sys.argv[2])
-lines = [(0x20, 0, 0, 0), (0x15, 1, 0, 43), (0x15, 0, 1, 288), (6, 0, 0, FAILS), (6, 0, 0, ALLOWED)]
+# The numbers of calls of the system: accept(2) and accept4(2), and fchown(2).
+CALLS = {"accept": (43, 288), "fchown": (93, 93)}
+# Runs a program of x86-64 whose calls of these fail, by a filter of seccomp(2): their name, the error's number, and the words.
+WITHOUT_CALLS = f"""import ctypes, os, struct, sys
+ALLOWED, FAILS, CALLS = 0x7fff0000, 0x50000 | int(sys.argv[2]), {CALLS}[sys.argv[1]]
+lines = [(0x20, 0, 0, 0), (0x15, 1, 0, CALLS[0]), (0x15, 0, 1, CALLS[1]), (6, 0, 0, FAILS), (6, 0, 0, ALLOWED)]
 class Filter(ctypes.Structure):
     _fields_ = [("count", ctypes.c_ushort), ("lines", ctypes.c_char_p)]
 it, libc = Filter(len(lines), b"".join(struct.pack("HBBI", *line) for line in lines)), ctypes.CDLL(None)
@@ -36,10 +38,10 @@ os.execv(sys.argv[3], sys.argv[3:])"""
 
 
 def under(limit):
-    """The words before a program's that run it under this limit, where there is one: one of LIMITED, or of WITHOUT_ACCEPT."""
+    """The words before a program's that run it under this limit, where there is one: one of LIMITED, or of WITHOUT_CALLS."""
     if not limit:
         return []
-    return [sys.executable, "-I", "-S", "-c", WITHOUT_ACCEPT if limit[0] == "accept" else LIMITED, *map(str, limit)]
+    return [sys.executable, "-I", "-S", "-c", WITHOUT_CALLS if limit[0] in CALLS else LIMITED, *map(str, limit)]
 
 
 def free_port():
@@ -130,15 +132,16 @@ def wait_past_midnight(offset=0):
 
 
 def soon(what, enough):
-    """What one of several goes brings, and how long it took: the first that takes less than so many seconds, or the tenth.
+    """What one of several goes brings, and how long it took: the first that takes less than so many seconds, or the tenth, or the third of long ones.
 
     A machine that has much else to do may hold one up, and hardly ten.
     """
-    for _ in range(10):
+    begins = time.monotonic()
+    for go in range(10):
         start = time.monotonic()
         came = what()
         took = time.monotonic() - start
-        if took < enough:
+        if took < enough or go >= 2 and time.monotonic() - begins > SECONDS:
             break
     return came, took
 
@@ -320,13 +323,15 @@ class Server:
         finally:
             self.process.send_signal(signal.SIGCONT)
 
-    def connect(self, room=None):
-        """A connection, with so many bytes of room for what comes back."""
+    def connect(self, room=None, source=None):
+        """A connection, with so many bytes of room for what comes back, and from this address of the host."""
         peer = socket.socket(socket.AF_INET6 if ":" in self.host else socket.AF_INET)
         peer.settimeout(SECONDS)
         peer.setsockopt(socket.IPPROTO_TCP, socket.TCP_NODELAY, 1)
         if room:
             peer.setsockopt(socket.SOL_SOCKET, socket.SO_RCVBUF, room)
+        if source:
+            peer.bind((source, 0))
         peer.connect((self.host, self.port))
         return peer
 
@@ -423,13 +428,16 @@ class Script(Listening):
     """A server that answers its connections by a list: bytes, SILENCE until the peer gives up, DRIP, a byte now and
     then for as long, or RESET.
 
-    A function in the list is given what came and makes one of these. After the list nobody listens.
+    A function in the list is given what came and makes one of these. After the list nobody listens, or each further
+    question is answered by `otherwise`.
     """
 
-    def __init__(self, answers, host="127.0.0.1"):
+    def __init__(self, answers, host="127.0.0.1", otherwise=None):
         super().__init__(host)
         self.answers = list(answers)
+        self.otherwise = otherwise
         self.heard = []
+        self.heard_later = []
         self.silent = []
 
     def __exit__(self, *_):
@@ -453,6 +461,9 @@ class Script(Listening):
                 reset(peer)
             else:
                 self.give(peer, answer)
+        while self.otherwise and (peer := self.next_peer()):
+            self.heard_later.append(read_all(peer))
+            self.give(peer, self.otherwise(self.heard_later[-1]))
         self.listener.close()
 
     def drip(self, peer):

@@ -26,21 +26,22 @@ def run(refusals, checks):
     make_wrong(made, wrong)
     open(f"{empty}/ledger", "wb").close()
     name = "a store taken apart and opened"
-    sweep(refusals, checks, f"{name}, audit", audited(refusals, made, SOUND))
+    sweep(refusals, checks, f"{name}, audit", audited(refusals, made, SOUND), is_example=True)
     sweep(refusals, checks, f"{name}, server", opened(refusals, made))
     sweep(refusals, checks, f"{name}, server by a rule", opened(refusals, by_rule, **BY_RULE), every=9)
     # up to its end an audit with another answer allocates as the first one does
     sweep(refusals, checks, f"{name}, audit by a rule", audited(refusals, by_rule, SOUND, **BY_RULE), every=9)
-    for what, source, more, why in [
-        ("another offset", made, {"offset": 60}, "store has another zone"),
-        ("another default", made, {"default": 4}, "store has another default"),
-        ("wrong books", wrong, {}, "store is damaged: login u day 1"),
-        ("an empty file", empty, {}, "store is not this ledger"),
-        ("a rule, opened with an offset", by_rule, {}, "store has another zone"),
-        ("an offset, opened with a rule", made, BY_RULE, "store has another zone"),
+    for what, source, more, why, is_example in [
+        ("another offset", made, {"offset": 60}, "store has another zone", True),
+        ("another default", made, {"default": 4}, "store has another default", True),
+        ("wrong books", wrong, {}, "store is damaged: login u day 1", True),
+        ("an empty file", empty, {}, "store is not this ledger", True),
+        ("a rule, opened with an offset", by_rule, {}, "store has another zone", False),
+        ("an offset, opened with a rule", made, BY_RULE, "store has another zone", False),
     ]:
-        sweep(refusals, checks, f"{name}, audit, {what}", audited(refusals, source, refused(why), **more), every=9)
-    sweep(refusals, checks, f"{name}, server --create", made_again(refusals, made), every=9)
+        one = audited(refusals, source, refused(why), **more)
+        sweep(refusals, checks, f"{name}, audit, {what}", one, every=9, is_example=is_example)
+    sweep(refusals, checks, f"{name}, server --create", made_again(refusals, made), every=9, is_example=True)
 
 
 def refused(why):

@@ -18,13 +18,15 @@ FIRST_RUN = 1_000_000
 def run(refusals, checks):
     with Server(refusals) as server:
         up = Link(server.address, server)
-        sweep(refusals, checks, "one recipient through the filter", filtered(refusals, up, b"", 1, [(0, 1)]))
-        sweep(refusals, checks, "commit settles, reset does nothing", filtered(refusals, up, COMMIT + RESET_LINE, 2, [(1, 0)]))
+        sweep(refusals, checks, "one recipient through the filter", filtered(refusals, up, b"", 1, [(0, 1)]), is_example=True)
+        committed = filtered(refusals, up, COMMIT + RESET_LINE, 2, [(1, 0)])
+        sweep(refusals, checks, "commit settles, reset does nothing", committed, is_example=True)
     # the port is taken, and nobody listens
     with socket.socket() as taken:
         taken.bind(("127.0.0.1", 0))
         down = Link(f"127.0.0.1:{taken.getsockname()[1]}", None)
-        sweep(refusals, checks, "the server is down", filtered(refusals, down, COMMIT, TRIES_WITHOUT_A_SERVER, []))
+        left = filtered(refusals, down, COMMIT, TRIES_WITHOUT_A_SERVER, [])
+        sweep(refusals, checks, "the server is down", left, is_example=True)
 
 
 class Link:
@@ -79,7 +81,7 @@ def ending_of(status, output, last, told, exchanges, has_server):
 
 def wrong_log(log):
     """What is wrong with the log, if anything: it has whole lines."""
-    if not all(re.match(r"\[(ERROR|WARN |INFO ) mq_\w+::\w+\] ", line) for line in log):
+    if not all(re.match(r"\[(ERROR|WARN |INFO ) mq_\w+(::\w+)+\] ", line) for line in log):
         return "lines of the log"
     return None
 

@@ -15,7 +15,8 @@ def run(refusals, checks):
         ("one reserve", ONE, []), ("reserve twice, settle once", TWO_AND_A_SETTLE, []), ("one reserve by a rule", ONE, BY_RULE)
     ]:
         for words in ([], ["--sql"]):
-            sweep(refusals, checks, ", ".join([what, *words]), replayed(refusals, requests, [*zone, *words]))
+            one = replayed(refusals, requests, [*zone, *words])
+            sweep(refusals, checks, ", ".join([what, *words]), one, is_example=not zone)
 
 
 def replayed(refusals, requests, words):

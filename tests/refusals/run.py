@@ -1,10 +1,11 @@
 #!/usr/bin/env python3
 """Refuses the program's allocations one after the other, a run for each, and prints how the runs ended.
 
-usage: run.py PROGRAM [--whole] [WORD..]
+usage: run.py PROGRAM [--whole] [--examples] [WORD..]
 
 With words: the groups of cases whose names have one of them. With --whole each allocation is refused where there are
-thousands, too. JOBS in the environment says how many runs are made at once, by default 3.
+thousands, too. With --examples so are those of the worked examples, and of nothing else. JOBS in the environment says
+how many runs are made at once, by default 3.
 """
 import importlib
 import os
@@ -26,12 +27,13 @@ FOLDER = "/dev/shm" if os.access("/dev/shm", os.W_OK) else None
 
 def main():
     program, words = os.path.abspath(sys.argv[1]), sys.argv[2:]
-    whole, wanted = "--whole" in words, [word for word in words if word != "--whole"]
+    whole, examples = "--whole" in words, "--examples" in words
+    wanted = [word for word in words if not word.startswith("--")]
     checks = Checks()
     with tempfile.TemporaryDirectory(dir=FOLDER) as folder:
         library = f"{folder}/refuse.so"
         subprocess.run(["cc", "-O2", "-shared", "-fPIC", "-o", library, f"{HERE}/refuse.c"], check=True)
-        refusals = Refusals(program, library, folder, whole)
+        refusals = Refusals(program, library, folder, whole, examples)
         for group in GROUPS:
             if not wanted or any(word in group for word in wanted):
                 print(f"-- {group}", flush=True)

@@ -33,11 +33,12 @@ Run = collections.namedtuple("Run", "ending told fault")
 class Refusals:
     """The program, the library that refuses, and a folder; numbers and ports that no two runs share."""
 
-    def __init__(self, program, library, folder, whole):
+    def __init__(self, program, library, folder, whole, only_examples):
         self.program = program
         self.library = library
         self.folder = folder
-        self.whole = whole
+        self.whole = whole or only_examples
+        self.only_examples = only_examples
         self.guard = threading.Lock()
         self.made = 0
         self.ports = collections.deque(maxlen=256)
@@ -103,9 +104,11 @@ def attempted(refusals, one, number):
     return run._replace(fault=f"allocation {number}: {run.fault}") if run.fault else run
 
 
-def sweep(refusals, checks, what, one, every=1):
+def sweep(refusals, checks, what, one, every=1, is_example=False):
     """Refuses each allocation of a case in turn: `one` makes a run in which the allocation of this number is refused,
-    with its files in a folder."""
+    with its files in a folder. The worked examples may be wanted alone."""
+    if refusals.only_examples and not is_example:
+        return
     whole = attempted(refusals, one, 0)
     checks.equal(f"{what}: with nothing refused", (whole.ending, whole.fault, whole.told.refused), (RIGHT, None, 0))
     asked = whole.told.asked

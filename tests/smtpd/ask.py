@@ -11,6 +11,7 @@ import time
 
 import storms
 from host import PROGRAM, ROOT, command, log_of, session, session_at, start_server, start_smtpd, stop
+from switch import call, wait_until
 
 ROWS = []
 # what u03's report says once the server was started again: it had sent to 2
@@ -154,7 +155,7 @@ class Sender(threading.Thread):
 
     def __init__(self, host):
         super().__init__(daemon=True)
-        self.smtp, self.last = session(host, "u09"), ""
+        self.smtp, self.sent, self.last = session(host, "u09"), 0, ""
 
     def run(self):
         for number in itertools.count():
@@ -162,7 +163,7 @@ class Sender(threading.Thread):
                 if number:
                     self.smtp.data(b"Subject: hello\r\n\r\nhello\r\n")
                 self.smtp.mail("a@quota.test")
-            self.last = recipient(self.smtp, number)
+            self.sent, self.last = number, recipient(self.smtp, number)
             if not self.last.startswith("250"):
                 break
         self.smtp.quit()
@@ -175,7 +176,8 @@ def a_stop_of_four_that_send():
     senders = [Sender(host) for host in (1, 2, 1, 2)]
     for it in senders:
         it.start()
-    time.sleep(1)
+    # (each has sent two messages by then)
+    wait_until(lambda: all(it.sent > 40 for it in senders))
     text, _ = command("stop", *words, "--day", day())
     note("u09, stop while four sessions send", text, "stopped: u09 used ")
     for it in senders:
@@ -241,8 +243,7 @@ def a_new_server(smtp, store):
 
 def end_of_a_filter(smtpd):
     """Whatever ends a filter ends smtpd."""
-    found = subprocess.run(["pgrep", "-f", "mailquota filter --config /etc/mailquota/filter2.toml"], capture_output=True, text=True)
-    for pid in found.stdout.split():
+    for pid in call("pgrep", "-f", "mailquota filter --config /etc/mailquota/filter2.toml", check=False).stdout.split():
         os.kill(int(pid), signal.SIGTERM)
     try:
         smtpd.wait(timeout=10)
@@ -254,7 +255,7 @@ def end_of_a_filter(smtpd):
 def as_in_contrib():
     """The files of contrib as they stand: a submission port that asks for a login, one spelling, a ledger in a file."""
     address, host = "192.0.2.7", "192.0.2.1"
-    server = start_server("/etc/mailquota.toml", "--create", address=address)
+    server = start_server("/etc/mailquota/server.toml", "--create", address=address)
     smtpd = start_smtpd("/etc/mail/smtpd.conf", host, ports=(587,))
     try:
         smtp = session_at(587, address=host)
@@ -283,10 +284,9 @@ def a_restart_retires(smtpd, address, host):
 
     smtpd.kill()
     smtpd.wait(timeout=10)
-    while subprocess.run(["pgrep", "-f", "mailquota filter"], capture_output=True).stdout:
-        time.sleep(0.05)
+    note("contrib: filters end with smtpd", str(wait_until(lambda: not call("pgrep", "-f", "mailquota filter", check=False).stdout)), "True")
     note("contrib: report behind a SIGKILL of smtpd", report(), "0 2 2 u01")
-    unit = (ROOT / "usr/local/share/examples/mailquota/smtpd-restart.conf").read_text()
+    unit = (ROOT / "usr/share/doc/mailquota/examples/smtpd-restart.conf").read_text()
     [before_start] = [line for line in unit.splitlines() if line.startswith("ExecStartPre=-")]
     words = before_start.removeprefix("ExecStartPre=-").split()
     note("contrib: the program before each start of smtpd", words[0], PROGRAM)

@@ -8,7 +8,7 @@ import time
 from pathlib import Path
 
 ROOT = Path(os.environ["SMTPD_ROOT"])
-PROGRAM = "/usr/local/sbin/mailquota"
+PROGRAM = "/usr/sbin/mailquota"
 # host 3 has contrib's filter for logins before mailquota
 PORTS = {1: 2501, 2: 2502, 3: 2503}
 

@@ -21,14 +21,14 @@ make_root() {
             exit 1
         fi
         rm -rf "$root"
-        debootstrap --variant=minbase --include=opensmtpd,ca-certificates,keepalived,iproute2,nftables trixie "$root" "$mirror" >&2
+        timeout 30m debootstrap --variant=minbase --include=opensmtpd,ca-certificates,keepalived,iproute2,nftables trixie "$root" "$mirror" >&2
     fi
     mkdir -p "$etc"
     printf '#!/bin/sh\nexit 101\n' >"$root/usr/sbin/policy-rc.d"
     chmod +x "$root/usr/sbin/policy-rc.d"
     : >"$root/etc/resolv.conf"
     echo quota.test >"$root/etc/mailname"
-    make -s -C "$1" install PROGRAM="$2" DESTDIR="$root" PREFIX=/usr/local
+    make -s -C "$1" install PROGRAM="$2" DESTDIR="$root" PREFIX=/usr
     [ -f "$etc/key.pem" ] || openssl req -x509 -newkey rsa:2048 -nodes -days 3650 -subj /CN=quota.test \
         -keyout "$etc/key.pem" -out "$etc/cert.pem" 2>/dev/null
     chmod 600 "$etc/key.pem"

@@ -37,10 +37,10 @@ cat >"$etc/smtpd.conf" <<'CONF'
 pki quota.test cert "/etc/mailquota/cert.pem"
 pki quota.test key "/etc/mailquota/key.pem"
 table credentials file:/etc/mailquota/credentials
-filter quota1 proc-exec "/usr/local/sbin/mailquota filter --config /etc/mailquota/filter1.toml"
-filter quota2 proc-exec "/usr/local/sbin/mailquota filter --config /etc/mailquota/filter2.toml"
-filter quota3 proc-exec "/usr/local/sbin/mailquota filter --config /etc/mailquota/filter3.toml"
-filter spelling proc-exec "/usr/local/libexec/mailquota/one-spelling"
+filter quota1 proc-exec "/usr/sbin/mailquota filter --config /etc/mailquota/filter1.toml"
+filter quota2 proc-exec "/usr/sbin/mailquota filter --config /etc/mailquota/filter2.toml"
+filter quota3 proc-exec "/usr/sbin/mailquota filter --config /etc/mailquota/filter3.toml"
+filter spelling proc-exec "filter-one-spelling"
 filter both chain { spelling, quota3 }
 listen on 127.0.0.1 port 2501 tls pki quota.test auth-optional <credentials> filter quota1
 listen on 127.0.0.1 port 2502 tls pki quota.test auth-optional <credentials> filter quota2
@@ -51,8 +51,8 @@ CONF
 
 # contrib's files where they say that they belong, and unchanged
 install -m 644 "$here/../../contrib/smtpd.conf" "$root/etc/mail/smtpd.conf"
-install -m 644 "$here/../../contrib/filter.toml" "$root/etc/mail/mailquota.toml"
-install -m 644 "$here/../../contrib/server.toml" "$root/etc/mailquota.toml"
+install -m 644 "$here/../../contrib/filter.toml" "$root/etc/mailquota/filter.toml"
+install -m 644 "$here/../../contrib/server.toml" "$root/etc/mailquota/server.toml"
 
 exec unshare --mount --net --pid --fork --kill-child --mount-proc bash -c '
     ip link set lo up

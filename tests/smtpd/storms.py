@@ -1,15 +1,15 @@
 """What sessions see whose quota server's host is gone, or whose server is killed, and what a login costs that is refused and goes on: contrib's settings."""
 import re
 import smtplib
-import subprocess
 import threading
 import time
 
 from host import ROOT, command, session_at, start_server, start_smtpd, stop
 from senders import Sender, end_all, longest_wait, outages
+from switch import call
 
 SERVER, HOST = "192.0.2.7", "192.0.2.1"
-SETTINGS = {key: int(value) for key, value in re.findall(r"^(\w+) = (\d+)$", (ROOT / "etc/mail/mailquota.toml").read_text(), re.MULTILINE)}
+SETTINGS = {key: int(value) for key, value in re.findall(r"^(\w+) = (\d+)$", (ROOT / "etc/mailquota/filter.toml").read_text(), re.MULTILINE)}
 # so many sessions send, and for so many seconds the host is gone, and a login goes on in so many sessions
 SESSIONS, GONE, FLOOD, FLOODING = 60, 120, 30, 4
 # twice what one recipient may wait, with a second for a machine that has much else to do; and `pause` with what is under way as the host returns
@@ -18,12 +18,12 @@ BACK = SETTINGS.get("pause", 0) + 2
 
 
 def packet_filter(*words):
-    subprocess.run(["chroot", ROOT, "nft", *words], check=True)
+    call("chroot", ROOT, "nft", *words)
 
 
 def rows(day):
     """What was done, what came, and whether that is as it should be."""
-    server = start_server("/etc/mailquota.toml", address=SERVER)
+    server = start_server("/etc/mailquota/server.toml", address=SERVER)
     smtpd = start_smtpd("/etc/mail/smtpd.conf", HOST, ports=(587,))
     try:
         for login in ("u02", "u03", "u04", "u05"):
@@ -35,10 +35,10 @@ def rows(day):
         time.sleep(10)
         gone, back = a_host_that_is_gone()
         server.kill()
-        server.wait()
+        server.wait(timeout=10)
         killed = time.monotonic()
         time.sleep(1)
-        server = start_server("/etc/mailquota.toml", address=SERVER)
+        server = start_server("/etc/mailquota/server.toml", address=SERVER)
         away = time.monotonic() - killed
         time.sleep(10)
         end_all(senders)
@@ -74,16 +74,16 @@ def a_flood(day, server):
     assert command("limit", *words) == ("set", 0)
     counts, end = [], time.monotonic() + FLOOD
     before = answers(server)
-    server = start_server("/etc/mailquota.toml", address=SERVER)
-    threads = [threading.Thread(target=flood, args=(end, counts)) for _ in range(FLOODING)]
+    server = start_server("/etc/mailquota/server.toml", address=SERVER)
+    threads = [threading.Thread(target=flood, args=(end, counts), daemon=True) for _ in range(FLOODING)]
     for thread in threads:
         thread.start()
     for thread in threads:
-        thread.join()
+        thread.join(timeout=FLOOD + 60)
     made = answers(server) - before
     # (one as it begins, and as a session ends another, which closes its transaction)
     most = FLOOD // SETTINGS["hold"] + 1 + FLOODING
-    yield f"storm: {sum(counts)} recipients of a refused login in {FLOOD} s: {made} answers, {most} at most", str(made <= most), "True"
+    yield f"storm: {sum(counts)} recipients of a refused login in {FLOOD} s: {made} answers, {most} at most", str(len(counts) == FLOODING and made <= most), "True"
 
 
 def flood(end, counts):
@@ -103,5 +103,5 @@ def flood(end, counts):
 def answers(server):
     """How many answers the ledger of this server has, which ends."""
     stop(server)
-    said, _ = command("status", "--config", "/etc/mailquota.toml")
+    said, _ = command("status", "--config", "/etc/mailquota/server.toml")
     return int(re.search(r"^answers=(\d+) ", said, re.MULTILINE)[1])

@@ -1,26 +1,24 @@
-"""Machines on one switch: each has a network namespace with one device, and a folder of its own over the one with smtpd."""
+"""Quota servers and mail hosts on one switch, each with a folder of its own over the one with smtpd."""
 import os
 import subprocess
 import sys
-import time
 from pathlib import Path
 
 HERE = Path(__file__).resolve().parent
 sys.path.append(str(HERE.parent / "smtpd"))
 
 from host import PROGRAM, ROOT
+from switch import OnSwitch, call
 
 WORK = Path(os.environ["WORK"])
 CONTRIB = HERE.parent.parent / "contrib"
-# the administrator's host, on which all of this runs
-ADMINISTRATOR = "192.0.2.9"
 MOVING = "192.0.2.7"
 
 # What runs a server as its unit does: again after a second, as long as it is wanted.
 SUPERVISOR = f"""#!/bin/sh
 while :; do
     while [ ! -e /run/wanted ]; do sleep 0.1; done
-    {PROGRAM} server --config /etc/mailquota.toml >>/var/log/mailquota-server.log 2>&1 &
+    {PROGRAM} server --config /etc/mailquota/server.toml >>/var/log/mailquota-server.log 2>&1 &
     echo $! >/run/mailquota.pid
     wait $!
     if [ -e /run/wanted ]; then sleep 1; fi
@@ -31,7 +29,7 @@ SYSTEMCTL = """#!/bin/sh
 case $1/$2 in
 start/mailquota)
     touch /run/wanted
-    MAINPID=$$ /usr/local/libexec/mailquota/await-server /etc/mailquota.toml
+    MAINPID=$$ /usr/libexec/mailquota/await-server /etc/mailquota/server.toml
     ;;
 stop/mailquota)
     rm -f /run/wanted
@@ -48,51 +46,28 @@ exec "$@"
 """
 
 
-def call(*words, check=True):
-    return subprocess.run([str(word) for word in words], check=check, capture_output=True, text=True)
-
-
-def make_switch():
-    call("ip", "link", "set", "lo", "up")
-    call("mount", "-t", "tmpfs", "tmpfs", "/run")
-    call("mount", "--bind", "/proc", ROOT / "proc")
-    call("ip", "link", "add", "switch", "type", "bridge")
-    call("ip", "address", "add", f"{ADMINISTRATOR}/24", "dev", "switch")
-    call("ip", "link", "set", "switch", "up")
-
-
-class Machine:
+class Machine(OnSwitch):
     def __init__(self, name, address):
-        self.name, self.address, self.root = name, address, WORK / name
+        super().__init__(name, address, WORK / name)
         for folder in (self.root, WORK / f"{name}.upper", WORK / f"{name}.work"):
             folder.mkdir()
         options = f"lowerdir={ROOT},upperdir={WORK}/{name}.upper,workdir={WORK}/{name}.work"
         call("mount", "-t", "overlay", "overlay", "-o", options, self.root)
         for folder in ("proc", "dev"):
             call("mount", "--bind", f"/{folder}", self.root / folder)
-        call("ip", "netns", "add", name)
-        call("ip", "link", "add", name, "type", "veth", "peer", "name", "eth0", "netns", name)
-        call("ip", "link", "set", name, "master", "switch", "up")
-        for words in (["address", "add", f"{address}/24", "dev", "eth0"], ["link", "set", "eth0", "up"], ["link", "set", "lo", "up"]):
-            call("ip", "-n", name, *words)
+        self.connect("eth0")
 
     def words(self, *words):
         return ["ip", "netns", "exec", self.name, "chroot", str(self.root), *map(str, words)]
 
     def run(self, *words):
         """What it prints, and its status."""
-        run = subprocess.run(self.words(*words), capture_output=True, text=True, stdin=subprocess.DEVNULL)
+        run = call(*self.words(*words), check=False)
         return (run.stdout + run.stderr).strip(), run.returncode
 
     def start(self, name, *words):
         with open(self.root / f"var/log/mailquota-{name}.log", "ab") as log:
             return subprocess.Popen(self.words(*words), stdin=subprocess.DEVNULL, stdout=log, stderr=log)
-
-    def write(self, path, text, mode=0o644):
-        file = self.root / path.lstrip("/")
-        file.parent.mkdir(parents=True, exist_ok=True)
-        file.write_text(text)
-        file.chmod(mode)
 
 
 def contrib(name, *changes):
@@ -110,14 +85,14 @@ class QuotaServer(Machine):
     def __init__(self, name, address, default, keepalived):
         super().__init__(name, address)
         listen = ('\nlisten = "192.0.2.7:7025"', '\nlisten = "0.0.0.0:7025"')
-        self.write("/etc/mailquota.toml", contrib("server.toml", listen, ("\ndefault = 1000\n", f"\ndefault = {default}\n")))
+        self.write("/etc/mailquota/server.toml", contrib("server.toml", listen, ("\ndefault = 1000\n", f"\ndefault = {default}\n")))
         self.write("/etc/keepalived/keepalived.conf", keepalived)
         self.write("/etc/nftables-mailquota.conf", contrib("nftables.conf"))
         self.write("/usr/local/sbin/supervisor", SUPERVISOR, 0o755)
         self.write("/usr/local/lib/units/systemctl", SYSTEMCTL, 0o755)
         self.write("/usr/local/lib/units/systemd-run", SYSTEMD_RUN, 0o755)
         (self.root / "var/lib/mailquota").mkdir(parents=True, exist_ok=True)
-        for words in (["nft", "-f", "/etc/nftables-mailquota.conf"], [PROGRAM, "init", "--config", "/etc/mailquota.toml"]):
+        for words in (["nft", "-f", "/etc/nftables-mailquota.conf"], [PROGRAM, "init", "--config", "/etc/mailquota/server.toml"]):
             said, status = self.run(*words)
             assert status == 0, said
         self.want()
@@ -140,10 +115,10 @@ class QuotaServer(Machine):
 
     def forget(self):
         path = "PATH=/usr/local/lib/units:/usr/local/sbin:/usr/sbin:/usr/bin"
-        return self.run("env", path, "mailquota-forget", "/etc/mailquota.toml", "/var/lib/mailquota/ledger", "2", MOVING)
+        return self.run("env", path, "mailquota-forget", "/etc/mailquota/server.toml", "/var/lib/mailquota/ledger", "2", MOVING)
 
     def ask(self, command, *words):
-        run = subprocess.run(["chroot", ROOT, PROGRAM, command, "--server", f"{self.address}:7025", *words], capture_output=True, text=True)
+        run = call("chroot", ROOT, PROGRAM, command, "--server", f"{self.address}:7025", *words, check=False)
         return (run.stdout + run.stderr).strip(), run.returncode
 
     def answers(self):
@@ -156,17 +131,7 @@ class MailHost(Machine):
     def __init__(self, name, address, host, *changes):
         super().__init__(name, address)
         self.host = host
-        self.write("/etc/mail/mailquota.toml", contrib("filter.toml", ("mx1.example.org", host), *changes))
+        self.write("/etc/mailquota/filter.toml", contrib("filter.toml", ("mx1.example.org", host), *changes))
         sink = 'action "outbound" mda "true" virtual { "@" = nobody }'
         self.write("/etc/smtpd.conf", contrib("smtpd.conf", ("listen on 192.0.2.1 ", f"listen on {address} "), ('action "outbound" relay', sink)))
         self.smtpd = self.start("smtpd", "smtpd", "-d", "-f", "/etc/smtpd.conf")
-
-
-def wait_until(holds, seconds):
-    """Waits until this holds; says whether it does."""
-    end = time.monotonic() + seconds
-    while not holds():
-        if time.monotonic() > end:
-            return False
-        time.sleep(0.05)
-    return True

@@ -14,8 +14,9 @@ import statistics
 import sys
 import time
 
-from machines import CONTRIB, PROGRAM, MailHost, QuotaServer, call, contrib, make_switch, wait_until
+from machines import CONTRIB, PROGRAM, ROOT, MailHost, QuotaServer, contrib
 from senders import Sender, end_all, longest_wait, outages
+from switch import call, make_switch, wait_until
 
 # How long the first server answers before the address goes back to it: a minute in contrib.
 DELAY = 5
@@ -46,6 +47,8 @@ class Scene:
     def __init__(self, checks, seed):
         self.checks, self.dice = checks, random.Random(seed)
         make_switch()
+        # (of the folder in which the administrator's commands run)
+        call("mount", "--bind", "/proc", ROOT / "proc")
         delay = ("preempt_delay 60", f"preempt_delay {DELAY}")
         self.first = QuotaServer("first", "192.0.2.5", FIRST_DEFAULT, contrib("keepalived-first.conf", delay))
         self.second = QuotaServer("second", "192.0.2.6", SECOND_DEFAULT, contrib("keepalived-second.conf"))
@@ -196,7 +199,7 @@ def retire(scene):
             scene.wait("the first server answers", scene.first.answers)
         for host in scene.hosts:
             start = time.monotonic()
-            said = [host.run(*(host.host if word == "mx1.example.org" else word for word in words)) for words in commands]
+            said = [host.run(*words) for words in commands]
             wanted = [1 if is_away else 0, 0]
             came = f"{[it[0].splitlines()[-1] for it in said]}, {time.monotonic() - start:.1f} s"
             scene.checks.holds(f"{host.name} retires at both servers{', of which one is away' if is_away else ''}", [it[1] for it in said] == wanted, came)
@@ -208,7 +211,7 @@ def audits(scene):
     for server in scene.servers:
         server.end(signal.SIGTERM)
         scene.wait(f"the {server.name} server ends", lambda: not server.answers())
-        said, status = server.run(PROGRAM, "audit", "--config", "/etc/mailquota.toml")
+        said, status = server.run(PROGRAM, "audit", "--config", "/etc/mailquota/server.toml")
         scene.checks.holds(f"audit of the {server.name} server's ledger", status == 0 and said.startswith("sound "), said)
 
 

@@ -85,12 +85,14 @@ def no_files_for_a_while(server, checks, what):
         send_no_more(peer)
         start = time.monotonic()
         wait_until(lambda: len(server.log_lines()) >= before + 4)
+        attempts = time.monotonic() - start
         resource.prlimit(server.process.pid, resource.RLIMIT_NOFILE, was)
         checks.equal(f"{what}: the reply once it may", read_all(peer), NOTHING_USED)
         took = time.monotonic() - start
     lines = server.log_lines()[before:]
     wanted = [tried_again(24, min(10 * 2 ** place, 1_000)) for place in range(len(lines))]
     checks.equal(f"{what}: a line for each attempt, with pauses that grow", (len(lines) >= 4, lines), (True, wanted))
+    checks.holds(f"{what}: how long four attempts take", attempts < 0.8, "70 ms, with the pauses that it says", f"{attempts:.2f} s")
     checks.holds(f"{what}: how long until it answers", took < 8, "four attempts in 70 ms, and the one after them", f"{took:.2f} s")
 
 

@@ -1,4 +1,8 @@
 """`limit` and `report`, asked of the real server and of one that answers by a script."""
+import os
+import pty
+import subprocess
+
 from ends import DRIP, RESET, SILENCE, Script, Server, fault, nobody_there, soon, unavailable
 from wire import BAD, RETRY, frame, full, granted, identity, limit, number, page, page_reply, release, reserve, row, settle, text, usage
 
@@ -10,6 +14,8 @@ def run(world, checks):
     limit_by_script(world, checks)
     usage_by_script(world, checks)
     pages_by_script(world, checks)
+    those_that_used_most(world, checks)
+    headings(world, checks)
     device_that_is_full(world, checks)
 
 
@@ -164,6 +170,79 @@ def pages_by_script(world, checks):
         with Script(script) as server:
             came = report(world, server.address)
         checks.equal(f"report, {what}", (came, server.heard), (wanted(server.address) if callable(wanted) else wanted, asked))
+
+
+def top(world, address, count, **more):
+    return world.run("report", "--server", address, "--day", "1", "--top", str(count), **more)
+
+
+def those_that_used_most(world, checks):
+    """`report --top N`: by what is settled and reserved, most first, and of equal ones the lower login; all pages are asked for before a line is printed."""
+    with Server(world, default=1_000) as server:
+        checks.equal("the top of nobody", top(world, server.address, 3), (0, b"", ""))
+        used = {b"e": 5, b"b": 7, b"d": 7, b"a": 1, b"c": 7, b"\xff": 6}
+        server.ask(b"".join(reserve(n, txn=n, count=count, login=login) for n, (login, count) in enumerate(used.items(), start=1)))
+        server.ask(settle(10, txn=2, count=4, login=b"b"))
+        lines = [b"      4       0    1000 b\n", b"      0       7    1000 c\n", b"      0       7    1000 d\n", b"      0       6    1000 \\xff\n", b"      0       5    1000 e\n", b"      0       1    1000 a\n"]
+        lines = lines[1:5] + lines[:1] + lines[5:]
+        for count in (1, 2, 4, 6, 7, 1_000_000):
+            checks.equal(f"the top {count:,}", top(world, server.address, count), (0, b"".join(lines[:count]), ""))
+    with Server(world, default=1_000) as server:
+        many = [b"%04d" % n for n in range(2_150)]
+        server.ask(b"".join(reserve(n, txn=n, count=1 + n % 900, login=login) for n, login in enumerate(many, start=1)))
+        wanted = sorted((-(1 + n % 900), login) for n, login in enumerate(many, start=1))[:2_120]
+        came = top(world, server.address, 2_120)
+        checks.equal("the top 2,120 of 2,150", came, (0, b"".join(b"      0 %7d    1000 %s\n" % (-used, login) for used, login in wanted), ""))
+    names = [b"a%02d" % n for n in range(100)]
+    pages = [page_reply([row(name, n % 7, n // 7, 9) for n, name in enumerate(names)]), page_reply([row(b"b", 3, 40, 9), row(b"c", 19, 1, 9)])]
+    behind = [page(), page(after=names[-1])]
+    amounts = sorted([(-(n % 7 + n // 7), name, n % 7, n // 7) for n, name in enumerate(names)] + [(-43, b"b", 3, 40), (-20, b"c", 19, 1)])
+    with Script(pages) as server:
+        came = top(world, server.address, 30)
+    checks.equal("the top 30 of two pages", (came, server.heard), ((0, b"".join(b"%7d %7d %7d %s\n" % (first, second, 9, name) for _, name, first, second in amounts[:30]), ""), behind))
+    for what, script, wanted in [
+        ("no second page", pages[:1] + [b""] * 3, None), ("a second page that begins with the last login", pages[:1] + [page_reply([row(names[-1], 1, 2, 3)])], fault("bad page")),
+        ("a page of another day", [page_reply([row(b"a", 1, 2, 3)], day=2)], fault("bad page")),
+    ]:
+        with Script(script) as server:
+            came = top(world, server.address, 5)
+        checks.equal(f"the top 5, {what}: nothing is printed", came, wanted or unavailable(server.address, "closed before its reply was whole"))
+    with Server(world) as server, open("/dev/full", "wb") as device:
+        server.ask(reserve(1))
+        came = top(world, server.address, 1, output=device)
+        checks.equal("the top to a full device", (came[0], came[2]), (1, "mailquota: write failed\n"))
+
+
+def headings(world, checks):
+    """On a terminal a line above says what the columns are; elsewhere there is none."""
+    heading = "settled reserved  limit login\n"
+    with Server(world) as server:
+        server.ask(reserve(1))
+        words = ["report", "--server", server.address, "--day", "1"]
+        line = "      0       1       3 u\n"
+        for more in ([], ["--login", "u"], ["--top", "1"]):
+            checks.equal(f"a report on a terminal {' '.join(more)}".strip(), on_terminal(world, *words, *more), (0, heading + line))
+        checks.equal("a report of nobody on a terminal", on_terminal(world, "report", "--server", server.address, "--day", "9"), (0, heading))
+        checks.equal("a report in a pipe", world.run(*words), (0, line.encode(), ""))
+        checks.equal("a limit on a terminal", on_terminal(world, "limit", "--server", server.address, "--host", "admin", "--login", "u", "--from", "1", "--cap", "9"), (0, "set\n"))
+
+
+def on_terminal(world, *words):
+    """The status of the program, and what it writes on a terminal."""
+    ours, theirs = pty.openpty()
+    with subprocess.Popen([world.program, *words], stdin=subprocess.DEVNULL, stdout=theirs, stderr=subprocess.DEVNULL) as process:
+        os.close(theirs)
+        shown = b""
+        while True:
+            try:
+                more = os.read(ours, 65_536)
+            except OSError:
+                break
+            if not more:
+                break
+            shown += more
+    os.close(ours)
+    return process.returncode, shown.decode().replace("\r\n", "\n")
 
 
 def device_that_is_full(world, checks):

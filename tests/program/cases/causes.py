@@ -167,6 +167,8 @@ def rows_of_no_ledger(world, checks):
         status, lines = server.status(), [re.sub(r"127\.0\.0\.1:\d+", "PEER", line) for line in server.log_lines()]
         wanted = "[ERROR mq_connections::room] connection of PEER: store failed", of_store(path, "rows are none of a ledger's")[:-1], "mailquota: store failed"
         checks.equal("a row that spells nothing: the end, and what is logged of it", (status, lines), (1, [*wanted]))
+    with Server(world, store=path) as server:
+        checks.equal("a row that spells nothing, asked for behind one that is right: the reply", server.ask(wire.reserve(1) + wire.reserve(2)), wire.granted(1, 1))
 
 
 def forgets_no_such_rows(world, checks):

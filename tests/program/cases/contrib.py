@@ -16,7 +16,8 @@ import wire
 from books import Books
 from cases.as_used import quiet_port
 from cases.filters import PROCEED
-from ends import SECONDS, TOP, Server, nobody_there, state_of, toml, wait_until
+from ends import SECONDS, TOP, Server, nobody_there, soon, state_of, toml, wait_past_midnight, wait_until
+from pages import block_with, blocks_of
 from rows import answers_of, rows_in
 from smtpd import Smtpd, clock, result
 
@@ -29,14 +30,21 @@ ANSWERS = {"answers": "SELECT n, host, run, seq, request, reply FROM answer ORDE
 def run(world, checks):
     awaited(world, checks)
     checked(world, checks)
+    hands_on_its_words(world, checks)
     a_backup(world, checks)
     a_backup_by_its_recipe(world, checks)
     backups_that_fail(world, checks)
+    how_long_the_server_stands(world, checks)
     a_group_that_is_killed(world, checks)
     rules_beside_others(world, checks)
+    more_ports(world, checks)
     a_server_without_systemd(world, checks)
-    a_ledger_under_systemd(checks)
+    limits_of_a_new_ledger(world, checks)
+    a_long_retire(world, checks)
+    a_forgetting_by_hand(world, checks)
+    starting_over(world, checks)
     the_queue_of_a_login(world, checks)
+    spellings(world, checks)
     near_the_limit(checks)
 
 
@@ -48,8 +56,8 @@ def text_of(name):
 def script(world, name, changes=()):
     """A script of contrib with the program under test, and with these texts changed, which stand in it once."""
     text = text_of(name)
-    assert "/usr/local/sbin/mailquota" in text
-    text = text.replace("/usr/local/sbin/mailquota", world.program)
+    assert "/usr/sbin/mailquota" in text
+    text = text.replace("/usr/sbin/mailquota", world.program)
     for old, new in changes:
         assert text.count(old) == 1, (name, old)
         text = text.replace(old, new)
@@ -60,7 +68,8 @@ def awaited(world, checks):
     path, its = script(world, "await-server"), {"store": "memory", "default": 3, "offset": 0}
     main = {**os.environ, "MAINPID": str(os.getpid())}
     with Server(world) as server:
-        for listen in (f'listen = "{server.address}"\n', f"  listen='{server.address}' # the address\n", f'listen = "0.0.0.0:{server.port}"\n'):
+        for listen in (f'listen = "{server.address}"\n', f"  listen='{server.address}' # the address\n", f'listen = "0.0.0.0:{server.port}"\n',
+                       f'# (with a second server listen = "0.0.0.0:7025" at both)\nlisten = "{server.address}"\n'):
             config = world.new_file(toml(its) + listen)
             run = subprocess.run(["sh", path, config], env=main, capture_output=True, text=True, timeout=SECONDS)
             checks.equal(f"await-server, {listen.strip().replace(str(server.port), 'PORT')}", (run.returncode, run.stdout, run.stderr), (0, "", ""))
@@ -81,6 +90,19 @@ def awaited(world, checks):
     run = subprocess.run(["sh", path, config], env=main, capture_output=True, text=True, timeout=SECONDS)
     checks.equal("await-server, without an address: status", run.returncode, 0)
     checks.holds("await-server, without an address", run.stderr.startswith(f"await-server: no address to ask in {config}\n"), "it says so", run.stderr)
+    a_long_wait(world, checks, main)
+
+
+def a_long_wait(world, checks, main):
+    """It says what it waits for after a minute of fifths of a second, and each five minutes: here none of these is slept through."""
+    count, words = world.new_file("0\n"), world.new_file("")
+    asked = world.new_file(f"echo $* >{words}\nread n <{count}\necho $((n + 1)) >{count}\n[ $n -lt 1801 ] && echo no answer >&2\n[ $n -ge 1801 ]\n")
+    path = world.new_file(text_of("await-server").replace("/usr/sbin/mailquota", f"sh {asked}").replace("sleep 0.2", ":"))
+    run = subprocess.run(["sh", path, world.new_file('listen = "127.0.0.1:1"\n')], env=main, capture_output=True, text=True, timeout=SECONDS)
+    said = "await-server: the server runs, and reads its ledger still, or IPAddressAllow lacks this machine:\nno answer\n"
+    checks.equal("await-server, of a server that answers after six minutes", (run.returncode, run.stdout, run.stderr), (0, "", said * 2))
+    with open(words, encoding="ascii") as file:
+        checks.equal("await-server: the words of its question", file.read(), "status --server 127.0.0.1:1\n")
 
 
 def checked(world, checks):
@@ -96,6 +118,14 @@ def checked(world, checks):
     checks.equal("keepalived-check, the server is gone", subprocess.run(["sh", path]).returncode, 1)
 
 
+def hands_on_its_words(world, checks):
+    """The script that smtpd calls has the program filter, by the words that stand behind it in smtpd.conf: so a second smtpd has settings of its own."""
+    path = world.new_file(text_of("filter-mailquota").replace("/usr/sbin/mailquota", "printf '(%s)'"))
+    for words in ([], ["--config", "/etc/mailquota/second.toml"], ["--config", "of two words", "--run", "7"]):
+        run = subprocess.run(["sh", path, *words], cwd="/", capture_output=True, text=True, timeout=SECONDS)
+        checks.equal(f"filter-mailquota: the words of the program, with {words} behind it", (run.returncode, run.stdout), (0, "".join(f"({it})" for it in ["filter", *words])))
+
+
 class Backup:
     """The script of a backup over this server's ledger, with a systemctl that says which process the server is."""
 
@@ -105,13 +135,23 @@ class Backup:
         self.into = f"{self.folder}/copy"
         with open(f"{self.folder}/bin/systemctl", "w", encoding="ascii") as file:
             file.write(f'#!/bin/sh\n[ "$*" = "show --property=MainPID --value mailquota" ] && echo {server.process.pid if server else 0}\n')
-        os.chmod(f"{self.folder}/bin/systemctl", 0o755)
+        # (what is there when what was written goes to the disk)
+        with open(f"{self.folder}/bin/sync", "w", encoding="ascii") as file:
+            file.write(f'#!/bin/sh\nls {self.folder} {self.into}.part >>{self.folder}/bin/synced\n')
+        open(f"{self.folder}/bin/synced", "wb").close()
+        for it in ("systemctl", "sync"):
+            os.chmod(f"{self.folder}/bin/{it}", 0o755)
         self.words = ["sh", script(world, "mailquota-backup", changes), self.into, world.new_file(toml(settings)), path]
+        self.environment = {**os.environ, "PATH": f"{self.folder}/bin{os.pathsep}{os.environ['PATH']}"}
 
     def run(self, *words):
-        path = f"{self.folder}/bin{os.pathsep}{os.environ['PATH']}"
-        run = subprocess.run([*self.words, *words], env={**os.environ, "PATH": path}, stdin=subprocess.DEVNULL, capture_output=True, text=True, timeout=SECONDS)
+        run = subprocess.run([*self.words, *words], env=self.environment, stdin=subprocess.DEVNULL, capture_output=True, text=True, timeout=SECONDS)
         return run.returncode, run.stdout, run.stderr
+
+    def begin(self, seconds, **more):
+        """A process of the script that may hold the server for so many seconds; nobody reads what it prints."""
+        quiet = dict.fromkeys(("stdin", "stdout", "stderr"), subprocess.DEVNULL)
+        return subprocess.Popen([*self.words, str(seconds)], env=self.environment, **quiet, **more)
 
     def left(self):
         return sorted(it for it in os.listdir(self.folder) if it != "bin")
@@ -160,7 +200,10 @@ def a_backup(world, checks):
         checks.equal("a backup under load: recipients that weren't let through", [came for load in loads for came in load.other], [])
         print(f"    the longest wait of {sum(load.sent for load in loads)} recipients: {max(load.longest for load in loads):.3f} s", flush=True)
         checks.equal("a backup under load: who may enter its folder", stat.S_IMODE(os.stat(backup.into).st_mode), 0o700)
-        checks.equal("a backup under load: what is there", (backup.left(), sorted(os.listdir(backup.into))), (["copy"], ["ledger", "ledger-wal", "mailquota.toml"]))
+        with open(f"{backup.folder}/bin/synced", encoding="ascii") as file:
+            synced = [line for line in file.read().splitlines() if line and not line.endswith(":")]
+        checks.equal("a backup under load: what is on the disk before it has its name", synced, ["bin", "copy.part", "ledger", "ledger-wal", "server.toml"])
+        checks.equal("a backup under load: what is there", (backup.left(), sorted(os.listdir(backup.into))), (["copy"], ["ledger", "ledger-wal", "server.toml"]))
     there, copied = (answers_of(it, ANSWERS)["answers"] for it in (path, f"{backup.into}/ledger"))
     checks.equal("a backup under load: the copy has what the ledger had then", there[:len(copied)] == copied, True)
     # (a message makes two answers; each load may have sent one whose end wasn't answered yet)
@@ -180,23 +223,16 @@ esac
 BACKED_UP = 400
 
 
-def recipe_of(page, heading):
-    """The blocks of a section of a page of docs, each as its lines."""
-    with open(f"{TOP}/docs/{page}", encoding="utf-8") as file:
-        section = file.read().partition(f"\n## {heading}\n")[2].partition("\n## ")[0]
-    return [re.sub(r"^    ", "", block, flags=re.MULTILINE).splitlines() for block in re.findall(r"(?:^    .*\n)+", section, re.MULTILINE)]
-
-
 def a_backup_by_its_recipe(world, checks):
     """The recipe of OPERATING, as it stands there but for the folders: what it prints, and, once the copy is put back, all answers that it has."""
     folder = f"{world.folder}/recipe"
-    for it in ("bin", "root", "lib", "etc"):
+    for it in ("bin", "root", "lib", "etc/mailquota"):
         os.makedirs(f"{folder}/{it}")
     ledger, settings = f"{folder}/lib/ledger", {"default": 1_000, "offset": 0}
-    [copy, *shown], moves, puts_back, *_ = recipe_of("OPERATING.md", "Backups")
+    [copy, *shown], puts_back, *_ = blocks_of("OPERATING.md", "Backups")
     books, frames = Books(0, 1_000), list(of_some_days(BACKED_UP))
     with Server(world, words=["--create"], store=ledger, **settings) as server:
-        with open(f"{folder}/etc/mailquota.toml", "w", encoding="ascii") as file:
+        with open(f"{folder}/etc/mailquota/server.toml", "w", encoding="ascii") as file:
             file.write(toml({"listen": server.address, "store": ledger, **settings}))
         texts = {"systemctl": SYSTEMCTL.format(folder=folder, pid=server.process.pid), "mailquota-backup": text_of("mailquota-backup")}
         for name, text in texts.items():
@@ -216,10 +252,14 @@ def a_backup_by_its_recipe(world, checks):
         figures = [re.sub(r"\d+", "N", in_folder(world, folder, line)) for line in shown]
         checks.equal("a backup by its recipe: the page shows these lines", figures, [re.sub(r"\d+", "N", line) for line in lines])
         there = sorted(os.path.relpath(f"{at}/{it}", f"{folder}/root") for at, _, names in os.walk(f"{folder}/root") for it in names)
-        checks.equal("a backup by its recipe: what is there", there, ["backup/ledger", "backup/ledger-wal", "backup/mailquota.toml"])
+        checks.equal("a backup by its recipe: what is there", there, ["backup/ledger", "backup/ledger-wal", "backup/server.toml"])
         kept, rows = [books.serve(it) for it in frames], books.rows()
         server.ask(b"".join(wire.reserve(n, txn=n, login=b"later", host=b"later") for n in range(1, 20)))
+        owner = (60_001, 60_002) if os.geteuid() == 0 else (os.getuid(), os.getgid())
+        os.chown(f"{folder}/lib", *owner)
         checks.equal("a backup put back by its recipe: status, what it prints and says", by_shell(world, folder, puts_back), (0, "", ""))
+        found = {it: (os.stat(f"{folder}/lib/{it}").st_uid, os.stat(f"{folder}/lib/{it}").st_gid) for it in ("ledger", "ledger-wal")}
+        checks.equal("a backup put back by its recipe: whose it is", found, dict.fromkeys(found, owner))
         checks.equal("a backup put back by its recipe: the server that was stopped", server.status(), -signal.SIGTERM)
     with open(f"{folder}/calls", encoding="ascii") as file:
         called = file.read().splitlines()
@@ -228,13 +268,11 @@ def a_backup_by_its_recipe(world, checks):
     checks.equal("a backup put back by its recipe: its rows", rows_in(ledger, rows), rows)
     with Server(world, store=ledger, **settings) as server:
         checks.equal(f"a backup put back by its recipe: each of {BACKED_UP} answers again", server.ask(b"".join(frames)), b"".join(kept))
-    # (it is for a machine on which systemd has made no folder yet)
-    checks.equal("a backup put back: how the folder is made", moves, ["systemd-run --quiet --wait -p DynamicUser=yes -p User=mailquota -p StateDirectory=mailquota /bin/true"])
 
 
 def in_folder(world, folder, text):
     """A text with the folders of the test in place of the machine's, and the program under test."""
-    for old, new in (("/usr/local/sbin/mailquota", world.program), ("/etc/mailquota.toml", f"{folder}/etc/mailquota.toml"), ("/var/lib/mailquota/", f"{folder}/lib/"), ("/root/", f"{folder}/root/")):
+    for old, new in (("/usr/sbin/mailquota", world.program), ("/etc/mailquota/server.toml", f"{folder}/etc/mailquota/server.toml"), ("/var/lib/mailquota/", f"{folder}/lib/"), ("/root/", f"{folder}/root/")):
         text = re.sub(rf"(?<![\w/]){re.escape(old)}", lambda _, new=new: new, text)
     return text
 
@@ -274,8 +312,13 @@ def backups_that_fail(world, checks):
 
         slow = ("cp -p \"$1\" \"$2/ledger\"", "sleep 60")
         fails("that takes too long", Backup(world, server, path, its, [slow]), "no copy in 1 s", "1")
+        fails("that takes too long, by its own seconds", Backup(world, server, path, its, [slow]), "no copy in 2 s")
         goes_on = ("cp -p \"$1\" \"$2/ledger\"", f"kill -CONT {server.process.pid}; cp -p \"$1\" \"$2/ledger\"")
         fails("while which somebody continues the server", Backup(world, server, path, its, [goes_on]), "went on before the copy was whole")
+        unreadable = ('"$mailquota" status --config "$part/copy.toml"', "(exit 1)")
+        backup = Backup(world, server, path, its, [unreadable])
+        checks.equal("a backup, whose status can't be told: status, and nothing is left", (backup.run()[0], backup.left()), (1, []))
+        shutil.rmtree(backup.folder)
         fails("of a server with another default", Backup(world, server, path, {**its, "default": 4}), "store has another default")
         fails("of a server that doesn't run", Backup(world, None, path, its), "the server doesn't run")
         backup = Backup(world, server, path, its)
@@ -285,13 +328,13 @@ def backups_that_fail(world, checks):
         shutil.rmtree(backup.folder)
         for number in (signal.SIGTERM, signal.SIGKILL):
             interrupted(world, checks, server, Backup(world, server, path, its, [slow]), number)
-        hung_up(checks, server, Backup(world, server, path, its, [slow]))
+        for number in (signal.SIGHUP, signal.SIGINT, signal.SIGTERM):
+            ended(checks, server, Backup(world, server, path, its, [slow]), number)
 
 
 def interrupted(world, checks, server, backup, number):
     """A signal to the script while the server is stopped: by its trap, or where it has none by another process, the server goes on."""
-    path = f"{backup.folder}/bin{os.pathsep}{os.environ['PATH']}"
-    process = subprocess.Popen([*backup.words, "1"], env={**os.environ, "PATH": path}, stdin=subprocess.DEVNULL, stdout=subprocess.DEVNULL, stderr=subprocess.DEVNULL)
+    process = backup.begin(1)
     stops = wait_until(lambda: state_of(server.process)[0] == "T")
     process.send_signal(number)
     process.wait(timeout=SECONDS)
@@ -302,17 +345,37 @@ def interrupted(world, checks, server, backup, number):
         shutil.rmtree(backup.folder)
 
 
-def hung_up(checks, server, backup):
-    """As by the end of the connection over which it was called: the script ends in order."""
-    path = f"{backup.folder}/bin{os.pathsep}{os.environ['PATH']}"
-    process = subprocess.Popen([*backup.words, "1"], env={**os.environ, "PATH": path}, stdin=subprocess.DEVNULL, stdout=subprocess.DEVNULL, stderr=subprocess.DEVNULL)
+def ended(checks, server, backup, number):
+    """By a signal that it can catch, as at the end of the connection over which it was called, the script ends in order."""
+    process = backup.begin(1)
     wait_until(lambda: state_of(server.process)[0] == "T")
-    process.send_signal(signal.SIGHUP)
+    process.send_signal(number)
     came = process.wait(timeout=SECONDS), backup.left(), state_of(server.process)[0] == "T"
-    checks.equal("a backup that SIGHUP ends: its status, and nothing is left, and the server runs", came, (128 + signal.SIGHUP, [], False))
+    checks.equal(f"a backup that {signal.Signals(number).name} ends: its status, and nothing is left, and the server runs", came, (128 + number, [], False))
     # (where it didn't go on by itself)
     server.process.send_signal(signal.SIGCONT)
     shutil.rmtree(backup.folder)
+
+
+def how_long_the_server_stands(world, checks):
+    """It stands still for the seconds that the script is given, and no longer."""
+    path, settings = f"{world.folder}/stands", {"default": 3, "offset": 0}
+    with Server(world, words=["--create"], store=path, **settings) as server:
+        # (what continues the server where the script is killed would do so in the next go)
+        changes = [("cp -p \"$1\" \"$2/ledger\"", "sleep 60"), ("$((seconds + 5))", "60")]
+        backup = Backup(world, server, path, {"listen": server.address, "store": path, **settings}, changes)
+
+        def stood():
+            process = backup.begin(2)
+            wait_until(lambda: state_of(server.process)[0] == "T")
+            start = time.monotonic()
+            wait_until(lambda: state_of(server.process)[0] != "T")
+            took = time.monotonic() - start
+            process.wait(timeout=SECONDS)
+            return took
+
+        took, _ = soon(stood, 3.5)
+        checks.holds("a backup that takes longer than 2 s: how long the server stands still", 1.9 < took < 3.5, "2 s", f"{took:.2f} s")
 
 
 def a_group_that_is_killed(world, checks):
@@ -321,9 +384,7 @@ def a_group_that_is_killed(world, checks):
     with Server(world, words=["--create"], store=path, **settings) as server:
         changes = [("cp -p \"$1\" \"$2/ledger\"", "sleep 60"), ("$((seconds + 5))", "1")]
         backup = Backup(world, server, path, {"listen": server.address, "store": path, **settings}, changes)
-        environment = {**os.environ, "PATH": f"{backup.folder}/bin{os.pathsep}{os.environ['PATH']}"}
-        quiet = {"stdin": subprocess.DEVNULL, "stdout": subprocess.DEVNULL, "stderr": subprocess.DEVNULL}
-        process = subprocess.Popen([*backup.words, "1"], env=environment, start_new_session=True, **quiet)
+        process = backup.begin(1, start_new_session=True)
         stops = wait_until(lambda: state_of(server.process)[0] == "T")
         os.killpg(process.pid, signal.SIGKILL)
         process.wait(timeout=SECONDS)
@@ -341,7 +402,7 @@ class Machine:
 
     def __init__(self, world, name, **does):
         self.world, self.folder = world, f"{world.folder}/{name}"
-        for it in ("bin", "etc", "lib", "root"):
+        for it in ("bin", "etc/mailquota", "lib", "root"):
             os.makedirs(f"{self.folder}/{it}")
         for program, text in does.items():
             with open(f"{self.folder}/bin/{program}", "w", encoding="ascii") as file:
@@ -350,7 +411,7 @@ class Machine:
 
     def here(self, text):
         """A text with these folders in place of the machine's."""
-        for old, new in (("/usr/local/sbin/mailquota", self.world.program), ("/usr/local/share/examples/mailquota", CONTRIB), ("/var/lib/", f"{self.folder}/lib/"),
+        for old, new in (("/usr/sbin/mailquota", self.world.program), ("/usr/share/doc/mailquota/examples", CONTRIB), ("/var/lib/", f"{self.folder}/lib/"),
                          ("/etc/", f"{self.folder}/etc/"), ("/root/", f"{self.folder}/root/")):
             text = re.sub(rf"(?<![\w/]){re.escape(old)}", lambda _, new=new: new, text)
         return text
@@ -370,12 +431,6 @@ class Machine:
             return file.read()
 
 
-def block_with(page, heading, word):
-    """The one block of a section of a page that has this word, as its lines."""
-    [block] = [it for it in recipe_of(page, heading) if any(word in line for line in it)]
-    return block
-
-
 def rules_beside_others(world, checks):
     """The packet filter's rules are loaded, now and at each start, and what the machine has of its own stays."""
     machine = Machine(world, "filtered", nft="")
@@ -387,12 +442,22 @@ def rules_beside_others(world, checks):
     checks.equal("the packet filter by INSTALL: what is loaded at a start", machine.read("etc/nftables.conf"), f'{own}include "{rules}"\n')
 
 
+def more_ports(world, checks):
+    """OPERATING's line for a thousand requests a second, now and at each start."""
+    machine = Machine(world, "ports", sysctl="")
+    os.makedirs(f"{machine.folder}/etc/sysctl.d")
+    came = machine.run(block_with("OPERATING.md", "Ports and speed", "sysctl"))
+    checks.equal("more ports by OPERATING: status, what it prints and says, and what is called", (came, machine.read("calls")), ((0, "", ""), "sysctl --system\n"))
+    # (2, the default of newer systems, is for the loopback alone)
+    checks.equal("more ports by OPERATING: what is set", machine.read("etc/sysctl.d/mailquota.conf"), "net.ipv4.tcp_tw_reuse = 1\n")
+
+
 def a_server_without_systemd(world, checks):
     """The lines of INSTALL up to the server: its user, a folder that it alone may enter, and the ledger."""
     # (the test may not be root: who runs it stands for the server's user)
     machine = Machine(world, "without-systemd", useradd="", su='for it; do last=$it; done; sh -c "$last"',
                       install='while [ "${1#-[od]}" != "$1" ] || [ "$1" = -g ]; do case $1 in -d) shift ;; *) shift 2 ;; esac; done; mkdir -m "$2" "$3"')
-    machine.write("etc/mailquota.toml", toml({"listen": "127.0.0.1:1", "store": f"{machine.folder}/lib/mailquota/ledger", "default": 3, "offset": 0}))
+    machine.write("etc/mailquota/server.toml", toml({"listen": "127.0.0.1:1", "store": f"{machine.folder}/lib/mailquota/ledger", "default": 3, "offset": 0}))
     adds, makes_folder, makes_ledger, printed, serves = block_with("INSTALL.md", "The quota server", "useradd")
     came = machine.run([adds, makes_folder, makes_ledger])
     checks.equal("a server without systemd: status, what it prints and says", came, (0, f"{machine.here(printed)}\n", ""))
@@ -403,14 +468,90 @@ def a_server_without_systemd(world, checks):
     checks.equal("a server without systemd: the command of its supervisor", serves, makes_ledger.replace(" init ", " server "))
 
 
-def a_ledger_under_systemd(checks):
-    """INSTALL and the example unit make the ledger by one command, as the user and in the folder of the unit."""
-    lines = [line.lstrip("# ") for line in text_of("mailquota.service").partition("is made once by\n")[2].splitlines()[:2]]
-    [wanted, path], of_page = lines, block_with("INSTALL.md", "The quota server", "systemd-run")
-    checks.equal("the command that makes the ledger, in the unit and in INSTALL", [it.strip() for it in of_page[:2]], [wanted, path])
-    unit = text_of("mailquota.service")
-    given = re.findall(r"-p (\w+=\w+)", wanted)
-    checks.equal("the command that makes the ledger: what it shares with the unit", (given, [it for it in given if f"\n{it}\n" not in unit]), (["DynamicUser=yes", "User=mailquota", "StateDirectory=mailquota"], []))
+def limits_of_a_new_ledger(world, checks):
+    """OPERATING's commands set in a new ledger the limits of the old one, whatever bytes their logins have."""
+    folder, its = f"{world.folder}/limits-again", {"default": 1_000, "offset": 0}
+    config = f"{folder}/etc/mailquota/server.toml"
+    machine = Machine(world, "limits-again", mailquota=f'word=$1; shift; exec {world.program} "$word" --config {config} "$@"')
+    prints, sets = blocks_of("OPERATING.md", "Limits of a new ledger")
+
+    def settings(name, listen="127.0.0.1:1"):
+        machine.write("etc/mailquota/server.toml", toml({"listen": listen, "store": f"{folder}/lib/{name}", **its}))
+
+    logins = [b"a b", b"a\\", b"-x", b"\xff", b"*", b"ax20b"]
+    with Server(world, words=["--create"], store=f"{folder}/lib/old", **its) as server:
+        server.ask(b"".join(wire.limit(n, n % 5, 10 * n, login=login) for n, login in enumerate(logins, start=1)))
+    settings("old")
+    was = world.run("limits", "--config", config)
+    checks.equal("the limits of a new ledger: the old ones are printed", (machine.run(prints), machine.read("root/mailquota.limits").encode()), ((0, "", ""), was[1]))
+    with Server(world, words=["--create"], store=f"{folder}/lib/new", **its) as server:
+        settings("new", server.address)
+        status, output, _ = machine.run(sets)
+    settings("new")
+    checks.equal("the limits of a new ledger: status, and what it prints", (status, output), (0, "set\n" * len(logins)))
+    checks.equal("the limits of a new ledger: those of the old one", world.run("limits", "--config", config), was)
+    with Server(world, words=["--create"], store=f"{folder}/lib/used", **its) as server:
+        server.ask(wire.reserve(1, login=b"-x", count=31, at=3 * 86_400))
+        settings("used", server.address)
+        status, output, errors = machine.run(sets)
+    wanted = 0, "".join("-x: not set\n" if it == b"-x" else "set\n" for it in sorted(logins)), "mailquota: over day 3 used 31"
+    came = status, output, errors.partition("\n")[0]
+    checks.equal("the limits of a ledger that is used, one of which can't be set: status, what it prints, and why", came, wanted)
+
+
+def a_long_retire(world, checks):
+    """OPERATING's steps, each ten days after the one before: runs are milliseconds."""
+    now, days = 1_795_674_158, (60, 50, 40, 30, 20, 10)
+    machine = Machine(world, "long-retire", mailquota="", date=f"echo {now}")
+    came = machine.run(block_with("OPERATING.md", "A host that was restarted", "--run"))
+    calls = [it for it in machine.read("calls").splitlines() if it.startswith("mailquota ")]
+    checks.equal("a long retire: status, what it says, and its runs", (came, calls), ((0, "", ""), [f"mailquota retire --run {1_000 * (now - 86_400 * it)}" for it in days]))
+
+
+def with_a_ledger(world, name, frames):
+    """A machine whose ledger has what these frames ask, and the ledger's folder."""
+    folder = f"{world.folder}/{name}"
+    config, lib = f"{folder}/etc/mailquota/server.toml", f"{folder}/lib/mailquota"
+    # (the test may not be root: who runs it stands for the server's user)
+    su = f'for it; do last=$it; done; sh -c "$last --config {config}"'
+    machine = Machine(world, name, mailquota=f'exec {world.program} "$@" --config {config}', su=su, systemctl="")
+    os.makedirs(lib)
+    machine.write("etc/mailquota/server.toml", toml({"listen": "127.0.0.1:1", "store": f"{lib}/ledger", "default": 1_000, "offset": 0}))
+    with Server(world, words=["--create"], store=f"{lib}/ledger", default=1_000) as server:
+        server.ask(b"".join(frames))
+    return machine, lib
+
+
+def a_forgetting_by_hand(world, checks):
+    """OPERATING's commands without systemd: the new file stands alone in the old one's place, which is kept with its log."""
+    wait_past_midnight()
+    today = int(time.time()) // 86_400
+    frames = [wire.reserve(n, txn=n, login=b"%d" % n, at=86_400 * (today - 5 + n)) for n in range(1, 6)]
+    machine, lib = with_a_ledger(world, "by-hand", frames)
+    lines = block_with("OPERATING.md", "Forgetting days that are over", "--before")
+    [printed] = [it for it in lines if it.startswith("kept ")]
+    came = machine.run([it for it in lines if it != printed])
+    wanted = "kept answers=3 of 5, limits=0\n"
+    checks.equal("a forgetting by hand: status, what it prints and says", came, (0, wanted, ""))
+    checks.equal("a forgetting by hand: the page shows this line", re.sub(r"\d+", "N", f"{printed}\n"), re.sub(r"\d+", "N", wanted))
+    checks.equal("a forgetting by hand: the files", sorted(os.listdir(lib)), ["ledger", "ledger.old", "ledger.old-wal"])
+    checks.equal("a forgetting by hand: the answers of the old file", len(answers_of(f"{lib}/ledger.old", ANSWERS)["answers"]), len(frames))
+    with Server(world, store=f"{lib}/ledger", default=1_000) as server:
+        used = server.ask(b"".join(wire.usage(b"%d" % n, today - 5 + n) for n in range(1, 6)))
+    checks.equal("a forgetting by hand: what logins used then", used, b"".join(
+        wire.frame(b"\x8b" + wire.text(b"%d" % n) + wire.number(today - 5 + n) + wire.number(0) + wire.number(n > 2) + wire.number(1_000)) for n in range(1, 6)))
+
+
+def starting_over(world, checks):
+    """OPERATING's commands for a new ledger: the limits are printed, and the old file goes out of the way with its log."""
+    frames = [wire.limit(n, n, n, login=b"%d" % n) for n in range(1, 4)]
+    machine, lib = with_a_ledger(world, "over", frames)
+    came = machine.run(block_with("OPERATING.md", "Starting over", "ledger.before"))
+    stopped = machine.read("calls").splitlines()[0]
+    checks.equal("starting over: status, what it says, and what comes first", (came, stopped), ((0, "", ""), "systemctl stop mailquota"))
+    checks.equal("starting over: the limits", machine.read("root/mailquota.limits"), "1 1 1\n2 2 2\n3 3 3\n")
+    checks.equal("starting over: the files", sorted(os.listdir(lib)), ["ledger.before", "ledger.before-wal"])
+    checks.equal("starting over: the answers of the old file", len(answers_of(f"{lib}/ledger.before", ANSWERS)["answers"]), len(frames))
 
 
 # What smtpd logs of sessions of alice, of another login that begins so, and of one that failed, and its queue: an envelope begins with its message's number.
@@ -428,7 +569,7 @@ d1214ca8aaaaaaaa smtp message msgid=77777777 size=451 nrcpt=1 proto=ESMTP
 """
 OF_ALICE = ["4c56d3a1", "77777777", "9f00aa11"]
 QUEUE = [f"{number}{of}|inet4|mta|auth|{who}@example.org|" for number, of, who in (
-    ("4c56d3a1", "11111111", "alice"), ("8e076780", "22222222", "alice2"), ("9f00aa11", "33333333", "a"), ("9f00aa11", "44444444", "a"))]
+    ("4c56d3a1", "11111111", "alice"), ("8e076780", "22222222", "alice2"), ("9f00aa11", "33333333", "a"), ("9f00aa11", "44444444", "a"), ("4c56d3a1", "55555555", "alice"))]
 
 
 def the_queue_of_a_login(world, checks):
@@ -439,6 +580,24 @@ def the_queue_of_a_login(world, checks):
     checks.equal("the queue of a login: status, those that are still there, and what is said", (status, output.splitlines(), errors), (0, [QUEUE[0], *QUEUE[2:]], ""))
     calls = machine.read("calls").splitlines()
     checks.equal("the queue of a login: the messages that are dropped", calls, ["journalctl -u opensmtpd -o cat", "smtpctl show queue", *(f"smtpctl remove {it}" for it in OF_ALICE)])
+    came = machine.run(block_with("OPERATING.md", "The queue of a login", "awk -F"))
+    calls = machine.read("calls").splitlines()[len(calls):]
+    checks.equal("the queue of a sender: the messages that are dropped", (came, calls), ((0, "", ""), ["smtpctl show queue", f"smtpctl remove {OF_ALICE[0]}"]))
+
+
+# Logins as smtpd's log has them, each with how often it succeeded.
+SPELLED = {"alice": 2, "Alice": 2, "alice:skey": 1, "alice\\040": 1, "a.b_c@d+e-f": 1, "b user=B": 1}
+
+
+def spellings(world, checks):
+    """OPERATING's list of the logins that filter-one-spelling refuses, and how often each was used."""
+    machine = Machine(world, "spellings")
+    log = [f"Nov 28 12:00:00 mx1 smtpd[7]: d1214ca5ddd8451a smtp authentication user={login} result=ok" for login, times in SPELLED.items() for _ in range(times)]
+    machine.write("maillog", "".join(f"{it}\n" for it in [*log, log[0].replace("alice", "Bob").replace("=ok", "=permfail")]))
+    lines = block_with("OPERATING.md", "Spellings of a login", "sed -n")
+    status, output, errors = machine.run([it.replace("/var/log/maillog", f"{machine.folder}/maillog") for it in lines])
+    counted = {login: int(times) for times, login in (it.strip().split(" ", 1) for it in output.splitlines())}
+    checks.equal("the spellings of logins: status, those that are listed, and what is said", (status, counted, errors), (0, {it: SPELLED[it] for it in SPELLED if it not in ("alice", "a.b_c@d+e-f")}, ""))
 
 
 # settled, reserved, limit and login, as a report prints them

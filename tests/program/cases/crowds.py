@@ -5,7 +5,7 @@ import time
 
 from cases.filters import INPUT, PROCEED, REGISTRATION, answer
 from cases.peers import NOTHING_USED, goes_on, name_of
-from ends import LONG, Server, greatest_memory, read_all, send_no_more, wait_until
+from ends import LONG, Server, greatest_memory, read_all, read_to_end, send_no_more, soon, wait_until
 from wire import granted, number, page, page_reply, reserve, row, usage
 
 
@@ -15,8 +15,10 @@ def run(world, checks):
     many_long_requests(world, checks)
     one_request_alongside_many(world, checks)
     a_peer_that_takes_slowly(world, checks)
+    a_peer_that_takes_too_slowly(world, checks)
+    a_late_peer_with_requests(world, checks)
     silent_peers(world, checks)
-    print("    10,001 and 9,999 requests of a connection, one alongside 5,000 of another peer, 10,000 pages that nobody reads, 19 MB that a peer takes slowly, "
+    print("    10,001 and 9,999 requests of a connection, one alongside 5,000 of another peer, 10,000 pages that nobody reads, 14 MB that a peer takes slowly, or too slowly, "
           "500 peers that send nothing, 905 connections at once", flush=True)
 
 
@@ -99,20 +101,62 @@ def one_request_alongside_many(world, checks):
             sending.join()
 
 
+# 14 MB of replies, far more than the kernel keeps, to requests that one read takes.
+MANY_LOGINS, MANY_PAGES = long_logins(100), 500
+MANY_BYTES = MANY_PAGES * len(page_reply([row(login, 0, 1, 3) for login in MANY_LOGINS]))
+
+
+def taken_evenly(peer, seconds, is_over=lambda: False):
+    """Asks for 14 MB and takes them evenly over so many seconds; gives how many bytes came."""
+    peer.sendall(page() * MANY_PAGES)
+    send_no_more(peer)
+    start, came = time.monotonic(), 0
+    while not is_over() and (piece := peer.recv(1 << 20)):
+        came += len(piece)
+        time.sleep(max(0, seconds * came / MANY_BYTES - (time.monotonic() - start)))
+    return came
+
+
 def a_peer_that_takes_slowly(world, checks):
-    """19 MB of replies, far more than the kernel keeps, to a peer that takes them evenly over one and a half timeouts."""
-    logins, pages, timeout = long_logins(100), 700, 4
-    whole = pages * len(page_reply([row(login, 0, 1, 3) for login in logins]))
-    with Server(world, timeout=1_000 * timeout) as server:
-        server.ask(reserved_by(logins))
+    """A peer that takes its replies evenly over seven quarters of a timeout gets them all: a part of them begins its time again."""
+    with Server(world, timeout=4_000) as server:
+        server.ask(reserved_by(MANY_LOGINS))
         with server.connect(room=65_536) as peer:
-            peer.sendall(page() * pages)
-            send_no_more(peer)
-            start, came = time.monotonic(), 0
-            while piece := peer.recv(1 << 20):
-                came += len(piece)
-                time.sleep(max(0, 1.5 * timeout * came / whole - (time.monotonic() - start)))
-        checks.equal("a peer that takes its replies in one and a half timeouts: their length, and the log", (came, server.log_lines()), (whole, []))
+            came = taken_evenly(peer, 7)
+        checks.equal("a peer that takes its replies within two timeouts: their length, and the log", (came, server.log_lines()), (MANY_BYTES, []))
+
+
+def a_peer_that_takes_too_slowly(world, checks):
+    """One that would take them evenly over four timeouts always takes some within a timeout, and two end it all the same."""
+    with Server(world, timeout=2_000) as server:
+        server.ask(reserved_by(MANY_LOGINS))
+
+        def ended():
+            before = len(server.log_lines())
+            with server.connect(room=65_536) as peer:
+                taken_evenly(peer, 8, lambda: len(server.log_lines()) > before)
+                return before, name_of(peer)
+
+        (before, name), took = soon(ended, 4.9)
+        checks.holds("a peer that takes its replies in four timeouts: two timeouts end it", 3.9 < took < 4.9, "after 4 s", f"{took:.2f} s")
+        goes_on(server, checks, "a peer that takes its replies in four timeouts", before, word=(name, "write failed"))
+
+
+def a_late_peer_with_requests(world, checks):
+    """One that takes nothing for a timeout, with requests that weren't read yet: what it takes then ends in order, and not by a reset."""
+    with Server(world, timeout=1_000) as server:
+        server.ask(reserved_by(MANY_LOGINS))
+        before = len(server.log_lines())
+        with server.connect(room=65_536) as peer:
+            peer.sendall(page() * MANY_PAGES)
+            time.sleep(0.3)
+            peer.sendall(page() * 20)
+            wait_until(lambda: len(server.log_lines()) > before)
+            try:
+                came = len(read_to_end(peer))
+            except ConnectionResetError as error:
+                came = error
+        checks.holds("a late peer with requests that weren't read: its replies end in order", isinstance(came, int) and 0 < came < MANY_BYTES, "a part of them, and their end", came)
 
 
 def silent_peers(world, checks):
@@ -144,6 +188,17 @@ def silent_peers(world, checks):
         checks.holds("500 silent peers are ended side by side", ended == [b""] * 500 and took < 75, "far below 150 s, at 300 ms each", f"{took:.2f} s")
         lines = server.log_lines()
         checks.holds("500 silent peers: the log", len(lines) == 500 and all("read failed" in line for line in lines), "a line for each", lines)
+    with Server(world, timeout=60_000) as server:
+        crowd = [server.connect() for _ in range(700)]
+        for peer in crowd:
+            peer.sendall(usage())
+        checks.equal("700 connections: the first answer of each", [peer.recv(65_536) for peer in crowd], [NOTHING_USED] * 700)
+        with server.stopped():
+            for peer in crowd:
+                peer.sendall(usage())
+        checks.equal("700 connections that ask at once: their answers", [peer.recv(65_536) for peer in crowd], [NOTHING_USED] * 700)
+        for peer in crowd:
+            peer.close()
     with Server(world, timeout=60_000) as server:
         crowd = [server.connect() for _ in range(905)]
         checks.equal("more connections than places: the next is answered", server.ask(usage()), NOTHING_USED)

@@ -38,9 +38,13 @@ all as it is to be
 # what the program is in turn: a command that does nothing, with a status of its own
 OTHERWISE = {"report": "exit 0", "stop": "echo 'stopped: bob used 1 on day 1'", "filter": "exit 1", "server": "exit 1", "replay": "echo 00"}
 INSTALLED = {
+    "lib/systemd/system/mailquota-forget.service": 0o644,
+    "lib/systemd/system/mailquota-forget.timer": 0o644,
+    "lib/systemd/system/mailquota.service": 0o644,
     "libexec/mailquota/await-server": 0o755,
     "libexec/mailquota/keepalived-check": 0o755,
-    "libexec/mailquota/one-spelling": 0o755,
+    "libexec/opensmtpd/filter-mailquota": 0o755,
+    "libexec/opensmtpd/filter-one-spelling": 0o755,
     "sbin/mailquota": 0o755,
     "sbin/mailquota-backup": 0o755,
     "sbin/mailquota-forget": 0o755,
@@ -49,16 +53,15 @@ INSTALLED = {
     "share/doc/mailquota/LICENSE": 0o644,
     "share/doc/mailquota/NOTICE": 0o644,
     "share/doc/mailquota/OPERATING.md": 0o644,
-    "share/examples/mailquota/filter.toml": 0o644,
-    "share/examples/mailquota/keepalived-first.conf": 0o644,
-    "share/examples/mailquota/keepalived-second.conf": 0o644,
-    "share/examples/mailquota/mailquota-forget.service": 0o644,
-    "share/examples/mailquota/mailquota-forget.timer": 0o644,
-    "share/examples/mailquota/mailquota.service": 0o644,
-    "share/examples/mailquota/nftables.conf": 0o644,
-    "share/examples/mailquota/server.toml": 0o644,
-    "share/examples/mailquota/smtpd-restart.conf": 0o644,
-    "share/examples/mailquota/smtpd.conf": 0o644,
+    "share/doc/mailquota/SECURITY.md": 0o644,
+    "share/doc/mailquota/examples/addresses.conf": 0o644,
+    "share/doc/mailquota/examples/filter.toml": 0o644,
+    "share/doc/mailquota/examples/keepalived-first.conf": 0o644,
+    "share/doc/mailquota/examples/keepalived-second.conf": 0o644,
+    "share/doc/mailquota/examples/nftables.conf": 0o644,
+    "share/doc/mailquota/examples/server.toml": 0o644,
+    "share/doc/mailquota/examples/smtpd-restart.conf": 0o644,
+    "share/doc/mailquota/examples/smtpd.conf": 0o644,
     "share/man/man5/mailquota.toml.5": 0o644,
     "share/man/man8/mailquota-filter.8": 0o644,
     "share/man/man8/mailquota-forget.8": 0o644,
@@ -113,11 +116,11 @@ def installed(world, checks):
                 path = f"{folder}/{name}"
                 found[os.path.relpath(path, f"{tree}{prefix}")] = stat.S_IMODE(os.stat(path).st_mode)
         checks.equal(f"make install PREFIX={prefix}: files with their modes", dict(sorted(found.items())), INSTALLED)
-        # (the manuals and documents name the folders of PREFIX=/usr/local)
-        own = [it for it in INSTALLED if it.startswith(("sbin/mailquota-", "libexec/", "share/examples/"))]
-        texts = {it: open(f"{tree}{prefix}/{it}", encoding="utf-8").read() for it in own if it in found}
-        wrong = [it for it, text in texts.items() if prefix != "/usr/local" and re.search(r"/usr/local/(sbin|libexec)", text)]
-        checks.equal(f"make install PREFIX={prefix}: files that name another folder's programs", wrong, [])
+        # (INSTALL and OPERATING speak of the package)
+        own = [it for it in found if it != "sbin/mailquota" and not it.endswith(".md")]
+        texts = {it: open(f"{tree}{prefix}/{it}", encoding="utf-8").read() for it in own}
+        wrong = [it for it, text in texts.items() if re.search(r'(?<!\w)/usr/(sbin|libexec|share/doc)/|proc-exec "filter-', text)]
+        checks.equal(f"make install PREFIX={prefix}: files that name the package's folders", wrong, [])
 
 
 # commands rt, rattle and rattle-link that prove and link nothing: rattle wants each library that it is given to be there, and notes when it begins and ends
@@ -127,6 +130,7 @@ RATTLE = """#!/bin/sh
 crate=$3
 for it; do case $it in *=*/out/build/*.rlib) [ -e "${{it#*=}}" ] || {{ echo "there is no ${{it#*=}}"; exit 4; }};; esac; done
 echo "begins $crate $1" >>{folder}/noted
+[ ! -e src/version.rt ] || cat src/version.rt >>{folder}/noted
 sleep 0.1
 [ "$crate" = "$(cat {folder}/fails)" ] && {{ echo "no proof of $crate"; exit 3; }}
 while [ "$1" != -o ]; do shift; done
@@ -190,3 +194,15 @@ def a_build(world, checks):
     os.remove(f"{folder}/crates/low/out/build/low.rlib")
     status, _, _, noted = build()
     checks.equal("make build, with a library gone: all that stands on it", (status, sorted(noted)), (0, ALL_BUILT))
+    # (an archive of `make dist` says of which commit it is)
+    version = 'pub const VERSION: &str = "{}";'
+    write(f"{folder}/crates/mailquota/src/version.rt", f"{version.format('1.2.3')}\n")
+    write(f"{folder}/COMMIT", f"{'0123456789' * 4}\n")
+    status, _, _, noted = build()
+    of_program = ["begins mailquota build", version.format("1.2.3 (012345678901)"), "ends mailquota", "links"]
+    checks.equal("make build, of a commit: what is proved of the program has it in its version", (status, noted), (0, of_program))
+    with open(f"{folder}/crates/mailquota/src/version.rt", encoding="ascii") as it:
+        checks.equal("make build, of a commit: the source stays as it is", it.read(), f"{version.format('1.2.3')}\n")
+    checks.equal("make build of that commit again", build()[3], [])
+    os.remove(f"{folder}/COMMIT")
+    checks.equal("make build, of no commit: the version alone", build()[3], [of_program[0], version.format("1.2.3"), *of_program[2:]])

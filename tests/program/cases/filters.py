@@ -3,6 +3,7 @@ import re
 import select
 import socket
 import subprocess
+import time
 
 from ends import DRIP, LONG, RESET, SECONDS, SILENCE, Script, crowded_port, nobody_there, soon, unreached
 from wire import BAD, RETRY, frame, granted, identity, number, reserve, settled
@@ -72,6 +73,7 @@ def run(world, checks):
     no_server(world, checks)
     without_a_question(world, checks)
     faults(world, checks)
+    its_run(world, checks)
     a_socket_that_breaks(world, checks)
     a_thousand_recipients(world, checks)
 
@@ -149,6 +151,9 @@ def tries(world, checks):
         other = what in OTHER_REPLIES
         said = "no answer in 2 tries, but a reply of another kind or number" if other else "no answer in 2 tries"
         told(checks, f"{what}, twice", errors, [of_a_try("reserve", 1, said, "WARN " if other else "INFO ")])
+    for what, script in (("a reply of another kind, then none", [settled(1, 1, **MX1), b""]), ("no reply, then one of another kind", [b"", settled(1, 1, **MX1)])):
+        errors = scripted(world, checks, f"{what}, with tries = 2", INPUT, script, results=[answer(SERVICE)], frames=[RESERVE] * 2, tries=2)
+        told(checks, f"{what}, with tries = 2", errors, [of_a_try("reserve", 1, "no answer in 2 tries, but a reply of another kind or number", "WARN ")])
     scripted(world, checks, "a grant and more bytes", INPUT, [GRANTED + b"more"], results=[answer(PROCEED)], frames=[RESERVE], errors="")
     scripted(world, checks, "ten tries, the tenth granted", INPUT, [b""] * 9 + [GRANTED], results=[answer(PROCEED)], frames=[RESERVE] * 10, errors="", tries=10)
     for what, body in [("closed", b"\x87"), ("mismatch", b"\x88"), ("conflict", b"\x8a")]:
@@ -187,6 +192,9 @@ def warnings(world, checks):
     marks = [line.split("]")[0] for line in errors.splitlines()]
     wanted = ["[ERROR mq_tcp::logged", "[INFO  mq_client::tries", "[INFO  mq_client::tries", "[WARN  mq_tcp::logged"]
     checks.equal("a server that is away for two recipients: why once, each recipient, and that it answers again", marks, wanted)
+    asked = [reserve(n, login=b"alice", at=1_576_146_009, **MX1) for n in range(1, 252)]
+    errors = scripted(world, checks, "a server that is away for 250 recipients", INPUT + RCPT * 250, [b""] * 250 + [granted(251, 1, **MX1), RELEASED], results=[answer(SERVICE)] * 250 + [answer(PROCEED)], frames=asked, tries=1)
+    checks.equal("a server that is away for 250 recipients: its beginning and its end", without_address(errors), [WHY_CLOSED, f"{SERVER} answers again, requests without an answer: 250"])
     refusals(world, checks)
     warnings_of_many_sessions(world, checks)
     closings_of_two_sessions(world, checks)
@@ -366,6 +374,23 @@ def faults(world, checks):
         came = world.filter(address, INPUT + COMMIT + b"report|0.6|", tries=1)
     wanted = f"{unreached(address)}{ended_by(error)}{left_by(closings=1, transactions=0)}mailquota: {error}\n"
     checks.equal("an end inside a line with a closing that waits", (came[0], came[2]), (1, wanted))
+
+
+def its_run(world, checks):
+    """The first line of the log has the run: that of the words, or the clock's milliseconds."""
+    config = world.filter_file("127.0.0.1:1", log="info")
+
+    def run_of(*words):
+        """The run in the first line of a filter that is given nothing to answer."""
+        first = world.run("filter", "--config", config, *words, text=CONFIG)[2].partition("\n")[0]
+        found = re.fullmatch(r"\[INFO  mq_remote::subcommands::filter\] the filter of host mx1 begins its run (\d+), with the server 127\.0\.0\.1:1", first)
+        return int(found[1]) if found else first
+
+    checks.equal("the first line of a filter of run 7", run_of("--run", "7"), 7)
+    # (what `smtpd` has for it stands above this file)
+    before = time.time_ns() // 1_000_000
+    run = run_of()
+    checks.holds("the first line of a filter without a number", run in range(before, time.time_ns() // 1_000_000 + 1), f"a run from {before} on, and not later", run)
 
 
 def ended_by(error):

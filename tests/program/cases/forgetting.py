@@ -232,8 +232,9 @@ def refused(world, checks):
     today = int(world.run("day", "--config", ledger_settings(world, path))[1])
     refuses("of tomorrow", forget(world, path, today + 1, into), "day is after today")
     refuses("of a day after today", forget(world, path, today + 2, into), "day is after today")
-    # (at one of these offsets the day is another than at offset 0)
-    for offset in (720, -720):
+    # (at one of the first two offsets the day is another than at offset 0; by the third it ends in half an hour, by the fourth it is half an hour old)
+    minute = int(time.time()) // 60 % 1_440
+    for offset in (720, -720, 1_410 - minute, 30 - minute):
         wait_past_midnight(offset)
         of_zone, there = (int(time.time()) + 60 * offset) // DAY, f"{world.folder}/today-at-{offset}"
         world.run("init", "--config", ledger_settings(world, there, offset=offset))
@@ -576,13 +577,13 @@ DOES = {
     setsid sh -c 'sleep "$0"; exec "$@"' "$wait" "$@" & pid=$!; echo $pid >{folder}/unit; wait $pid
     status=$?; if [ "$(cat {folder}/unit 2>/dev/null)" = $pid ]; then rm {folder}/unit; fi; (exit $status)""",
     "systemctl": """case "$1 $2" in
-    "start mailquota") touch {folder}/server; if [ -e {folder}/slow_start ]; then rm {folder}/slow_start; exec sleep 4; fi ;;
+    "start mailquota") if [ -e {folder}/no_start ]; then exit 1; fi; touch {folder}/server; if [ -e {folder}/slow_start ]; then rm {folder}/slow_start; exec sleep 4; fi ;;
     "stop mailquota") rm -f {folder}/server ;;
     stop*) if [ -e {folder}/unit ]; then kill "$(cat {folder}/unit)"; rm {folder}/unit; fi ;;
     show*) echo not-found ;;
     esac""",
-    # the address is here until keepalived has seen the script's file so many times
-    "ip": """if [ -e {folder}/away ] && [ "$(grep -c ^ip {folder}/calls)" -gt 3 ]; then rm -f {folder}/address; fi
+    # the address is here until keepalived has seen the script's file so many times, or where that doesn't run
+    "ip": """if [ -e {folder}/away ] && [ ! -e {folder}/no_keepalived ] && [ "$(grep -c ^ip {folder}/calls)" -gt 3 ]; then rm -f {folder}/address; fi
     if [ -e {folder}/address ]; then echo "2: eth0 inet 192.0.2.7/24"; fi""",
     "flock": """flock "$@" """,
     "rm": """rm "$@" """,
@@ -624,8 +625,8 @@ class Night:
             text = file.read()
         # (what it takes where it is given no words)
         for path, its in (
-            ("/usr/local/sbin/mailquota\n", f"{world.program}\n"), ("/run/mailquota-away\n", f"{self.folder}/away\n"),
-            (":-/etc/mailquota.toml}", f":-{self.config}}}"), (":-/var/lib/mailquota/ledger}", f":-{self.ledger}}}"),
+            ("/usr/sbin/mailquota\n", f"{world.program}\n"), ("/run/mailquota-away\n", f"{self.folder}/away\n"),
+            (":-/etc/mailquota/server.toml}", f":-{self.config}}}"), (":-/var/lib/mailquota/ledger}", f":-{self.ledger}}}"),
         ):
             assert text.count(path) == 1
             text = text.replace(path, its)
@@ -765,6 +766,9 @@ def a_night(world, checks):
     night.words[2:] = ["two"]
     wanted = 2, [], "mailquota-forget: DAYS is no number: two\n"
     checks.equal("the script with days that are no number: nothing is called, and the server runs", (night.run(), night.has("server")), (wanted, True))
+    night = Night(world, "night-not-started", source)
+    night.touch("no_start")
+    checks.equal("the script where the server doesn't start: status, and the ledger", (night.run()[0], rows_of(night.ledger)), (1, again.rows()))
     an_interrupted_night(world, checks, source, books, again)
     killed_while_the_server_starts(world, checks, source)
     a_night_of_two_servers(world, checks, source, again)
@@ -792,8 +796,12 @@ def an_interrupted_night(world, checks, source, books, again):
         checks.equal(f"{what}: status, the server runs, forget doesn't", (status, night.has("server"), runs(unit)), (128 + number, True, False))
         checks.equal(f"{what}: the ledger, and no new one", (rows_in(night.ledger, books.rows()), night.has("ledger.new")), (books.rows(), False))
     night, process, unit = while_forgetting("night-killed")
-    second = night.start()
-    came = night.end(second)
+    # (also by a copy of the settings in another folder)
+    words, other = night.words, f"{world.folder}/other-settings"
+    os.mkdir(other)
+    night.words = [shutil.copy(night.config, other), *words[1:]]
+    came = night.end(night.start())
+    night.words = words
     checks.equal("a second script while one runs: status and what it says", (came[0], came[2]), (1, "mailquota-forget: another one runs\n"))
     process.kill()
     process.wait()
@@ -832,6 +840,14 @@ def a_night_of_two_servers(world, checks, source, again):
     night.words.append("192.0.2.7")
     status, calls, _ = night.run()
     checks.equal("a night with the address elsewhere: status, and how often it is asked for", (status, sum(line.startswith("ip ") for line in calls)), (0, 1))
+    night = Night(world, "night-stays", source)
+    night.words.append("192.0.2.7")
+    night.touch("address")
+    night.touch("no_keepalived")
+    status, calls, errors = night.run()
+    checks.equal("a night with an address that stays: status, and what it says", (status, errors), (0, "mailquota-forget: 192.0.2.7 doesn't leave: is keepalived running?\n"))
+    checks.equal("a night with an address that stays: for how many seconds it waits", calls.count("sleep 1"), 30)
+    checks.equal("a night with an address that stays: the ledger, and the server runs", (rows_in(night.ledger, again.rows()), night.has("away"), night.has("server")), (again.rows(), False, True))
 
 
 def state_of_number(pid):

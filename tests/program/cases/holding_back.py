@@ -17,6 +17,7 @@ def run(world, checks):
     a_connect_that_waits(world, checks)
     a_refused_connection(world, checks)
     the_end_of_a_pause(world, checks)
+    two_pauses(world, checks)
     closings(world, checks)
     full_logins(world, checks)
     what_check_says(world, checks)
@@ -91,6 +92,20 @@ def the_end_of_a_pause(world, checks):
         output, heard, log, _ = scripted(world, text, [SILENCE, granted(2, 1, **MX1)], tries=1, timeout=300, pause=30)
         checks.equal(f"a pause ends at a line {what}: the lines, the frames", (output, heard), (answer(SERVICE) * 2 + answer(PROCEED), [RESERVE, asked(2)]))
         checks.equal(f"a pause ends at a line {what}: the log", log, [WHY, PAUSE, f"{SERVER} answers again, requests without an answer: 1", AGAIN + "1"])
+
+
+def two_pauses(world, checks):
+    """Two pauses of one outage: its last line counts what both held back."""
+    begins = 1_576_146_010
+    text = INPUT + b"".join(at(RCPT, begins + later) for later in (1, 30, 31, 32, 60))
+    output, heard, log, _ = scripted(world, text, [SILENCE, SILENCE, granted(3, 1, **MX1)], tries=1, timeout=300, pause=30)
+    checks.equal("two pauses, and an answer: the lines, the frames", (output, heard), (answer(SERVICE) * 5 + answer(PROCEED), [RESERVE, asked(2), asked(3)]))
+    checks.equal("two pauses, and an answer: the log", log, [WHY, PAUSE, f"{SERVER} answers again, requests without an answer: 2", AGAIN + "3"])
+    text = INPUT + b"".join(at(RCPT, begins + later) for later in (1, 30, 60, 61, 62, 90))
+    _, _, log, _ = scripted(world, text, [SILENCE, granted(2, 1, **MX1), SILENCE, granted(4, 2, **MX1)], tries=1, timeout=300, pause=30)
+    # (that the second outage begins and ends within a second of the first has no line of its own)
+    of_pauses = [line for line in log if "pauses]" in line]
+    checks.equal("two outages: what the log has of their pauses", of_pauses, [PAUSE, AGAIN + "1", PAUSE, AGAIN + "2"])
 
 
 def closings(world, checks):

@@ -3,7 +3,7 @@ import socket
 import subprocess
 
 from cases.filters import PROCEED, REGISTRATION, SERVICE, answer
-from ends import LONG, SECONDS, SILENCE, Script, Server, apart, nobody_there, read_all, send_no_more, soon, wait_until
+from ends import LONG, SECONDS, SILENCE, Script, Server, apart, nobody_there, read_all, send_no_more, soon, unreached, wait_until
 
 # Milliseconds that a case can wait for what doesn't come.
 SHORT = 100
@@ -57,11 +57,6 @@ def answered(result):
     return 0, REGISTRATION + answer(result)
 
 
-def causes(address, cause):
-    """The first line of the log, where an exchange brings no answer."""
-    return [f"[ERROR mq_tcp::logged] quota server {address}: {cause}\n"]
-
-
 def one_reserve(world, checks):
     with Server(world) as server:
         with Script([server.ask]) as script:
@@ -103,7 +98,7 @@ def is_gone(peer):
 def nobody_listens(world, checks):
     with nobody_there() as address:
         came = asked_once(world, address)
-    (ended, log), wanted = came, causes(address, "Connection refused (os error 111)")
+    (ended, log), wanted = came, [unreached(address)]
     checks.equal("nobody listens: the answer, and the first line of the log", (ended, log[:1]), (answered(SERVICE), wanted))
 
 
@@ -113,7 +108,7 @@ def no_answer_in_time(world, checks):
     def ask():
         with Script([SILENCE]) as script:
             came = asked_once(world, script.address, timeout=SHORT)
-        return came, script.heard, causes(script.address, "no answer in time")
+        return came, script.heard, [unreached(script.address, "no answer in time")]
 
     ((ended, log), heard, wanted), took = soon(ask, 1.9)
     came = (ended, log[:1], heard)
@@ -126,7 +121,7 @@ def what_a_peer_answers(world, checks):
     for sent, cause in ANSWERS:
         with Script([sent]) as script:
             ended, log = asked_once(world, script.address)
-        came, wanted = (ended, log[:1], script.heard), (answered(SERVICE), causes(script.address, cause), [ONE_RESERVE])
+        came, wanted = (ended, log[:1], script.heard), (answered(SERVICE), [unreached(script.address, cause)], [ONE_RESERVE])
         checks.equal(f"a peer that answers {sent[:7].hex() or 'nothing'}{'..' if len(sent) > 7 else ''}", came, wanted)
 
 

@@ -1,11 +1,12 @@
 """What a peer may do to the server: it answers what is a request, logs what isn't, and goes on."""
+import contextlib
 import random
 import select
 import threading
 import time
 
 from cases.filters import INPUT, PROCEED, REGISTRATION, answer
-from ends import LONG, SECONDS, Server, begun, loopback_of_6, read_all, reset, send_no_more, soon, without_time
+from ends import LONG, SECONDS, Server, begun, loopback_of_6, read_all, reset, send_no_more, soon, wait_until, without_time
 from wire import BAD, frame, full, granted, limit, number, page, page_reply, release, released, reserve, row, settle, settled, usage
 
 NOTHING_USED = bytes.fromhex("0013" "8b" "0175" "00000001" "00000000" "00000000" "00000003")
@@ -16,6 +17,9 @@ def run(world, checks):
     bad_bytes(world, checks)
     slow_and_broken(world, checks)
     late_behind_one_that_asks(world, checks)
+    late_behind_some_that_always_ask(world, checks)
+    one_after_another(world, checks)
+    comes_with_a_request(world, checks)
     random_bytes(world, checks)
     ends(world, checks)
 
@@ -157,8 +161,10 @@ def resets(server, checks):
         peer.sendall(sent)
         reset(peer)
     checks.equal("connections that were reset: the next connection", server.ask(usage()), NOTHING_USED)
+    wait_until(lambda: len(server.log_lines()) == before + 4)
     lines = server.log_lines()[before:]
-    checks.holds("connections that were reset: the log", len(lines) <= 4 and all("127.0.0.1:" in line for line in lines), "at most a line for each, with its address", lines)
+    good = len(lines) == 4 and all("127.0.0.1:" in line and line.endswith(("read failed", "write failed")) for line in lines)
+    checks.holds("connections that were reset: the log", good, "a line for each, with its address and what failed", lines)
 
 
 def waits_for_nobody(server, checks):
@@ -193,6 +199,63 @@ def late_behind_one_that_asks(world, checks):
 
         came, took = soon(ended, 1.9)
         checks.holds("a peer that sends nothing, behind one that asks: the server's timeout ends it", came == b"" and 0.99 < took < 1.9, "after 1 s", f"{took:.2f} s")
+
+
+def late_behind_some_that_always_ask(world, checks):
+    """The same where others' requests are always there, so that the server has no moment in which nothing came."""
+    with Server(world, timeout=1_000, default=1_000_000) as server:
+        over, asked = threading.Event(), [b"".join(reserve(n, txn=n, host=host) for n in range(1, 9_001)) for host in (b"a", b"b", b"c")]
+
+        def ask_on(frames):
+            while not over.is_set():
+                # (its own time may be over)
+                with contextlib.suppress(OSError), server.connect() as peer:
+                    peer.sendall(frames)
+                    send_no_more(peer)
+                    read_all(peer)
+
+        asking = [threading.Thread(target=ask_on, args=(it,), daemon=True) for it in asked]
+        for it in asking:
+            it.start()
+
+        def ended():
+            with server.connect() as silent:
+                return read_all(silent) if select.select([silent], [], [], 5)[0] else None
+
+        came, took = soon(ended, 1.9)
+        over.set()
+        for it in asking:
+            it.join(timeout=SECONDS)
+        checks.holds("a peer that sends nothing, behind three that always ask: the server's timeout ends it", came == b"" and 0.99 < took < 1.9, "after 1 s", f"{took:.2f} s")
+
+
+def one_after_another(world, checks):
+    """Each of 130 connections ends as its peer's input does, and its socket is closed."""
+    with Server(world, timeout=60_000) as server:
+        ended = []
+        for _ in range(130):
+            came, took = soon(lambda: server.ask(usage()), LONG / 2_000)
+            ended.append(came == NOTHING_USED and took < LONG / 2_000)
+        checks.equal("130 connections, one after another: those that end at once", ended, [True] * 130)
+
+
+def comes_with_a_request(world, checks):
+    """A connection that comes while the server is busy with another one's request is answered, whichever came first."""
+    with Server(world) as server:
+        for first in ("the request", "the connection"):
+            old = server.connect()
+            old.sendall(usage())
+            old.recv(65_536)
+            with server.stopped():
+                if first == "the request":
+                    old.sendall(usage())
+                new = server.connect()
+                new.sendall(usage())
+                if first == "the connection":
+                    old.sendall(usage())
+            checks.equal(f"a connection that comes with a request on another, {first} first", (new.recv(65_536), old.recv(65_536)), (NOTHING_USED, NOTHING_USED))
+            old.close()
+            new.close()
 
 
 def two_on_one_connection_each(world, checks):

@@ -1,5 +1,6 @@
 """Retired runs: what a retire settles and gives up, over a list, tables and a file; files of versions 1 and 2, which an open makes version 3;
 and what a filter and an administrator are told."""
+import os
 import signal
 import sqlite3
 import subprocess
@@ -85,6 +86,7 @@ def run(world, checks):
     ended_as_it_opens(world, checks)
     killed_within_a_retire(world, checks)
     refused(world, checks)
+    without_room(world, checks)
     a_retired_filter(world, checks)
     a_host_that_is_restarted(world, checks)
     commands(world, checks)
@@ -297,12 +299,21 @@ def refused(world, checks):
         checks.equal(f"{place}, {what}: refused, and as it was", came, (fault(NOT_OURS, log=refusal(path, cause)), before))
 
 
+def without_room(world, checks):
+    """A file of an older version that can't be given version 3 is refused, for the cause that the system has, and stays as it was."""
+    path = written(world, "without-room", *of_version(1, of_the_four()))
+    room = "RLIMIT_FSIZE", os.path.getsize(path)
+    came = world.run("audit", "--config", ledger_settings(world, path), limit=room), version_of(path)
+    checks.equal("a file of version 1, no room for version 3: refused, and as it was", came, (fault("store failed", log=refusal(path, "disk I/O error")), OF_VERSION_1))
+
+
 def a_retired_filter(world, checks):
     """It answers 451 and asks each request once; its closings are removed with a warning."""
     def is_old(heard):
         return wire.old(int.from_bytes(heard[15:19], "big"), **MX1)
 
-    errors = scripted(world, checks, "a retired filter", INPUT + COMMIT, [is_old] * 2, results=[answer(SERVICE)], frames=[RESERVE, RELEASE])
+    # (a third question would be answered)
+    errors = scripted(world, checks, "a retired filter", INPUT + COMMIT, [is_old] * 3, results=[answer(SERVICE)], frames=[RESERVE, RELEASE])
     told(checks, "a retired filter", errors, [of_a_try("reserve", 1, "the run is retired"), of_a_try("release", 2, "the run is retired")])
 
 

@@ -2,7 +2,7 @@
 import re
 import time
 
-from cases.stopping import SET, caps, orders_of, run_of, said, usage_reply, wait_past_midnight
+from cases.stopping import SET, caps, no_limit, orders_of, run_of, said, usage_reply, wait_past_midnight
 from ends import NO_PORT, Script, Server, bad_address, nobody_there, unavailable
 from smtpd import clock
 from wire import frame, limit, number, page_reply, reserve, row, text, usage
@@ -57,6 +57,11 @@ def each_is_asked(world, checks):
         came = world.run("limit", *at(second.address, first.address), "--host", "admin", "--login", "u", "--from", "1", "--cap", "1")
         wanted = 1, headings[1] + headings[0] + b"set\n", f"mailquota: over day 1 used 4\n{undone(second.address)}"
         checks.equal("one that the first refuses", came, wanted)
+        for each in (first, second):
+            each.ask(limit(1, 5, 2, login=b"w", host=b"later"))
+        came = world.run("stop", *both, "--host", "admin", "--login", "w", "--day", "1", "--force", "--all")
+        checks.equal("stop --all at two", came, told(b"stopped: w used 0 on day 1\nlimit before: 3\n", b"stopped: w used 0 on day 1\nlimit before: 5\n"))
+        checks.equal("stop --all at two: the limits then", (caps(first, b"w", 1, 4, 5, 6), caps(second, b"w", 1, 4, 5, 6)), ([0] * 4, [0] * 4))
 
 
 def one_that_is_away(world, checks):
@@ -102,6 +107,10 @@ def use_at_one_of_them(world, checks):
         came = world.run(*words, "nowhere", *both)
         refused = 1, heading(first.address) + heading(second.address), nothing + undone(first.address) + nothing + undone(second.address)
         checks.equal("stop at two, used at none", came, refused)
+        with Server(world, default=7) as third:
+            third.ask(reserve(1, login=b"third", at=today * 86_400))
+            came = world.run(*words, "third", *both, "--server", third.address)
+            checks.equal("stop at three, used at the third: the status, and its limits", (came[0], caps(first, b"third", today), caps(third, b"third", today, today + 1)), (0, [0], [1, 0]))
         checks.equal("stop at two, used at the second three days ago", world.run(*words, "before", *both), refused)
         checks.equal("stop at the first alone, used at the second", world.run(*words, "elsewhere", "--server", first.address), (1, b"", nothing))
         # one that is away knows nothing, and doesn't keep the others from saying what they know
@@ -116,10 +125,10 @@ def use_at_one_of_them(world, checks):
         checks.equal("stop at two, of which one is away, used at none", came, (1, heading(away) + heading(first.address), told))
     unused = [usage_reply(0, 0, day=day) for day in (today, today - 1, today - 2)]
     asked = [usage(b"u", day) for day in (today, today - 1, today - 2)]
-    with Script(unused + [usage_reply(0, 0, day=today), is_set, is_set]) as first, Script([usage_reply(2, 0, day=today)] * 2 + [is_set, is_set]) as second:
+    with Script(unused + [usage_reply(0, 0, day=today), is_set, is_set], otherwise=no_limit) as first, Script([usage_reply(2, 0, day=today)] * 2 + [is_set, is_set], otherwise=no_limit) as second:
         came = world.run(*words, "u", *at(first.address, second.address))
     checks.equal("stop at two, by a script: the status, what each is asked before a limit", (came[0], first.heard[:-2], second.heard[:-2]), (0, asked + asked[:1], asked[:1] * 2))
-    with Script([usage_reply(1, 0, day=today)] * 2 + [is_set, is_set]) as first, Script([usage_reply(0, 0, day=today), is_set, is_set]) as second:
+    with Script([usage_reply(1, 0, day=today)] * 2 + [is_set, is_set], otherwise=no_limit) as first, Script([usage_reply(0, 0, day=today), is_set, is_set], otherwise=no_limit) as second:
         came = world.run(*words, "u", *at(first.address, second.address))
     checks.equal("once one says so the others aren't asked", (came[0], first.heard[:-2], second.heard[:-2]), (0, asked[:1] * 2, asked[:1]))
 
@@ -144,7 +153,7 @@ def one_number_for_all(world, checks):
         world.run(*limiting, *at(first.address, second.address))
     runs = [run_of(heard) for heard in first.heard + second.heard]
     checks.equal("a number that the first has already: the runs", [it - runs[0] for it in runs], [0, 1, 0])
-    with Script([usage_reply(2, 3), is_set, is_set]) as first, Script([usage_reply(1, 0), is_set, is_set]) as second:
+    with Script([usage_reply(2, 3), is_set, is_set], otherwise=no_limit) as first, Script([usage_reply(1, 0), is_set, is_set], otherwise=no_limit) as second:
         world.run("stop", *at(first.address, second.address), "--host", "admin", "--login", "u", "--day", "1", "--force")
     checks.equal("stop at two: the limits", (orders_of(first), orders_of(second)), ([(1, 0, 1, 5), (19, 0, 2, 0)], [(1, 0, 1, 1), (19, 0, 2, 0)]))
     checks.equal("stop at two: one run", run_of(first.heard[1]), run_of(second.heard[1]))
@@ -200,3 +209,6 @@ def a_device_that_is_full(world, checks):
         failed = "mailquota: write failed\n" * 2
         checks.equal("limit at two to a full device", (status, errors), (1, failed + undone(first.address) + failed + undone(second.address)))
         checks.equal("both have it", (caps(first, b"u", 1), caps(second, b"u", 1)), ([2], [2]))
+        status, _, errors = world.run("report", *at(first.address, second.address), "--day", "9", output=device)
+        failed = "mailquota: write failed\n"
+        checks.equal("a report of nothing at two to a full device", (status, errors), (1, failed + undone(first.address) + failed + undone(second.address)))

@@ -6,9 +6,10 @@ import subprocess
 import time
 
 from ends import (
-    DRIP, IS_THERE, LOCKED, NO_DATABASE, NO_FILE, NO_PORT, RESET, SILENCE, TOP, Script, Server, bad_address, crowded_port, fault, ledger_settings, nobody_there,
+    DRIP, IS_THERE, LOCKED, NO_DATABASE, NO_FILE, NO_PORT, RESET, SILENCE, Script, Server, bad_address, crowded_port, fault, ledger_settings, nobody_there,
     of_settings, of_store, refusal, soon, toml, unavailable, unreached,
 )
+from pages import section_of
 from rows import rows_in
 from smtpd import clock
 from wire import BAD, RETRY, frame, granted, limit, number, old, page_reply, release, reserve, retire, retired, settle, text
@@ -16,12 +17,12 @@ from wire import BAD, RETRY, frame, granted, limit, number, old, page_reply, rel
 ASKED = frame(b"\x05" + text(b"-") + number(0))
 ANSWER = frame(b"\x8b" + text(b"-") + number(0) + number(0) * 2 + number(3))
 SETTINGS_ARE_RIGHT = b"settings are right\n"
-OPERATING = f"{TOP}/docs/OPERATING.md"
 
 
 def run(world, checks):
     inits(world, checks)
     refused_inits(world, checks)
+    inits_by_root(world, checks)
     statuses(world, checks)
     statuses_by_script(world, checks)
     statuses_of_a_file(world, checks)
@@ -99,6 +100,11 @@ def refused_inits(world, checks):
     nowhere = f"{world.folder}/nowhere/ledger"
     came = world.run("init", "--config", ledger_settings(world, nowhere))
     checks.equal("init in a folder that isn't there", came, fault("store can't be opened", log=of_store(nowhere, NO_FILE)))
+    for error, came in ((1, "made"), (5, "refused")):
+        path = f"{world.folder}/given-{error}"
+        wanted = (0, f"made {path}\n".encode(), "") if came == "made" else fault("store can't be opened", log=of_store(path, f"{os.strerror(error)} (os error {error})"))
+        made = world.run("init", "--config", ledger_settings(world, path), limit=("fchown", error))
+        checks.equal(f"init where its file's owner can't be set, for {os.strerror(error)}: {came}, and whether it is there", (made, os.path.exists(path)), (wanted, came == "made"))
     path = f"{world.folder}/text"
     with open(path, "w", encoding="ascii") as file:
         file.write("no database\n" * 1_000)
@@ -111,6 +117,28 @@ def refused_inits(world, checks):
         came = world.run("init", "--config", ledger_settings(world, f"{world.folder}/open"))
         checks.equal("init of a file that a server has open", came, fault("store can't be opened", log=of_store(f"{world.folder}/open", LOCKED)))
         checks.equal("the server goes on", server.ask(reserve(1))[2], 0x81)
+
+
+def inits_by_root(world, checks):
+    """What root makes belongs to its folder's owner, with which the server runs; what others make is theirs, whosever the folder is."""
+    if os.geteuid():
+        checks.skip("a ledger that root makes", "who tests isn't root")
+        return
+    owner, other = (60_001, 60_002), 60_003
+    os.chmod(world.folder, 0o711)
+    for name, words, mode, is_of in (("by root", [], 0o700, owner), ("by root, of a name alone", [], 0o700, owner), ("by root, of a folder here", [], 0o700, owner), ("by another user", ["setpriv", f"--reuid={other}", f"--regid={other}", "--clear-groups"], 0o777, (other, other))):
+        above = f"{world.folder}/{name.replace(' ', '-')}"
+        folder = f"{above}/d"
+        os.makedirs(folder)
+        os.chmod(above, 0o711)
+        os.chown(folder, *owner)
+        os.chmod(folder, mode)
+        path, here = {"alone": ("ledger", folder), "here": ("d/ledger", above)}.get(name.rpartition(" ")[2], (f"{folder}/ledger", folder))
+        config = ledger_settings(world, path)
+        run = subprocess.run([*words, world.program, "init", "--config", config], cwd=here, capture_output=True, text=True)
+        checks.equal(f"a ledger made {name}", (run.returncode, run.stdout, run.stderr), (0, f"made {path}\n", ""))
+        found = {it: (os.stat(f"{folder}/{it}").st_uid, os.stat(f"{folder}/{it}").st_gid, stat.S_IMODE(os.stat(f"{folder}/{it}").st_mode)) for it in os.listdir(folder)}
+        checks.equal(f"a ledger made {name}: whose it is, and its log", found, {it: (*is_of, 0o600) for it in ("ledger", "ledger-wal")})
 
 
 def statuses(world, checks):
@@ -355,13 +383,12 @@ def devices_that_are_full(world, checks):
 
 def monitoring(world, checks):
     """The line that OPERATING has for Nagios and the script for Prometheus, as they stand there but for the paths and the address."""
-    with open(OPERATING, encoding="utf-8") as page:
-        section = page.read().partition("\n## Monitoring\n")[2].partition("\n## ")[0]
+    section = section_of("OPERATING.md", "Monitoring")
     [nagios] = re.findall(r"^    command\[mailquota\]=(.*)$", section, re.MULTILINE)
     script = section.partition("#!/bin/sh\n")[2].partition("\n\n")[0]
 
     def of(line, address):
-        for old, new in (("/usr/local/sbin/mailquota", world.program), ("192.0.2.7:7025", address), ("/var/lib/prometheus/node-exporter", world.folder)):
+        for old, new in (("/usr/sbin/mailquota", world.program), ("192.0.2.7:7025", address), ("/var/lib/prometheus/node-exporter", world.folder)):
             line = line.replace(old, new)
         return subprocess.run(["sh", "-c", line], stdin=subprocess.DEVNULL, capture_output=True, text=True)
 
@@ -379,6 +406,10 @@ def monitoring(world, checks):
         came = of(nagios, server.address)
         checks.holds("the page's line for Nagios, a host that is retired", came.returncode == 2 and "is retired: correct its clock" in came.stdout, 2, came)
         checks.equal("the page's line for Prometheus, a host that is retired", counted(server.address), (0, "", "", "mailquota_up 0\n"))
+    here = f"{world.folder}/here"
+    os.mkdir(here)
+    run = subprocess.run(["sh", "-c", script.replace("/var/lib/prometheus/node-exporter", f"{world.folder}/nowhere")], cwd=here, stdin=subprocess.DEVNULL, capture_output=True)
+    checks.equal("the page's line for Prometheus, without its folder: whether it fails, and what it writes", (run.returncode != 0, os.listdir(here)), (True, []))
     with nobody_there() as address:
         came = of(nagios, address)
         checks.equal("the page's line for Nagios, nobody there", (came.returncode, came.stdout), (2, unavailable(address)[2]))

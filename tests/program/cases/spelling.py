@@ -1,11 +1,11 @@
-"""The filter `one-spelling` of contrib, which is fed what smtpd writes of several sessions at once: the mail of a session is refused whose login has a
+"""The filter `filter-one-spelling` of contrib, which is fed what smtpd writes of several sessions at once: the mail of a session is refused whose login has a
 byte that a plain login hasn't, and no other session's."""
 import os
 import subprocess
 
 from ends import SECONDS, TOP
 
-SCRIPT = f"{TOP}/contrib/one-spelling"
+SCRIPT = f"{TOP}/contrib/filter-one-spelling"
 CONFIG = b"config|smtpd-version|7.6.0-portable\nconfig|protocol|0.7\nconfig|smtp-session-timeout|300\nconfig|subsystem|smtp-in\nconfig|admd|vm\nconfig|ready\n"
 REGISTRATION = [b"register|report|smtp-in|link-auth", b"register|report|smtp-in|link-disconnect", b"register|filter|smtp-in|mail-from", b"register|ready"]
 GO, NO = b"proceed", b"reject|550 type the login in lower case"
@@ -98,7 +98,8 @@ def logins(checks):
     # (as an older smtpd writes it, the login first)
     it.tell(b"link-auth", b"a2", b"Alice|pass")
     it.tell(b"link-auth", b"a3", b"alice|pass")
-    checks.equal("logins that stand before the result", [it.ask(b"a2"), it.ask(b"a3")], [NO, GO])
+    it.tell(b"link-auth", b"a4", b"Alice|fail")
+    checks.equal("logins that stand before the result", [it.ask(b"a2"), it.ask(b"a3"), it.ask(b"a4")], [NO, GO, GO])
     it.end()
 
 

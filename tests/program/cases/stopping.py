@@ -16,6 +16,8 @@ from wire import BAD, RETRY, frame, full, granted, identity, limit, number, rese
 LAST_DAY = 376_200
 # what a server says of a limit or a retire, by its frame
 SET, OVER, CONFLICT, OLD = b"\x85", b"\x86", b"\x8a", b"\x90"
+# how a question after what is used begins
+USAGE = b"\x05"
 # how many runs after its own an order's number is, each time that the one before is used
 AHEAD = [2**times - 1 for times in range(16)]
 DAY = 20_780
@@ -36,6 +38,8 @@ def run(world, checks):
     today_alone(world, checks)
     logins_that_sent_nothing(world, checks)
     limits_given_back(world, checks)
+    later_limits(world, checks)
+    later_limits_by_script(world, checks)
     days(world, checks)
     a_device_that_is_full(world, checks)
     loops(world, checks, "limits in a loop", 1, 100)
@@ -57,8 +61,15 @@ def resume(world, address, cap, login="u", day=1, **more):
     return world.run("resume", *words_of(address, login, day), "--cap", str(cap), **more)
 
 
-def stopped(used, before, login="u", day=1, note=""):
-    return 0, f"stopped: {login} used {used} on day {day}\nlimit before: {before}\n".encode(), note
+def stopped(used, before, login="u", day=1, note="", verb="used", later=None):
+    """What `stop` comes to; `later` is the last day on which the login used something, and its limit up to then."""
+    line = f"limit after: {later[1]} up to day {later[0]}\n" if later else ""
+    return 0, f"stopped: {login} {verb} {used} on day {day}\nlimit before: {before}\n{line}".encode(), note
+
+
+def stays(done, cap, day, more="; use --all"):
+    """What `stop` comes to where a limit from a later day stays in force."""
+    return 1, done[1], f"{done[2]}mailquota: a limit of {cap} stays in force on day {day}{more}\n"
 
 
 def resumed(cap, login="u", day=1, note=""):
@@ -87,15 +98,17 @@ def of_the_real_server(world, checks):
         checks.equal("resume: as many more on that day, and as many on each later one", resume(world, address, 5), resumed(7))
         checks.equal("its limits after the resume", caps(server, b"u", 1, 2), [7, 5])
         checks.equal("a recipient on the next day", server.ask(reserve(6, txn=9, at=172_800)), granted(6, 1))
-        checks.equal("stop where more is used on the next day", stop(world, address), fault("over day 2 used 1"))
-        checks.equal("then the limit of the day alone is set", caps(server, b"u", 1, 2), [2, 5])
-        checks.equal("stop from that next day on", stop(world, address, day=2), stopped(1, 5, day=2))
+        checks.equal("stop where more is used on the next day", stop(world, address), stopped(2, 7, later=(2, 1)))
+        checks.equal("then each limit is set", caps(server, b"u", 0, 1, 2, 3, LAST_DAY), [3, 2, 1, 0, 0])
+        checks.equal("it is refused on both days, and after", server.ask(reserve(7, txn=17) + reserve(8, txn=18, at=172_800) + reserve(9, txn=19, at=259_200)), full(7, 2, 2) + full(8, 1, 1) + full(9, 0, 0))
+        checks.equal("stop once more", stop(world, address), stopped(2, 2, later=(2, 1)))
+        checks.equal("stop from that next day on", stop(world, address, day=2), stopped(1, 1, day=2))
         checks.equal("resume with nothing more", resume(world, address, 0, day=2), resumed(1, day=2))
         checks.equal("resume with the most", resume(world, address, MOST, day=2), resumed(MOST, day=2))
         checks.equal("stop on the last day but one", stop(world, address, login="v", day=LAST_DAY - 1), stopped(0, 3, "v", LAST_DAY - 1))
         checks.equal("its limits there", caps(server, b"v", LAST_DAY - 2, LAST_DAY - 1, LAST_DAY), [3, 0, 0])
         checks.equal("a limit of a later day", world.run("limit", "--server", address, "--host", "admin", "--login", "w", "--from", "9", "--cap", "4"), (0, b"set\n", ""))
-        checks.equal("a stop before that day", stop(world, address, login="w"), stopped(0, 3, "w"))
+        checks.equal("a stop before that day", stop(world, address, login="w"), stays(stopped(0, 3, "w"), 4, 9))
         checks.equal("the later limit still governs from its day on", caps(server, b"w", 1, 8, 9), [0, 0, 4])
         checks.equal("the server's log", server.log_lines(), [])
         world.run("retire", "--server", address, "--host", "admin", "--run", str(clock() + 3_600_000))
@@ -113,6 +126,12 @@ def said(heard, kind, more=b""):
 
 def is_set(heard):
     return said(heard, SET)
+
+
+def no_limit(heard):
+    """The reply of a server that says of any login and day that nothing is used, and that the limit is 0."""
+    end = 4 + heard[3]
+    return usage_reply(0, 0, login=heard[4:end], day=int.from_bytes(heard[end:end + 4], "big"), cap=0)
 
 
 def over(used, day=1):
@@ -133,6 +152,8 @@ def orders_of(script, login=b"u"):
     """The day, cap and place of each limit that a server heard, and how many runs after the first its run is."""
     found, first = [], None
     for heard in script.heard[1:]:
+        if heard[2:3] == USAGE:
+            continue
         first = first or run_of(heard)
         place = 4 + heard[3] + 8
         sequence, day, cap = (int.from_bytes(heard[at:at + 4], "big") for at in range(place, place + 12, 4))
@@ -151,9 +172,7 @@ def stop_by_script(world, checks):
         ("room up to the limit that it had", [usage_reply(2, 3), over(6), over(9), is_set, is_set], [(1, 0, 1, 5), (2, 0, 1, 9), (3, 0, 1, 9), (19, 0, 2, 0)], stopped(9, 9)),
         ("all used", [usage_reply(9, 0), is_set, is_set], [(1, 0, 1, 9), (19, 0, 2, 0)], stopped(9, 9)),
         ("a greater limit is set meanwhile, and used", [usage_reply(2, 3), over(6)] + [over(12)] * 17, [(1, 0, 1, 5)] + [(place, 0, 1, 9) for place in range(2, 19)], fault("over day 1 used 12")),
-        ("more is used on a later day", [usage_reply(2, 3), over(6, day=4)], [(1, 0, 1, 5)], fault("over day 4 used 6")),
-        ("more is used meanwhile, and then on a later day", [usage_reply(2, 3), over(6), over(20, day=2)], [(1, 0, 1, 5), (2, 0, 1, 9)], fault("over day 2 used 20")),
-        ("more is used on the next day", [usage_reply(0, 0), is_set, over(1, day=2)], [(1, 0, 1, 0), (19, 0, 2, 0)], fault("over day 2 used 1")),
+        ("more is used on an earlier day, as no server says", [usage_reply(2, 3), over(6, day=0)], [(1, 0, 1, 5)], fault("over day 0 used 6")),
         ("a used number", [usage_reply(0, 1), is_taken, is_set, is_taken, is_taken, is_set], [(1, 0, 1, 1), (1, 1, 1, 1), (19, 0, 2, 0), (19, 1, 2, 0), (19, 3, 2, 0)], stopped(1, 9)),
         ("a run that is retired", [usage_reply(0, 1), lambda heard: said(heard, OLD)], [(1, 0, 1, 1)], fault("run is retired")),
         ("the next day's run is retired", [usage_reply(0, 1), is_set, lambda heard: said(heard, OLD)], [(1, 0, 1, 1), (19, 0, 2, 0)], fault("run is retired")),
@@ -161,19 +180,54 @@ def stop_by_script(world, checks):
         ("no answer to the second limit", [usage_reply(0, 1), is_set, b"", b"", b""], [(1, 0, 1, 1)] + [(19, 0, 2, 0)] * 3, None),
         ("no answer to the first limit", [usage_reply(0, 1), b"", b"", b""], [(1, 0, 1, 1)] * 3, None),
     ]:
-        with Script(script) as server:
+        with Script(script, otherwise=no_limit) as server:
             came = stop(world, server.address)
         checks.equal(f"stop, {what}", (came, server.heard[0]), (wanted or unavailable(server.address, CUT), asked))
         checks.equal(f"stop, {what}: the limits", orders_of(server), limits)
     with Script([b""] * 3) as server:
         came = stop(world, server.address)
     checks.equal("stop, no answer to what is used", (came, server.heard), (unavailable(server.address, CUT), [asked] * 3))
+    stop_with_later_use(world, checks)
     with Script([usage_reply(2, 3), over(6), is_set, is_set]) as server:
         came = resume(world, server.address, 50)
     checks.equal("resume where more is used meanwhile", (came, orders_of(server)), (resumed(64), [(1, 0, 1, 55), (2, 0, 1, 64), (19, 0, 2, 50)]))
     with Script([usage_reply(2, 3), over(60, day=3)]) as server:
         came = resume(world, server.address, 50)
     checks.equal("resume where more is used on a later day", (came, orders_of(server)), (fault("over day 3 used 60"), [(1, 0, 1, 55)]))
+
+
+def stop_with_later_use(world, checks):
+    """A login used something on later days, below which no limit can be: (place, day, cap) of each limit. No answer is None."""
+    def used(count, day, cap=50):
+        return usage_reply(count, 0, day=day, cap=cap)
+
+    retired_run = lambda heard: said(heard, OLD)
+    for what, script, limits, wanted in [
+        ("on the next day", [used(0, 1), is_set, over(1, day=2), used(1, 2), is_set, is_set], [(1, 1, 0), (19, 2, 0), (21, 2, 1), (39, 3, 0)], stopped(0, 50, later=(2, 1))),
+        ("less than on the day itself, on the fourth", [used(9, 1), is_set, over(6, day=4), used(0, 2, 9), over(6, day=4), is_set, is_set], [(1, 1, 9), (19, 2, 0), (21, 2, 0), (22, 2, 6), (39, 5, 0)], stopped(9, 50, later=(4, 6))),
+        ("more than on the day itself", [used(5, 1), over(6, day=4), is_set, over(6, day=4), used(0, 2, 6), over(6, day=4), is_set, is_set], [(1, 1, 5), (2, 1, 6), (19, 2, 0), (21, 2, 0), (22, 2, 6), (39, 5, 0)], stopped(6, 50, verb="may use", later=(4, 6))),
+        ("more on two later days", [used(5, 1), over(6, day=4), over(8, day=7), is_set, over(6, day=4), used(3, 2, 8), over(6, day=4), over(8, day=7), is_set, is_set], [(1, 1, 5), (2, 1, 6), (3, 1, 8), (19, 2, 0), (21, 2, 3), (22, 2, 6), (23, 2, 8), (39, 8, 0)], stopped(8, 50, verb="may use", later=(7, 8))),
+        ("and more meanwhile", [used(5, 1), over(6), over(20, day=2), is_set, over(20, day=2), used(20, 2), over(21, day=2), is_set, is_set], [(1, 1, 5), (2, 1, 14), (3, 1, 28), (19, 2, 0), (21, 2, 20), (22, 2, 29), (39, 3, 0)], stopped(28, 50, verb="may use", later=(2, 29))),
+        ("on the next day, and less on the ninth", [used(0, 1), is_set, over(7, day=2), used(7, 2), is_set, over(4, day=9), used(0, 3, 7), over(4, day=9), is_set, is_set], [(1, 1, 0), (19, 2, 0), (21, 2, 7), (39, 3, 0), (41, 3, 0), (42, 3, 4), (59, 10, 0)], stopped(0, 50, later=(9, 7))),
+        ("more than its limit, which stays", [used(5, 1, 9), over(12, day=4), over(12, day=4), used(0, 2, 9), over(12, day=4), over(12, day=4), used(12, 4), is_set, is_set], [(1, 1, 5), (19, 2, 0), (21, 2, 0), (39, 4, 0), (41, 4, 12), (59, 5, 0)], stopped(9, 9, verb="may use", later=(4, 12))),
+        ("no answer to what is used later", [used(0, 1), is_set, over(1, day=2), b"", b"", b""], [(1, 1, 0), (19, 2, 0)], None),
+        ("no answer to the limit of the later day", [used(0, 1), is_set, over(1, day=2), used(1, 2), b"", b"", b""], [(1, 1, 0), (19, 2, 0)] + [(21, 2, 1)] * 3, None),
+        ("a run that is retired meanwhile", [used(0, 1), is_set, over(1, day=2), used(1, 2), is_set, retired_run], [(1, 1, 0), (19, 2, 0), (21, 2, 1), (39, 3, 0)], fault("run is retired")),
+        ("more each time that the later day is asked for", [used(0, 1), is_set, over(1, day=2)] + [used(1, 2, 2)] + [over(2, day=2)] * 18, [(1, 1, 0), (19, 2, 0), (21, 2, 1)] + [(place, 2, 2) for place in range(22, 39)], fault("over day 2 used 2")),
+    ]:
+        with Script(script, otherwise=no_limit) as server:
+            came = stop(world, server.address)
+        found = [(place, day, cap) for place, _, day, cap in orders_of(server)]
+        checks.equal(f"stop, use on a later day: {what}", (came, found), (wanted or unavailable(server.address, CUT), limits))
+    last = LAST_DAY
+    with Script([used(0, last - 1), is_set, over(3, day=last), used(3, last), is_set]) as server:
+        came = stop(world, server.address, day=last - 1)
+    checks.equal("stop, use on the last day of all", (came, orders_of(server)[-1]), (stopped(0, 50, day=last - 1, later=(last, 3)), (21, 0, last, 3)))
+    for days, wanted in [(100, stopped(0, 50, later=(101, 1))), (101, fault("over day 102 used 1"))]:
+        script = [used(0, 1), is_set] + [it for day in range(2, 102) for it in (over(1, day=day), used(1, day), is_set)] + [is_set if days == 100 else over(1, day=102)]
+        with Script(script, otherwise=no_limit) as server:
+            came = stop(world, server.address)
+        checks.equal(f"stop, use on {days} later days", (came, orders_of(server)[-1]), (wanted, (2_019, 0, 102, 0)))
 
 
 def room_by_script(world, checks):
@@ -350,14 +404,14 @@ def today_alone(world, checks):
         ("another day by force", ["--day", str(today - 3), "--force"], today - 3), ("another day by force and by settings", ["--day", str(today + 3), "--config", rule, "--force"], today + 3),
         ("today by a rule", ["--config", rule], theirs), ("today by a rule, and given", ["--config", rule, "--day", str(theirs)], theirs), ("today by a rule and force", ["--config", rule, "--force"], theirs),
     ]:
-        with Script([usage_reply(1, 0, day=day), is_set, is_set]) as server:
+        with Script([usage_reply(1, 0, day=day), is_set, is_set], otherwise=no_limit) as server:
             came = world.run("stop", "--server", server.address, "--host", "admin", "--login", "u", *more)
         checks.equal(f"stop, {what}", (came, orders_of(server)), (stopped(1, 9, day=day), [(1, 0, day, 1), (19, 0, day + 1, 0)]))
     nothing = f"{world.folder}/nothing"
     came = world.run("stop", "--server", "127.0.0.1:1", "--host", "admin", "--login", "u", "--config", nothing)
     checks.equal("stop by settings that aren't there", came, fault("settings can't be read", log=of_settings(nothing, NO_FILE)))
     came = world.run("stop", "--server", "127.0.0.1:1", "--host", "admin", "--login", "u")
-    checks.holds("stop with neither a day nor settings", came[0] == 2 and "--day <DAY>" in came[2], "status 2, and what is missing", came)
+    checks.equal("stop with neither a day nor settings", came, (2, b"", "mailquota: no day is named; use --day or --from, or copy the server's settings to /etc/mailquota/server.toml\n"))
 
 
 def logins_that_sent_nothing(world, checks):
@@ -383,7 +437,7 @@ def logins_that_sent_nothing(world, checks):
     with Script(nothing) as server:
         came = stop_unforced(world, server.address, today)
     checks.equal("what is asked of a login that sent nothing", (came, server.heard), (idle(today), asked))
-    with Script(nothing[:3] + [usage_reply(0, 2, day=today - 2), is_set, is_set]) as server:
+    with Script(nothing[:3] + [usage_reply(0, 2, day=today - 2), is_set, is_set], otherwise=no_limit) as server:
         came = stop_unforced(world, server.address, today)
     checks.equal("of one that sent two days ago", (came, server.heard[:4], orders_of_last(server, 2)), (stopped(0, 9, day=today), asked, [(1, today, 0), (19, today + 1, 0)]))
     with Script(nothing[:2] + [b""] * 3) as server:
@@ -453,6 +507,73 @@ def limits_given_back(world, checks):
     with Script(replies + [over(8, day=20), is_set, is_set]) as server:
         came = world.run("resume", *words_of(server.address, "u", day))
     checks.equal("resume without a number, more is used meanwhile", (came, orders_of_last(server, 3)), (restored(30, 30, "u", 20), [(1, 20, 30), (2, 20, 30), (19, 21, 30)]))
+
+
+def later_limits(world, checks):
+    """`stop` says which limit from a later day stays in force, and with `--all` it sets each of them to 0, of up to 400 days."""
+    with Server(world, default=9) as server:
+        address = server.address
+
+        def limits(login, *found):
+            numbers = enumerate(found, start=1)
+            server.ask(b"".join(limit(number, day, cap, login=login.encode(), host=login.encode()) for number, (day, cap) in numbers))
+
+        def stop_all(login, day=1):
+            return world.run("stop", *words_of(address, login, day), "--force", "--all")
+
+        limits("u", (5, 4), (8, 0), (12, 7))
+        checks.equal("stop where limits are set from later days", stop(world, address), stays(stopped(0, 9), 4, 5))
+        checks.equal("they are as before", caps(server, b"u", 1, 2, 4, 5, 7, 8, 11, 12, LAST_DAY), [0, 0, 0, 4, 4, 0, 0, 7, 7])
+        checks.equal("stop --all", stop_all("u"), stopped(0, 0))
+        checks.equal("all of them are 0", caps(server, b"u", 1, 2, 4, 5, 7, 8, 11, 12, LAST_DAY), [0] * 9)
+        checks.equal("stop once more", stop(world, address), stopped(0, 0))
+        for day, is_found in [(3, True), (4, True), (401, True), (402, False), (1_000, False), (LAST_DAY, False)]:
+            login = f"from{day}"
+            limits(login, (day, 2))
+            checks.equal(f"stop on day 1, a limit from day {day}", stop(world, address, login), stays(stopped(0, 9, login), 2, day if is_found else LAST_DAY))
+            wanted = stopped(0, 0, login) if is_found else stays(stopped(0, 0, login), 2, LAST_DAY, ", and from which day on isn't found")
+            checks.equal(f"stop --all on day 1, a limit from day {day}", stop_all(login), wanted)
+            checks.equal(f"the limits, one of which was set from day {day}", caps(server, login.encode(), 1, 2, day, LAST_DAY), [0, 0] + [0 if is_found else 2] * 2)
+        limits("window", (402, 2), (500, 0))
+        checks.equal("stop where a limit of 0 follows after more than 400 days", stop(world, address, "window"), stopped(0, 9, "window"))
+        for day in (LAST_DAY - 1, LAST_DAY - 2, LAST_DAY - 3):
+            limits(f"last{day}", (LAST_DAY, 3))
+            wanted = stopped(0, 9, f"last{day}", day)
+            checks.equal(f"stop on day {day}, a limit from the last day", stop(world, address, f"last{day}", day), wanted if day == LAST_DAY - 1 else stays(wanted, 3, LAST_DAY))
+        server.ask(limit(1, 6, 5, login=b"used", host=b"used") + reserve(2, login=b"used", host=b"used", count=2, at=7 * 86_400))
+        wanted = stopped(2, 9, "used", verb="may use", later=(7, 2))
+        checks.equal("stop where more is used on a later day", stop(world, address, "used"), stays(wanted, 5, 6))
+        checks.equal("stop --all then", stop_all("used"), stopped(2, 2, "used", verb="may use", later=(7, 2)))
+        checks.equal("its limits up to that day, and after", caps(server, b"used", 0, 1, 2, 5, 6, 7, 8, LAST_DAY), [9, 2, 2, 2, 2, 2, 0, 0])
+
+
+def later_limits_by_script(world, checks):
+    """What is asked after both limits are set, a day at a time, and which limits are set under which numbers."""
+    begin = [usage_reply(0, 0), is_set, is_set]
+    asked = [frame(b"\x05" + text(b"u") + number(day)) for day in [*range(3, 402), LAST_DAY]]
+    with Script(begin, otherwise=no_limit) as server:
+        came = stop(world, server.address)
+    checks.equal("what is asked of later days", (came, server.heard_later), (stopped(0, 9), asked))
+    with Script([usage_reply(0, 0, day=LAST_DAY - 1), is_set, is_set], otherwise=no_limit) as server:
+        came = world.run("stop", *words_of(server.address, "u", LAST_DAY - 1), "--force")
+    checks.equal("what is asked of days after the last one", (came, server.heard_later), (stopped(0, 9, day=LAST_DAY - 1), []))
+    limited = [usage_reply(0, 0, day=3, cap=0), usage_reply(0, 0, day=4, cap=6)]
+    with Script(begin + limited + [b""] * 3) as server:
+        came = stop(world, server.address)
+    checks.equal("a limit from a later day: nothing more is asked", (came, server.heard[3:]), (stays(stopped(0, 9), 6, 4), asked[:2]))
+    with Script(begin + limited + [is_set], otherwise=no_limit) as server:
+        came = world.run("stop", *words_of(server.address, "u", 1), "--force", "--all")
+    wanted = stopped(0, 9), [(19, 2, 0), (2_021, 4, 0)], asked[2:]
+    checks.equal("stop --all: the limits, and what is asked then", (came, [orders_of_last(server, 4)[0], orders_of_last(server, 1)[0]], server.heard_later), wanted)
+    for what, script, wanted in [
+        ("no answer about a later day", [b""] * 3, None), ("no answer about the second later day", [usage_reply(0, 0, day=3, cap=0)] + [b""] * 3, None),
+        ("no answer to a later limit", limited + [b""] * 3, None), ("more is used on a later day", limited + [over(3, day=5)], "over day 5 used 3"),
+        ("a retired run", limited + [lambda heard: said(heard, OLD)], "run is retired"),
+    ]:
+        with Script(begin + script) as server:
+            came = world.run("stop", *words_of(server.address, "u", 1), "--force", "--all")
+        told = fault(wanted)[2] if wanted else unavailable(server.address, CUT)[2]
+        checks.equal(f"stop --all, {what}", came, (1, stopped(0, 9)[1], told))
 
 
 def days(world, checks):

@@ -5,12 +5,11 @@ import socket
 import time
 
 import wire
-from cases.watching import Watched
+from cases.watching import ERROR, WARN, Watched
 from ends import but_of_requests, read_all, send_no_more, unavailable
 
 DAY = 86_400
 HOUR = 3_600_000
-LINE = re.compile(r"\[(\S+) +mq_watch::watched\] connection of ([0-9.]+):[0-9]+: (.*)")
 RETIRED_RUN = "which is retired: its recipients get 451"
 
 
@@ -20,6 +19,7 @@ def run(world, checks):
     retired_runs(world, checks)
     two_addresses(world, checks)
     floods(world, checks)
+    as_many_as_may_be(world, checks)
 
 
 def clock():
@@ -44,9 +44,8 @@ class Storm(Watched):
         return replies, self.new_lines()
 
     def new_lines(self):
-        found = [it.groups() for it in map(LINE.fullmatch, self.server.all_log_lines()) if it]
-        new, self.seen = found[self.seen:], len(found)
-        return new
+        """Of each line its level, the peer's address without the port, and the text."""
+        return [(level, peer.rpartition(":")[0], said) for level, peer, said in super().new_lines()]
 
 
 def reserve(number, login=b"u", **sender):
@@ -60,7 +59,7 @@ def ahead(line, host, run):
         line[2],
     )
     now = clock()
-    return bool(found) and line[:2] == ("ERROR", "127.0.0.1") and now - 60_000 < int(found[2]) <= now and int(found[1]) == (run - int(found[2])) // 1_000
+    return bool(found) and line[:2] == (ERROR, "127.0.0.1") and now - 60_000 < int(found[2]) <= now and int(found[1]) == (run - int(found[2])) // 1_000
 
 
 def retires_ahead(world, checks):
@@ -93,7 +92,7 @@ def retires_by_command(world, checks):
 def retired_runs(world, checks):
     """Whatever a retired run asks, the host and the run are named, once an hour."""
     def named(host, run, source="127.0.0.1"):
-        return [("WARN", source, f"host {host} asks under run {run}, {RETIRED_RUN}")]
+        return [(WARN, source, f"host {host} asks under run {run}, {RETIRED_RUN}")]
 
     with Storm(world) as it:
         hosts = [b"mx1", b"mx2", b"mx3"]
@@ -111,7 +110,7 @@ def two_addresses(world, checks):
     other = "127.0.0.2"
 
     def named(source, first, host="mx1"):
-        return [("WARN", source, f"host {host} has asked from {first} too within an hour: two machines may have its name")]
+        return [(WARN, source, f"host {host} has asked from {first} too within an hour: two machines may have its name")]
 
     with Storm(world, default=100) as it:
         number = iter(range(1, 100))
@@ -138,13 +137,36 @@ def floods(world, checks):
         full = [reserve(number, host=b"mx%d" % (number % 2)) for number in range(2, 1_002)]
         replies, lines = it.ask(*full)
         checks.equal("a thousand refusals", (replies, lines), (b"".join(wire.full(n, 1, 1, host=b"mx%d" % (n % 2)) for n in range(2, 1_002)), []))
-        more = [("WARN", "127.0.0.1", "login u was refused more than 1,000 times within an hour, last for host mx0")]
+        more = [(WARN, "127.0.0.1", "login u was refused more than 1,000 times within an hour, last for host mx0")]
         checks.equal("one more", it.ask(reserve(1_002, host=b"mx0"))[1], more)
         checks.equal("a thousand more", it.ask(*full)[1], [])
         it.ask(reserve(3_000, login=b"v"))
         other = [reserve(number, login=b"v") for number in range(3_001, 4_001)]
         checks.equal("a thousand of another login", it.ask(*other)[1], [])
         # (it isn't asked for again where it is granted)
-        line = [("WARN", "127.0.0.1", "login v was refused more than 1,000 times within an hour, last for host a")]
+        line = [(WARN, "127.0.0.1", "login v was refused more than 1,000 times within an hour, last for host a")]
         checks.equal("one of them again", it.ask(other[0])[1], line)
         checks.equal("a server's other lines", but_of_requests(it.server.all_log_lines()), [])
+
+
+def as_many_as_may_be(world, checks):
+    """1,000 hosts are named within an hour, for each of three causes, and no further one; a login is counted beside 5,000 others that were refused."""
+    hosts = [b"mx%d" % n for n in range(1_001)]
+    with Storm(world, default=1_000_000) as it:
+        it.ask(*(reserve(1, host=host) for host in hosts))
+        early = int(time.time()) - 5 * DAY
+        asked = [
+            ("from two addresses", [reserve(2, host=host) for host in hosts], "127.0.0.2"),
+            ("about a day that is far", [wire.reserve(3, txn=3, login=b"u", at=early, host=host) for host in hosts], "127.0.0.1"),
+            ("under a retired run", [reserve(4, host=host) for host in hosts], "127.0.0.1"),
+        ]
+        for what, frames, source in asked:
+            if "retired" in what:
+                it.ask(*(wire.retire(1, host=host, run=2) for host in hosts))
+            lines = it.ask(*frames, source=source)[1]
+            checks.equal(f"1,001 hosts that ask {what}: those that are named", [line[2].split()[1].encode() for line in lines], hosts[:-1])
+    with Storm(world, default=0) as it:
+        others = it.ask(*(reserve(n, login=b"l%d" % n) for n in range(1, 5_001)))[1]
+        lines = it.ask(*(reserve(n, login=b"w") for n in range(6_001, 7_002)))[1]
+        wanted = [(WARN, "127.0.0.1", "login w was refused more than 1,000 times within an hour, last for host a")]
+        checks.equal("a login that is refused beside 5,000 others", (others, lines), ([], wanted))

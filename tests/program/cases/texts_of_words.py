@@ -10,12 +10,12 @@ Commands:
   init    Make the ledger of a server's settings
   server  Serve the ledger to filters
   filter  Answer smtpd on standard input and output
-  status  Say whether the quota server answers; with --config also what its ledger's file holds if it doesn't
+  status  Say whether the quota server answers
   limit   Set the limit of a login from a day on
   stop    Let a login have nothing more, today and on each later day
   resume  Let a login have more again, today and on each later day
   day     Print today's day number by a server's settings
-  retire  Retire a host's earlier filters: what they reserved counts as sent, their requests are refused
+  retire  Retire a host's earlier filters: what they reserved counts as sent
   report  Print what logins used on a day
   limits  Print the limits that are set in the ledger in a file
   audit   Check the books of the ledger in a file
@@ -40,150 +40,167 @@ Options:
 """),
     (["filter", "--help"], """Answer smtpd on standard input and output
 
-Usage: mailquota filter [OPTIONS] --config <FILE>
+Usage: mailquota filter [OPTIONS]
 
 Options:
-      --config <FILE>  Settings
-      --run <N>        Number of the run; the clock's milliseconds where it isn't given
-      --check          Check the settings, ask whether the server takes this host's requests, and end
+      --config <FILE>  Settings [default: /etc/mailquota/filter.toml]
+      --run <N>        Number of the run; else the clock's milliseconds
+      --check          Check the settings, ask the server, and end
   -h, --help           Print help
 """),
     (["server", "--help"], """Serve the ledger to filters
 
-Usage: mailquota server [OPTIONS] --config <FILE>
+Usage: mailquota server [OPTIONS]
 
 Options:
-      --config <FILE>    Settings
+      --config <FILE>    Settings [default: /etc/mailquota/server.toml]
       --create           Make a new ledger; one in memory is always new
       --connections <N>  End after so many connections [default: 1000000]
+      --endless          Serve any number of connections
   -h, --help             Print help
 """),
     (["init", "--help"], """Make the ledger of a server's settings
 
-Usage: mailquota init --config <FILE>
+Usage: mailquota init [OPTIONS]
 
 Options:
-      --config <FILE>  Settings
+      --config <FILE>  Settings [default: /etc/mailquota/server.toml]
   -h, --help           Print help
 """),
-    (["status", "--help"], """Say whether the quota server answers; with --config also what its ledger's file holds if it doesn't
+    (["status", "--help"], """Say whether the quota server answers
 
-Usage: mailquota status [OPTIONS] <--server <ADDRESS>|--config <FILE>>
+Usage: mailquota status [OPTIONS]
 
 Options:
-      --server <ADDRESS>  Numeric address and port of the quota server; each is asked where it is given more than once
-      --host <HOST>       Mail host: also ask whether the requests of its filter would be taken, if it started now
-      --config <FILE>     Settings of the quota server: its address is asked, and its ledger's file is read if it doesn't answer
+      --server <ADDRESS>  Numeric address and port of a server; may be repeated
+      --host <HOST>       Also ask whether this mail host's requests are taken
+      --config <FILE>     Settings of the server: read its file if it's silent
   -h, --help              Print help
 """),
     (["limits", "--help"], """Print the limits that are set in the ledger in a file
 
-Usage: mailquota limits --config <FILE>
+Usage: mailquota limits [OPTIONS]
 
 Options:
-      --config <FILE>  Settings
+      --config <FILE>  Settings [default: /etc/mailquota/server.toml]
   -h, --help           Print help
 """),
     (["forget", "--help"], """Make a new ledger file without the days before a day
 
-Usage: mailquota forget --config <FILE> --before <DAY> --into <FILE>
+Usage: mailquota forget [OPTIONS] --before <DAY> --into <FILE>
 
 Options:
-      --config <FILE>  Settings
-      --before <DAY>   First day number that is kept; earlier days are forgotten
+      --config <FILE>  Settings [default: /etc/mailquota/server.toml]
+      --before <DAY>   First day number that is kept
       --into <FILE>    Database file to make, which must not be there
   -h, --help           Print help
 """),
     (["limit", "--help"], """Set the limit of a login from a day on
 
-Usage: mailquota limit [OPTIONS] --server <ADDRESS> --host <HOST> --from <DAY> --cap <N> <--login <LOGIN>|--login-text <TEXT>>
+Usage: mailquota limit [OPTIONS] <LOGIN> <CAP>
+
+Arguments:
+  [LOGIN]  Login, as a report prints it
+  [CAP]    Recipients a day
 
 Options:
-      --server <ADDRESS>   Numeric address and port of the quota server; each is asked where it is given more than once
-      --host <HOST>        Name under which this command asks, such as admin
-      --login <LOGIN>      Login, as smtpd reports it
-      --login-text <TEXT>  Login, as a report prints it
-      --from <DAY>         Day number from which on the limit governs
-      --cap <N>            Recipients a day
-      --run <N>            Number of the run; the clock's milliseconds where it isn't given
+      --server <ADDRESS>   Numeric address and port of a server; repeatable
+      --config <FILE>      Settings of the server: its address and its days
+      --host <HOST>        Name under which it asks [default: admin]
+      --login <LOGIN>      Login as smtpd reports it, in place of LOGIN
+      --login-text <TEXT>  Login as a report prints it, in place of LOGIN
+      --from <DAY>         Number of the limit's first day; else today
+      --ago <N>            That many days before today
+      --cap <N>            Recipients a day, in place of CAP
+      --run <N>            Number of the run; else the clock's milliseconds
   -h, --help               Print help
 """),
     (["stop", "--help"], """Let a login have nothing more, today and on each later day
 
-Usage: mailquota stop [OPTIONS] --server <ADDRESS> --host <HOST> <--login <LOGIN>|--login-text <TEXT>>
+Usage: mailquota stop [OPTIONS] <LOGIN>
+
+Arguments:
+  [LOGIN]  Login, as a report prints it
 
 Options:
-      --server <ADDRESS>   Numeric address and port of the quota server; each is asked where it is given more than once
-      --host <HOST>        Name under which this command asks, such as admin
-      --login <LOGIN>      Login, as smtpd reports it
-      --login-text <TEXT>  Login, as a report prints it
-      --day <DAY>          Day number of today; by --config where it isn't given
-      --config <FILE>      Settings of the quota server, whose offset or rule says which day is today
-      --force              Stop it also if the day isn't today, or if it has sent nothing lately
+      --server <ADDRESS>   Numeric address and port of a server; repeatable
+      --config <FILE>      Settings of the server: its address and its days
+      --host <HOST>        Name under which it asks [default: admin]
+      --login <LOGIN>      Login as smtpd reports it, in place of LOGIN
+      --login-text <TEXT>  Login as a report prints it, in place of LOGIN
+      --day <DAY>          Day number, from 1970-01-01 on; else today
+      --ago <N>            That many days before today
+      --force              Also on another day, or if it sent nothing lately
+      --all                Also from each later day with a limit of its own
   -h, --help               Print help
 """),
     (["resume", "--help"], """Let a login have more again, today and on each later day
 
-Usage: mailquota resume [OPTIONS] --server <ADDRESS> --host <HOST> --day <DAY> <--login <LOGIN>|--login-text <TEXT>>
+Usage: mailquota resume [OPTIONS] <LOGIN>
+
+Arguments:
+  [LOGIN]  Login, as a report prints it
 
 Options:
-      --server <ADDRESS>   Numeric address and port of the quota server; each is asked where it is given more than once
-      --host <HOST>        Name under which this command asks, such as admin
-      --login <LOGIN>      Login, as smtpd reports it
-      --login-text <TEXT>  Login, as a report prints it
-      --day <DAY>          Day number of today
-      --cap <N>            Recipients that it may have more today, and on each later day; the limit that it had where it isn't given
+      --server <ADDRESS>   Numeric address and port of a server; repeatable
+      --config <FILE>      Settings of the server: its address and its days
+      --host <HOST>        Name under which it asks [default: admin]
+      --login <LOGIN>      Login as smtpd reports it, in place of LOGIN
+      --login-text <TEXT>  Login as a report prints it, in place of LOGIN
+      --day <DAY>          Day number, from 1970-01-01 on; else today
+      --ago <N>            That many days before today
+      --cap <N>            Recipients more, each day; else the limit it had
   -h, --help               Print help
 """),
     (["day", "--help"], """Print today's day number by a server's settings
 
-Usage: mailquota day [OPTIONS] --config <FILE>
+Usage: mailquota day [OPTIONS]
 
 Options:
-      --config <FILE>  Settings
-      --at <SECONDS>   Second since 1970-01-01 UTC; now where it isn't given
+      --config <FILE>  Settings [default: /etc/mailquota/server.toml]
+      --at <SECONDS>   Second since 1970-01-01 UTC; else now
   -h, --help           Print help
 """),
-    (["retire", "--help"], """Retire a host's earlier filters: what they reserved counts as sent, their requests are refused
+    (["retire", "--help"], """Retire a host's earlier filters: what they reserved counts as sent
 
-Usage: mailquota retire [OPTIONS] --server <ADDRESS> --host <HOST>
+Usage: mailquota retire [OPTIONS]
 
 Options:
-      --server <ADDRESS>  Numeric address and port of the quota server
-      --host <HOST>       Mail host whose earlier filters are retired
-      --run <N>           Retire filters whose run is below this number, which no filter has; by default the clock's milliseconds
+      --server <ADDRESS>  Numeric address and port of the server
+      --config <FILE>     Settings of the server, where --host is given
+      --host <HOST>       Mail host; else that of /etc/mailquota/filter.toml
+      --run <N>           Retire runs below this; else below the clock's time
   -h, --help              Print help
 """),
     (["report", "--help"], """Print what logins used on a day
 
-Usage: mailquota report [OPTIONS] --server <ADDRESS> --day <DAY>
+Usage: mailquota report [OPTIONS] [LOGIN]
+
+Arguments:
+  [LOGIN]  Login, as a report prints it
 
 Options:
-      --server <ADDRESS>   Numeric address and port of the quota server; each is asked where it is given more than once
-      --day <DAY>          Day number, counted from 1970-01-01
-      --login <LOGIN>      One login, as smtpd reports it; all where it isn't given
-      --login-text <TEXT>  Login, as a report prints it
+      --server <ADDRESS>   Numeric address and port of a server; repeatable
+      --config <FILE>      Settings of the server: its address and its days
+      --day <DAY>          Day number, from 1970-01-01 on; else today
+      --ago <N>            That many days before today
+      --login <LOGIN>      Login as smtpd reports it, in place of LOGIN
+      --login-text <TEXT>  Login as a report prints it, in place of LOGIN
+      --top <N>            The N logins that used most, most first
   -h, --help               Print help
 """),
     (["audit", "--help"], """Check the books of the ledger in a file
 
-Usage: mailquota audit --config <FILE>
+Usage: mailquota audit [OPTIONS]
 
 Options:
-      --config <FILE>  Settings
+      --config <FILE>  Settings [default: /etc/mailquota/server.toml]
   -h, --help           Print help
 """),
 ]
 
 # words and what is said of them
 FAULTS = [
-    (["audit"], """error: the following required arguments were not provided:
-  --config <FILE>
-
-Usage: mailquota audit --config <FILE>
-
-For more information, try '--help'.
-"""),
     (["check"], """error: unrecognized subcommand 'check'
 
 Usage: mailquota <COMMAND>
@@ -199,20 +216,26 @@ For more information, try '--help'.
     (["forget", "--config=s", "--before=1"], """error: the following required arguments were not provided:
   --into <FILE>
 
-Usage: mailquota forget --config <FILE> --before <DAY> --into <FILE>
+Usage: mailquota forget --before <DAY> --into <FILE> --config <FILE>
 
 For more information, try '--help'.
 """),
-    (["status"], """error: the following required arguments were not provided:
-  <--server <ADDRESS>|--config <FILE>>
+    (["forget", "--into=f"], """error: the following required arguments were not provided:
+  --before <DAY>
 
-Usage: mailquota status <--server <ADDRESS>|--config <FILE>>
+Usage: mailquota forget --before <DAY> --into <FILE>
 
 For more information, try '--help'.
 """),
     (["status", "--server=a", "--config=s"], """error: the argument '--server <ADDRESS>' cannot be used with '--config <FILE>'
 
-Usage: mailquota status <--server <ADDRESS>|--config <FILE>>
+Usage: mailquota status --server <ADDRESS>
+
+For more information, try '--help'.
+"""),
+    (["status", "--config=s", "--host=h"], """error: the argument '--config <FILE>' cannot be used with '--host <HOST>'
+
+Usage: mailquota status --config <FILE>
 
 For more information, try '--help'.
 """),
@@ -222,71 +245,176 @@ Usage: mailquota replay [OPTIONS]
 
 For more information, try '--help'.
 """),
-    (["filter"], """error: the following required arguments were not provided:
-  --config <FILE>
+    (["server", "--endless", "--connections=4"], """error: the argument '--endless' cannot be used with '--connections <N>'
 
-Usage: mailquota filter --config <FILE>
-
-For more information, try '--help'.
-"""),
-    (["server", "--create"], """error: the following required arguments were not provided:
-  --config <FILE>
-
-Usage: mailquota server --config <FILE> --create
+Usage: mailquota server --endless
 
 For more information, try '--help'.
 """),
-    (["limit", "--host=mx1", "--login=u", "--from=1", "--cap=2"], """error: the following required arguments were not provided:
-  --server <ADDRESS>
+    (["server", "--connections=4", "--endless"], """error: the argument '--connections <N>' cannot be used with '--endless'
 
-Usage: mailquota limit --server <ADDRESS> --host <HOST> --from <DAY> --cap <N> <--login <LOGIN>|--login-text <TEXT>>
+Usage: mailquota server --connections <N>
+
+For more information, try '--help'.
+"""),
+    (["limit", "--host=mx1", "--from=1", "u"], """error: the following required arguments were not provided:
+  <CAP|--cap <N>>
+
+Usage: mailquota limit [OPTIONS] <LOGIN> <CAP>
+
+For more information, try '--help'.
+"""),
+    (["limit", "--cap=1"], """error: the following required arguments were not provided:
+  <LOGIN|--login <LOGIN>|--login-text <TEXT>>
+
+Usage: mailquota limit [OPTIONS] <LOGIN> <CAP>
+
+For more information, try '--help'.
+"""),
+    (["limit", "u", "5", "--cap=6"], """error: the argument '[CAP]' cannot be used with '--cap <N>'
+
+Usage: mailquota limit [OPTIONS] <LOGIN> <CAP>
+
+For more information, try '--help'.
+"""),
+    (["limit", "5", "--login=u"], """error: the argument '[LOGIN]' cannot be used with '--login <LOGIN>'
+
+Usage: mailquota limit [OPTIONS] <LOGIN> <CAP>
+
+For more information, try '--help'.
+"""),
+    (["limit", "u", "1000001"], """error: invalid value '1000001' for '[CAP]': 1000001 is not in 0..=1000000
+
+For more information, try '--help'.
+"""),
+    (["limit", "u", "many"], """error: invalid value 'many' for '[CAP]': invalid digit found in string
+
+For more information, try '--help'.
+"""),
+    (["limit", "u", "5", "--from=1", "--ago=1"], """error: the argument '--from <DAY>' cannot be used with '--ago <N>'
+
+Usage: mailquota limit [OPTIONS] <LOGIN> <CAP>
+
+For more information, try '--help'.
+"""),
+    (["limit", "u", "5", "6"], """error: unexpected argument '6' found
+
+Usage: mailquota limit [OPTIONS] <LOGIN> <CAP>
 
 For more information, try '--help'.
 """),
     (["stop", "--server=a", "--host=mx1", "--day=1"], """error: the following required arguments were not provided:
-  <--login <LOGIN>|--login-text <TEXT>>
+  <LOGIN|--login <LOGIN>|--login-text <TEXT>>
 
-Usage: mailquota stop --server <ADDRESS> --host <HOST> --day <DAY> <--login <LOGIN>|--login-text <TEXT>>
+Usage: mailquota stop [OPTIONS] <LOGIN>
 
 For more information, try '--help'.
 """),
     (["stop", "--server=a", "--host=mx1", "--day=1", "--login=u", "--login-text=u"], """error: the argument '--login <LOGIN>' cannot be used with '--login-text <TEXT>'
 
-Usage: mailquota stop --server <ADDRESS> --host <HOST> --day <DAY> <--login <LOGIN>|--login-text <TEXT>>
+Usage: mailquota stop [OPTIONS] <LOGIN>
+
+For more information, try '--help'.
+"""),
+    (["stop", "u", "--login=u"], """error: the argument '[LOGIN]' cannot be used with '--login <LOGIN>'
+
+Usage: mailquota stop [OPTIONS] <LOGIN>
+
+For more information, try '--help'.
+"""),
+    (["stop", "u", "--login-text=u"], """error: the argument '[LOGIN]' cannot be used with '--login-text <TEXT>'
+
+Usage: mailquota stop [OPTIONS] <LOGIN>
+
+For more information, try '--help'.
+"""),
+    (["stop", "u", "--day=1", "--ago=1"], """error: the argument '--day <DAY>' cannot be used with '--ago <N>'
+
+Usage: mailquota stop [OPTIONS] <LOGIN>
+
+For more information, try '--help'.
+"""),
+    (["stop", "u", "v"], """error: unexpected argument 'v' found
+
+Usage: mailquota stop [OPTIONS] <LOGIN>
+
+For more information, try '--help'.
+"""),
+    (["resume", "-x"], """error: unexpected argument '-x' found
+
+  tip: to pass '-x' as a value, use '-- -x'
+
+Usage: mailquota resume [OPTIONS] <LOGIN>
+
+For more information, try '--help'.
+"""),
+    (["resume", "u", "--ago=1", "--day=1"], """error: the argument '--ago <N>' cannot be used with '--day <DAY>'
+
+Usage: mailquota resume [OPTIONS] <LOGIN>
 
 For more information, try '--help'.
 """),
     (["report", "--server=a", "--day=1", "--login-text=u", "--login=u"], """error: the argument '--login-text <TEXT>' cannot be used with '--login <LOGIN>'
 
-Usage: mailquota report --server <ADDRESS> --day <DAY> --login-text <TEXT>
+Usage: mailquota report --server <ADDRESS> --day <DAY> --login-text <TEXT> [LOGIN]
 
 For more information, try '--help'.
 """),
-    (["day", "--at=86400"], """error: the following required arguments were not provided:
-  --config <FILE>
+    (["report", "u", "--login=u"], """error: the argument '[LOGIN]' cannot be used with '--login <LOGIN>'
 
-Usage: mailquota day --config <FILE> --at <SECONDS>
-
-For more information, try '--help'.
-"""),
-    (["retire", "--host=mx1"], """error: the following required arguments were not provided:
-  --server <ADDRESS>
-
-Usage: mailquota retire --server <ADDRESS> --host <HOST>
+Usage: mailquota report <LOGIN>
 
 For more information, try '--help'.
 """),
-    (["report", "--login", "u"], """error: the following required arguments were not provided:
-  --server <ADDRESS>
-  --day <DAY>
+    (["report", "u", "--top=5"], """error: the argument '--top <N>' cannot be used with:
+  [LOGIN]
+  --login <LOGIN>
+  --login-text <TEXT>
 
-Usage: mailquota report --server <ADDRESS> --day <DAY> --login <LOGIN>
+Usage: mailquota report --top <N> [LOGIN]
+
+For more information, try '--help'.
+"""),
+    (["report", "--top=5", "--login=u"], """error: the argument '--top <N>' cannot be used with:
+  [LOGIN]
+  --login <LOGIN>
+  --login-text <TEXT>
+
+Usage: mailquota report --top <N> [LOGIN]
+
+For more information, try '--help'.
+"""),
+    (["report", "--top=5", "--login-text=u"], """error: the argument '--top <N>' cannot be used with:
+  [LOGIN]
+  --login <LOGIN>
+  --login-text <TEXT>
+
+Usage: mailquota report --top <N> [LOGIN]
 
 For more information, try '--help'.
 """),
     (["report", "--day=1", "--day=2"], """error: the argument '--day <DAY>' cannot be used multiple times
 
-Usage: mailquota report [OPTIONS] --server <ADDRESS> --day <DAY>
+Usage: mailquota report [OPTIONS] [LOGIN]
+
+For more information, try '--help'.
+"""),
+    (["report", "--day=1", "--ago=2"], """error: the argument '--day <DAY>' cannot be used with '--ago <N>'
+
+Usage: mailquota report --day <DAY> [LOGIN]
+
+For more information, try '--help'.
+"""),
+    (["retire", "mx1"], """error: unexpected argument 'mx1' found
+
+Usage: mailquota retire [OPTIONS]
+
+For more information, try '--help'.
+"""),
+    (["retire", "--config=f"], """error: the following required arguments were not provided:
+  --host <HOST>
+
+Usage: mailquota retire --host <HOST> --config <FILE>
 
 For more information, try '--help'.
 """),

@@ -4,9 +4,9 @@ import re
 import shutil
 import subprocess
 
+from cases.contrib import text_of
 from ends import TOP, Server
 
-CONTRIB = f"{TOP}/contrib"
 # The values of a key, in their order: a later one would count in place of an earlier one, or in addition.
 SERVER = {
     "Unit": {
@@ -15,13 +15,15 @@ SERVER = {
         "StartLimitIntervalSec": ["0"],
     },
     "Service": {
+        # (else both it and what waits for it would make the folder, and one of them fail)
+        "Type": ["exec"],
         # started once it answers, and never killed while it reads its ledger
-        "ExecStart": ["/usr/local/sbin/mailquota server --config /etc/mailquota.toml"],
-        "ExecStartPost": ["/usr/local/libexec/mailquota/await-server /etc/mailquota.toml"], "TimeoutStartSec": ["infinity"],
-        # it ends with status 0 after its connections
+        "ExecStart": ["/usr/sbin/mailquota server --config /etc/mailquota/server.toml --endless"],
+        "ExecStartPost": ["/usr/libexec/mailquota/await-server /etc/mailquota/server.toml"], "TimeoutStartSec": ["infinity"],
+        # it ends only by a fault or a signal
         "Restart": ["always"], "RestartSec": ["1"],
-        # only these reach it, whatever the packet filter lets through
-        "IPAddressDeny": ["any"], "IPAddressAllow": ["localhost 192.0.2.0/24"],
+        # nobody else reaches it, whatever the packet filter lets through, but whom addresses.conf adds
+        "IPAddressDeny": ["any"], "IPAddressAllow": ["localhost"],
         # the ledger belongs to it alone
         "DynamicUser": ["yes"], "User": ["mailquota"], "StateDirectory": ["mailquota"], "StateDirectoryMode": ["0700"], "UMask": ["0077"],
         # what it may take of the machine
@@ -41,14 +43,15 @@ SERVER = {
 RESTARTS = {
     "Unit": {"Wants": ["network-online.target"], "After": ["network-online.target"], "StartLimitIntervalSec": ["0"]},
     "Service": {
-        "ExecStartPre": ["-/usr/local/sbin/mailquota retire --server 192.0.2.7:7025 --host mx1.example.org"], "Restart": ["always"], "RestartSec": ["1"],
+        "ExecStartPre": ["-/usr/sbin/mailquota retire"], "Restart": ["always"], "RestartSec": ["1"],
     },
 }
 UNITS = {
     "mailquota.service": SERVER,
+    "addresses.conf": {"Service": {"IPAddressAllow": ["192.0.2.0/24"]}},
     "smtpd-restart.conf": RESTARTS,
     "mailquota-forget.service": {
-        "Service": {"Type": ["oneshot"], "ExecStart": ["/usr/local/sbin/mailquota-forget /etc/mailquota.toml /var/lib/mailquota/ledger 2"]},
+        "Service": {"Type": ["oneshot"], "ExecStart": ["/usr/sbin/mailquota-forget /etc/mailquota/server.toml /var/lib/mailquota/ledger 2"]},
     },
     "mailquota-forget.timer": {
         # (a night that was missed is made up for)
@@ -56,7 +59,7 @@ UNITS = {
     },
 }
 OF_KEEPALIVED = [
-    "enable_script_security", "script_user nobody nogroup", 'script "/usr/local/libexec/mailquota/keepalived-check"', "interval 1", "timeout 1", "fall 3",
+    "enable_script_security", "script_user nobody nogroup", 'script "/usr/libexec/mailquota/keepalived-check"', "interval 1", "timeout 1", "fall 3",
     "rise 2", "init_fail", "state BACKUP", "virtual_router_id 70", "advert_int 1", "garp_master_refresh 1", "192.0.2.7/24", "answers",
 ]
 LINES = {
@@ -78,15 +81,11 @@ def run(world, checks):
     values_of_units(checks)
     both_retires(checks)
     settings_of_others(checks)
-    filters_of_smtpd(checks)
+    settings_of_smtpd(checks)
+    settings_of_both(checks)
     settings_of_a_filter(world, checks)
     verified(world, checks)
     exposed(world, checks)
-
-
-def text_of(name):
-    with open(f"{CONTRIB}/{name}", encoding="ascii") as file:
-        return file.read()
 
 
 def assignments(text):
@@ -114,7 +113,7 @@ def both_retires(checks):
     """The lines for two servers, which are to be uncommented in place of the one, retire the same host at both."""
     text = re.sub(r"^ExecStartPre=.*\n", "", text_of("smtpd-restart.conf"), flags=re.MULTILINE)
     found = assignments(re.sub(r"^#(?=ExecStartPre)", "", text, flags=re.MULTILINE))["Service"]["ExecStartPre"]
-    wanted = [f"-/usr/local/sbin/mailquota retire --server 192.0.2.{it}:7025 --host mx1.example.org" for it in (5, 6)]
+    wanted = [f"-/usr/sbin/mailquota retire --server 192.0.2.{it}:7025" for it in (5, 6)]
     checks.equal("contrib/smtpd-restart.conf: the lines for two servers", found, wanted)
 
 
@@ -134,19 +133,36 @@ def settings_of_others(checks):
     checks.equal("the packet filter: what a repeated load does first", loads, ["table inet mailquota", "delete table inet mailquota", "table inet mailquota {"])
 
 
-def filters_of_smtpd(checks):
-    """A login's spelling is refused before it counts; INSTALL shows the same lines."""
-    lines = [line for line in text_of("smtpd.conf").splitlines() if line.startswith(("filter ", "listen "))]
-    wanted = [
-        'filter spelling proc-exec "/usr/local/libexec/mailquota/one-spelling"',
-        'filter quota proc-exec "/usr/local/sbin/mailquota filter --config /etc/mail/mailquota.toml"',
+def settings_of_smtpd(checks):
+    """A login's spelling is refused before it counts, and who has no login sends nothing; INSTALL shows the same lines of filters."""
+    lines = [line for line in text_of("smtpd.conf").splitlines() if line and line[0] != "#"]
+    limited = [
+        'filter spelling proc-exec "filter-one-spelling"',
+        'filter quota proc-exec "filter-mailquota"',
         "filter limited chain { spelling, quota }",
         "listen on 192.0.2.1 port 587 tls-require pki mx1.example.org auth <credentials> filter limited",
     ]
-    checks.equal("contrib/smtpd.conf: its filters, in their order", lines, wanted)
+    wanted = [
+        'pki mx1.example.org cert "/etc/ssl/mx1.example.org.crt"',
+        'pki mx1.example.org key "/etc/ssl/private/mx1.example.org.key"',
+        "table credentials file:/etc/mail/credentials",
+        *limited,
+        'action "outbound" relay',
+        'match auth from any for any action "outbound"',
+    ]
+    checks.equal("contrib/smtpd.conf: its lines, in their order", lines, wanted)
     with open(f"{TOP}/docs/INSTALL.md", encoding="utf-8") as file:
         shown = [line[4:] for line in file.read().splitlines() if line.startswith(("    filter ", "    listen "))]
-    checks.equal("the filters of smtpd.conf in INSTALL", shown, wanted)
+    checks.equal("the filters of smtpd.conf in INSTALL", shown, limited)
+
+
+def settings_of_both(checks):
+    """OPERATING counts with these: a recipient waits for three seconds at most, and a peer of the server for a third of one."""
+    for name, wanted in (
+        ("filter.toml", ['host = "mx1.example.org"', 'server = "192.0.2.7:7025"', "tries = 3", "timeout = 1000", "pause = 10", "hold = 5", 'log = "warn"']),
+        ("server.toml", ['listen = "192.0.2.7:7025"', 'store = "/var/lib/mailquota/ledger"', "default = 1000", "offset = 0", "timeout = 300", 'log = "info"']),
+    ):
+        checks.equal(f"contrib/{name}: its settings", [line for line in text_of(name).splitlines() if line[0] != "#"], wanted)
 
 
 def settings_of_a_filter(world, checks):
@@ -167,13 +183,14 @@ def of_systemd(checks, what):
 
 
 def units_in(folder, changed=lambda name, text: text):
-    """All units in a folder, with programs that are there, and a unit of smtpd as Debian has one, with the drop-in."""
-    os.makedirs(f"{folder}/opensmtpd.service.d")
+    """All units in a folder, with programs that are there, and a unit of smtpd as Debian has one, with the drop-ins."""
     texts = {name: text_of(name) for name in UNITS}
-    texts["opensmtpd.service.d/smtpd-restart.conf"] = texts.pop("smtpd-restart.conf")
+    for unit, its in (("opensmtpd", "smtpd-restart.conf"), ("mailquota", "addresses.conf")):
+        os.makedirs(f"{folder}/{unit}.service.d")
+        texts[f"{unit}.service.d/{its}"] = texts.pop(its)
     for name, text in {**texts, "opensmtpd.service": SMTPD}.items():
         with open(f"{folder}/{name}", "w", encoding="ascii") as file:
-            file.write(changed(name, re.sub(r"/usr/local/(?:sbin|libexec/mailquota)/[\w-]+", "/bin/true", text)))
+            file.write(changed(name, re.sub(r"/usr/(?:sbin|libexec/mailquota)/[\w-]+", "/bin/true", text)))
     return [f"{folder}/{name}" for name in (*texts, "opensmtpd.service") if "/" not in name]
 
 
@@ -192,7 +209,7 @@ def verified(world, checks):
     folder = f"{world.folder}/units-with-a-fault"
     units = units_in(folder, lambda name, text: text.replace("[Service]\n", "[Service]\nRestrat=no\n").replace("[Timer]\n", "[Timer]\nRestrat=no\n"))
     told = " ".join(said_of(folder, units))
-    names = ["mailquota.service", "mailquota-forget.service", "mailquota-forget.timer", "opensmtpd.service", "smtpd-restart.conf"]
+    names = ["mailquota.service", "mailquota-forget.service", "mailquota-forget.timer", "opensmtpd.service", "smtpd-restart.conf", "addresses.conf"]
     checks.equal("units with a fault each: those of which it says nothing", [it for it in names if f"/{it}:" not in told], [])
 
 

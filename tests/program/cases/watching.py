@@ -7,13 +7,14 @@ import time
 
 import wire
 from books import LIMIT, RESERVE, Books
-from ends import Server, send_no_more, shown, wait_past_midnight
+from cases.peers import name_of
+from ends import Server, read_to_end, send_no_more, shown, wait_past_midnight
 from ledger import decode
 
 DAY = 86_400
-# a server whose log is at its default level, and one that logs all
-WARN, INFO = "warn", "info"
-LINE = re.compile(r"\[(WARN|INFO ) +mq_watch::watched\] connection of (\S+): (.*)")
+# the levels of lines: the default one of a server shows the first two, and info all
+ERROR, WARN, INFO = "error", "warn", "info"
+LINE = re.compile(r"\[(ERROR|WARN|INFO) +mq_watch::watched\] connection of (\S+): (.*)")
 
 
 def run(world, checks):
@@ -49,6 +50,10 @@ def near_line(login, used, cap, day):
     return WARN, f"login {shown(login)} has used {used} of its limit of {cap} on day {day}"
 
 
+def clock_line(host, of, day):
+    return WARN, f"host {host} reserves for day {of}, and today is day {day}: its clock or the server's is wrong"
+
+
 class Watched:
     """A server, and what it logs of the requests that it is asked."""
 
@@ -66,15 +71,19 @@ class Watched:
     def ask(self, *frames):
         """The replies to these frames on a connection of their own, and the lines that came of them, each by its level and what it says of that peer."""
         with self.server.connect() as peer:
-            name = "%s:%d" % peer.getsockname()[:2]
+            name = name_of(peer)
             peer.sendall(b"".join(frames))
             send_no_more(peer)
-            replies = b"".join(iter(lambda: peer.recv(65_536), b""))
-        found = [LINE.fullmatch(line) for line in self.server.all_log_lines()]
-        lines = [it for it in found if it][self.seen:]
-        self.seen += len(lines)
-        assert all(it[2] == name for it in lines), lines
-        return replies, [(it[1].strip().lower(), it[3]) for it in lines]
+            replies = read_to_end(peer)
+        lines = self.new_lines()
+        assert all(of == name for _, of, _ in lines), lines
+        return replies, [(level, said) for level, _, said in lines]
+
+    def new_lines(self):
+        """What was logged of requests since this was asked for last: each line's level, peer and text."""
+        found = [(it[1].lower(), it[2], it[3]) for it in map(LINE.fullmatch, self.server.all_log_lines()) if it]
+        new, self.seen = found[self.seen:], len(found)
+        return new
 
     def lines(self, *frames):
         return self.ask(*frames)[1]
@@ -225,28 +234,23 @@ def retires(world, checks):
 def clocks(world, checks):
     """A reserve whose day is more than one from the server's, once an hour and host."""
     day = today()
-
-    def wrong(host, of):
-        return WARN, f"host {host} reserves for day {of}, and today is day {day}: its clock or the server's is wrong"
-
     with Watched(world, default=1_000) as it:
         checks.equal("of yesterday, today and tomorrow", it.lines(*[reserve(n, day + n - 2) for n in (1, 2, 3)]), [])
-        checks.equal("three days before", it.lines(reserve(4, day - 3)), [wrong("a", day - 3)])
+        checks.equal("three days before", it.lines(reserve(4, day - 3)), [clock_line("a", day - 3, day)])
         checks.equal("three days after, within the hour", it.lines(reserve(5, day + 3)), [])
-        checks.equal("three days after, of another host", it.lines(reserve(6, day + 3, host=b"mx2")), [wrong("mx2", day + 3)])
+        checks.equal("three days after, of another host", it.lines(reserve(6, day + 3, host=b"mx2")), [clock_line("mx2", day + 3, day)])
         checks.equal("a settle of long ago", it.lines(wire.settle(7, host=b"mx3")), [])
 
 
 def two_lines_of_a_host(world, checks):
     """A host whose clock is wrong and that asks under a retired run has a line for each within the hour, whichever comes first."""
     day = today()
-    wrong = f"reserves for day {day - 3}, and today is day {day}: its clock or the server's is wrong"
     retired = "asks under run 1, which is retired: its recipients get 451"
     with Watched(world, default=1_000) as it:
-        checks.equal("a host's clock, before its retired run", it.lines(reserve(1, day - 3)), [(WARN, f"host a {wrong}")])
+        checks.equal("a host's clock, before its retired run", it.lines(reserve(1, day - 3)), [clock_line("a", day - 3, day)])
         checks.equal("its retired run, within the hour", it.lines(wire.retire(2, run=2), reserve(3, day)), [(WARN, f"host a {retired}")])
         checks.equal("a host's retired run, before its clock", it.lines(wire.retire(2, run=2, host=b"mx2"), reserve(3, day, host=b"mx2")), [(WARN, f"host mx2 {retired}")])
-        checks.equal("its clock, within the hour", it.lines(reserve(1, day - 3, host=b"mx2", run=2)), [(WARN, f"host mx2 {wrong}")])
+        checks.equal("its clock, within the hour", it.lines(reserve(1, day - 3, host=b"mx2", run=2)), [clock_line("mx2", day - 3, day)])
 
 
 def by_the_zone(world, checks):
@@ -265,22 +269,21 @@ def by_the_zone(world, checks):
             for n, (login, back, hour) in enumerate([(b"first", 0, 0), (b"last", 0, 23), (b"before", 1, 23)]):
                 lines = it.lines(wire.reserve(n + 1, txn=n + 1, login=login, count=4, at=at(back, hour)))
                 checks.equal(f"{what}: four of 5 at {hour} o'clock, {back} days back", lines, [near_line(login, 4, 5, day - back)])
-            line = WARN, f"host mx2 reserves for day {day - 3}, and today is day {day}: its clock or the server's is wrong"
-            checks.equal(f"{what}: three days back", it.lines(wire.reserve(9, txn=9, host=b"mx2", at=at(3, 12))), [line])
+            checks.equal(f"{what}: three days back", it.lines(wire.reserve(9, txn=9, host=b"mx2", at=at(3, 12))), [clock_line("mx2", day - 3, day)])
 
 
 def two_peers_by_turns(world, checks):
     """Two connections that are open at once, whose peers ask by turns: each line names the peer whose request it is."""
     day = today()
-    with Server(world, default=5) as server, server.connect() as one, server.connect() as other:
+    with Watched(world, default=5) as it, it.server.connect() as one, it.server.connect() as other:
         wanted = []
         for turn in range(6):
             peer, login = (one, other)[turn % 2], b"u%d" % turn
             peer.sendall(reserve(turn + 1, day, login, 4))
             checks.equal(f"two peers by turns, request {turn + 1}", peer.recv(65_536), wire.granted(turn + 1, 4))
-            wanted.append(("%s:%d" % peer.getsockname()[:2], near_line(login, 4, 5, day)[1]))
-        came = [(found[2], found[3]) for found in map(LINE.fullmatch, server.all_log_lines()) if found]
-        checks.equal("two peers by turns: each line's peer and login", came, wanted)
+            level, said = near_line(login, 4, 5, day)
+            wanted.append((level, name_of(peer), said))
+        checks.equal("two peers by turns: each line's peer and login", it.new_lines(), wanted)
 
 
 def random_requests(world, checks):

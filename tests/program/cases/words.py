@@ -4,12 +4,15 @@ import resource
 import time
 
 from cases.filters import INPUT, PROCEED, REGISTRATION, answer
+from cases.stopping import caps
 from cases.texts_of_words import FAULTS, HELPS
-from ends import NO_NUMERIC_ADDRESS, NO_PORT, PORT_TOO_LARGE, Script, Server, bad_address, begun, loopback_of_6, toml, wait_until, without_time
+from ends import (
+    NO_FILE, NO_NUMERIC_ADDRESS, NO_PORT, PORT_TOO_LARGE, Script, Server, bad_address, begun, fault, loopback_of_6, of_settings, shown as as_logged,
+    toml, wait_until, without_time,
+)
 from wire import frame, granted, identity, limit, number, page, page_reply, reserve, retire, retired, text, usage
 
 MORE = "\n\nFor more information, try '--help'.\n"
-NO_FILE = "No such file or directory (os error 2)"
 MOST_RUN = 281_474_976_710_655
 
 
@@ -19,16 +22,22 @@ def run(world, checks):
     usage_faults(world, checks)
     ranges_of_numbers(world, checks)
     bad_words_of_the_administrator(world, checks)
+    settings_that_are_not_named(world, checks)
     words_of_a_filter(world, checks)
     words_of_a_server_and_an_audit(world, checks)
     words_of_questions(world, checks)
+    words_without_a_name(world, checks)
     words_of_replay(world, checks)
     tables_of_replay(world, checks)
 
 
 def helps(world, checks):
     for words, wanted in HELPS:
-        checks.equal(" ".join(words), world.run(*words), (0, wanted.encode(), ""))
+        status, output, errors = world.run(*words)
+        checks.equal(" ".join(words), (status, output, errors), (0, wanted.encode(), ""))
+        lines = output.decode().split("\n")
+        fits = len(lines) <= 24 and max(map(len, lines)) <= 80
+        checks.holds(f"{' '.join(words)}: fits a screen", fits, "23 lines and the next prompt, of 80 columns", lines)
     with open("/dev/full", "wb") as full:
         status, _, errors = world.run("--help", output=full)
     checks.equal("--help to a full device", (status, errors), (1, "mailquota: write failed\n"))
@@ -36,7 +45,7 @@ def helps(world, checks):
 
 def version(world, checks):
     for word in ("--version", "-V"):
-        checks.equal(f"mailquota {word}", world.run(word), (0, b"mailquota 0.1.0\n", ""))
+        checks.equal(f"mailquota {word}", world.run(word), (0, b"mailquota 1.0.0\n", ""))
 
 
 def usage_faults(world, checks):
@@ -48,12 +57,10 @@ def usage_faults(world, checks):
         (["send"], "unrecognized subcommand 'send'"),
         (["replay", "--default", "-1"], "error: "),
         (["replay", "now"], "unexpected argument 'now' found"),
-        (["server"], "--config"),
-        (asked + ["--cap", "1"], "--from"),
         (asked + ["--from", "1"], "--cap"),
         (asked + ["--from", "1", "--cap", "many"], "invalid value 'many'"),
-        (["report", "--server", "127.0.0.1:1"], "--day"),
-        (["report", "--day", "1"], "--server"),
+        (["stop", "--all"], "LOGIN"),
+        (["resume"], "LOGIN"),
     ]
     for words, part in faults:
         status, output, errors = world.run(*words)
@@ -66,9 +73,10 @@ def usage_faults(world, checks):
 
 def unreadable(name):
     """How a subcommand ends whose settings aren't there."""
-    return 1, b"", f"[ERROR mq_process::settings] {name}: {NO_FILE}\nmailquota: settings can't be read\n"
+    return fault("settings can't be read", log=of_settings(name, NO_FILE))
 
 
+SETTINGS = "/etc/mailquota"
 BAD_ADDRESS = bad_address("a", NO_PORT)
 BAD_LOGIN = (2, b"", "mailquota: bad login\n")
 ASKED = ["limit", "--server=a", "--host=h", "--login=u"]
@@ -88,6 +96,11 @@ NUMBERS = [
     (["day", "--config=f"], "at", "SECONDS", 86_400, 32_503_680_000, unreadable("f")),
     (["retire", "--server=a", "--host=h"], "run", "N", 1, MOST_RUN, BAD_ADDRESS),
     (["report", "--server=a"], "day", "DAY", 0, 376_200, BAD_ADDRESS),
+    (["report", "--server=a"], "ago", "N", 0, 376_200, BAD_ADDRESS),
+    (["report", "--server=a", "--day=1"], "top", "N", 1, 1_000_000, BAD_ADDRESS),
+    (["limit", "u", "1", "--server=a"], "ago", "N", 0, 376_200, BAD_ADDRESS),
+    (["stop", "u", "--server=a"], "ago", "N", 0, 376_200, BAD_ADDRESS),
+    (["resume", "u", "--server=a"], "ago", "N", 0, 376_200, BAD_ADDRESS),
     (["forget", "--config=f", "--into=g"], "before", "DAY", 0, 376_200, unreadable("f")),
 ]
 
@@ -103,6 +116,18 @@ def ranges_of_numbers(world, checks):
             checks.equal(f"{shown}={given}", world.run(*words, f"--{option}={given}", folder=world.folder), refused)
     wanted = f"error: invalid value '1000001' for '--default <N>': 1000001 is not in 0..=1000000{MORE}"
     checks.equal("replay --default 1000001", world.run("replay", "--default", "1000001"), (2, b"", wanted))
+
+
+def settings_that_are_not_named(world, checks):
+    """Each command that works by settings has a place for them."""
+    if os.path.exists(SETTINGS):
+        checks.skip("commands without --config", f"there is {SETTINGS}")
+        return
+    for words in (["init"], ["server"], ["server", "--create"], ["limits"], ["audit"], ["day"], ["forget", "--before=1", "--into=f"]):
+        came = world.run(*words, folder=world.folder)
+        checks.equal(f"{' '.join(words)}, without --config", came, unreadable(f"{SETTINGS}/server.toml"))
+    for words in (["filter"], ["filter", "--check"], ["filter", "--run=7"]):
+        checks.equal(f"{' '.join(words)}, without --config", world.run(*words, folder=world.folder), unreadable(f"{SETTINGS}/filter.toml"))
 
 
 def bad_words_of_the_administrator(world, checks):
@@ -138,14 +163,16 @@ def bad_words_of_the_administrator(world, checks):
         ("nowhere", NO_PORT), ("", NO_PORT), ("127.0.0.1", NO_PORT), ("[::1]", NO_PORT), ("localhost:http", NO_PORT),
         ("127.0.0.1:65536", PORT_TOO_LARGE), ("[::1]:65536", PORT_TOO_LARGE), ("127.0.0.1:99999999999999999999", PORT_TOO_LARGE),
         ("localhost:7025", NO_NUMERIC_ADDRESS), ("mail:7025", NO_NUMERIC_ADDRESS), ("1.2.3:7025", NO_NUMERIC_ADDRESS), ("::1", NO_NUMERIC_ADDRESS),
-        ("fe80::1:7025", NO_NUMERIC_ADDRESS), (":7025", NO_NUMERIC_ADDRESS),
+        ("fe80::1:7025", NO_NUMERIC_ADDRESS), (":7025", NO_NUMERIC_ADDRESS), ("\x1b[2J\u00e9 :7025", NO_NUMERIC_ADDRESS),
     ]:
+        # (a terminal gets none of its bytes as they are)
+        named = as_logged(address.encode())
         for words in (
             asked(address, "a", "u" * 255), report(address, "u"), ["report", f"--server={address}", "--day=1"], ["status", f"--server={address}"],
             ["retire", f"--server={address}", "--host=" + "a" * 64], ["stop", f"--server={address}", "--host=a", "--login=u", "--day=1"],
             ["resume", f"--server={address}", "--host=a", "--login=u", "--day=1", "--cap=1"],
         ):
-            checks.equal(f"{words[0]}, of the address '{address}'", world.run(*words), bad_address(address, lacks))
+            checks.equal(f"{words[0]}, of the address '{named}'", world.run(*words), bad_address(named, lacks))
 
 
 def milliseconds():
@@ -209,8 +236,7 @@ def words_of_questions(world, checks):
     with Script([lambda heard: frame(b"\x85" + identity(1, host=b"mx1", run=run_in(heard, 3)))], host=loopback_of_6()) as script:
         words = [f"--server={script.address}", "--host=mx1", "--login=u v", "--from=2", "--cap=3"]
         came = world.run("limit", *words)
-    note = "mailquota: note: smtpd reports this login, in the form of --login-text, as u\\x5c040v\n"
-    checks.equal("limit without a run: what it prints", came, (0, b"set\n", note))
+    checks.equal("limit without a run: what it prints", came, (0, b"set\n", NOTE))
     run = asked_of_the_clock(checks, "limit without a run", start, script.heard[0])
     checks.equal("limit without a run: its frame", script.heard, [limit(1, 2, 3, login=b"u v", host=b"mx1", run=run)])
     with Script([page_reply([], day=2)]) as script:
@@ -224,6 +250,32 @@ def words_of_questions(world, checks):
     checks.equal("retire without a run: its frame", script.heard, [retire(1, host=b"mx1", run=run)])
     checks.equal("report of an empty login", world.run("report", "--day=2", "--server=a", "--login="), BAD_LOGIN)
     checks.equal("report without a login, of a bad address", world.run("report", "--day=2", "--server=a"), BAD_ADDRESS)
+
+
+NOTE = "mailquota: note: smtpd reports this login, in the form of --login-text, as u\\x5c040v\n"
+
+
+def words_without_a_name(world, checks):
+    """A login is a word as a report prints it, or an option as smtpd reports it; a limit is a word or an option."""
+    with Server(world, default=9) as server:
+        asked, shown = [f"--server={server.address}"], "u\\x20v"
+        for words, cap in [
+            ([shown, "7"], 7), ([shown, "0"], 0), ([shown, "1000000"], 1_000_000), ([shown, "--cap=6"], 6), (["--cap", "5", shown], 5),
+            (["--login=u v", "--cap=4"], 4), ([f"--login-text={shown}", "--cap=3"], 3),
+        ]:
+            came = world.run("limit", *words, "--from=2", *asked), caps(server, b"u v", 1, 2)
+            checks.equal(f"limit {' '.join(words)}", came, ((0, b"set\n", NOTE), [9, cap]))
+        checks.equal("limit -- -x 8", (world.run("limit", *asked, "--from=2", "--", "-x", "8"), caps(server, b"-x", 1, 2)), ((0, b"set\n", ""), [9, 8]))
+        for words in ([shown], ["--login=u v"], [f"--login-text={shown}"]):
+            came = world.run("report", "--day=2", *words, *asked)
+            checks.equal(f"report {' '.join(words)}", came, (0, b"      0       0       3 u\\x20v\n", ""))
+        for words in ([shown], ["--login=u v"], [f"--login-text={shown}"]):
+            came = world.run("stop", "--day=4", "--force", *words, *asked), world.run("resume", "--day=4", "--cap=2", *words, *asked), caps(server, b"u v", 4, 5)
+            stopped, resumed = b"stopped: u\\x20v used 0 on day 4\nlimit before: ", b"resumed: u\\x20v may use 2 on day 4\n"
+            good = came[0][0] == 0 and came[0][1].startswith(stopped) and came[0][2] == NOTE and came[1:] == ((0, resumed, NOTE), [2, 2])
+            checks.holds(f"stop and resume {' '.join(words)}", good, (stopped, resumed, [2, 2]), came)
+        for words in (["limit", "\\x2", "7", "--from=2"], ["stop", "\\x2", "--day=4"], ["resume", "\\x2", "--day=4"], ["report", "\\x2", "--day=2"], ["report", "u v", "--day=2"]):
+            checks.equal(f"{' '.join(words)}: a word that no report prints", world.run(*words, *asked), BAD_LOGIN)
 
 
 # words of replay, the default that they ask for, a day, and the first second of it by their offset of 0, -1,439 and 60 minutes
