@@ -7,12 +7,13 @@ PROGRAM = crates/mailquota/out/mailquota
 DESTDIR =
 PREFIX = /usr/local
 SBINDIR = $(PREFIX)/sbin
-LIBEXECDIR = $(PREFIX)/libexec/mailquota
+LIBEXECDIR = $(PREFIX)/libexec
+UNITDIR = $(PREFIX)/lib/systemd/system
 MANDIR = $(PREFIX)/share/man
-EXAMPLEDIR = $(PREFIX)/share/examples/mailquota
 DOCDIR = $(PREFIX)/share/doc/mailquota
+CONFDIR = /etc/mailquota
 
-.PHONY: all build demo try check edits bodies program-tests refusals smtpd takeover install clean
+.PHONY: all build demo try check edits bodies program-tests refusals smtpd takeover deb dist package-tests install clean
 
 all: build
 
@@ -61,25 +62,42 @@ takeover:
 	@test -x $(PROGRAM) || { echo "run 'make build' first" >&2; exit 1; }
 	@bash tests/takeover/run.sh $(PROGRAM) $(ROUNDS)
 
+# A Debian package of the proved program, in dist/: wants debhelper.
+deb: build
+	@python3 scripts/package.py deb
+
+# The source of this commit, in dist/, with the sums of what lies there: `make deb` in it makes the same program and package.
+dist:
+	@python3 scripts/package.py dist
+
+# The package in Debian 13, on a server and two mail hosts, by INSTALL's words: wants root, debootstrap, iproute2, openssl and systemd-container.
+package-tests: deb
+	@bash tests/package/run.sh
+
+# The texts name the package's places, those of PREFIX=/usr, where smtpd looks for its filters too.
+PLACES = -e 's|/usr/sbin/mailquota|$(SBINDIR)/mailquota|g' -e 's|/usr/libexec/|$(LIBEXECDIR)/|g' -e 's|/usr/share/doc/mailquota|$(DOCDIR)|g'
+ifneq ($(LIBEXECDIR),/usr/libexec)
+PLACES += -e 's|proc-exec "filter-|proc-exec "$(LIBEXECDIR)/opensmtpd/filter-|'
+endif
+
+# $(call texts,FILES,MODE,FOLDER): these texts with the places where this installation has them
+define texts
+	install -d $(DESTDIR)$(3)
+	for file in $(1); do sed $(PLACES) $$file >$(DESTDIR)$(3)/$${file##*/} && chmod $(2) $(DESTDIR)$(3)/$${file##*/} || exit 1; done
+endef
+
 install:
 	@test -x $(PROGRAM) || { echo "run 'make build' first" >&2; exit 1; }
-	install -d $(DESTDIR)$(SBINDIR) $(DESTDIR)$(LIBEXECDIR) $(DESTDIR)$(MANDIR)/man5 $(DESTDIR)$(MANDIR)/man8
-	install -d $(DESTDIR)$(EXAMPLEDIR) $(DESTDIR)$(DOCDIR)
+	install -d $(DESTDIR)$(SBINDIR) $(DESTDIR)$(DOCDIR) $(DESTDIR)$(CONFDIR)
 	install -m 755 $(PROGRAM) $(DESTDIR)$(SBINDIR)/mailquota
-	for file in mailquota-forget mailquota-backup; do \
-		sed -e 's#/usr/local/sbin#$(SBINDIR)#g' contrib/$$file >$(DESTDIR)$(SBINDIR)/$$file && chmod 755 $(DESTDIR)$(SBINDIR)/$$file || exit 1; \
-	done
-	for file in one-spelling await-server keepalived-check; do \
-		sed -e 's#/usr/local/sbin#$(SBINDIR)#g' contrib/$$file >$(DESTDIR)$(LIBEXECDIR)/$$file && chmod 755 $(DESTDIR)$(LIBEXECDIR)/$$file || exit 1; \
-	done
-	install -m 644 man/*.8 $(DESTDIR)$(MANDIR)/man8
-	install -m 644 man/*.5 $(DESTDIR)$(MANDIR)/man5
-	install -m 644 contrib/filter.toml contrib/server.toml contrib/nftables.conf $(DESTDIR)$(EXAMPLEDIR)
-	for file in smtpd.conf mailquota.service smtpd-restart.conf mailquota-forget.service mailquota-forget.timer keepalived-first.conf keepalived-second.conf; do \
-		sed -e 's#/usr/local/libexec/mailquota#$(LIBEXECDIR)#g' -e 's#/usr/local/sbin#$(SBINDIR)#g' contrib/$$file \
-			>$(DESTDIR)$(EXAMPLEDIR)/$$file && chmod 644 $(DESTDIR)$(EXAMPLEDIR)/$$file || exit 1; \
-	done
-	install -m 644 LICENSE NOTICE CHANGELOG docs/INSTALL.md docs/OPERATING.md $(DESTDIR)$(DOCDIR)
+	$(call texts,contrib/mailquota-backup contrib/mailquota-forget,755,$(SBINDIR))
+	$(call texts,contrib/await-server contrib/keepalived-check,755,$(LIBEXECDIR)/mailquota)
+	$(call texts,contrib/filter-mailquota contrib/filter-one-spelling,755,$(LIBEXECDIR)/opensmtpd)
+	$(call texts,$(wildcard contrib/*.service contrib/*.timer),644,$(UNITDIR))
+	$(call texts,$(wildcard contrib/*.toml contrib/*.conf),644,$(DOCDIR)/examples)
+	$(call texts,$(wildcard man/*.5),644,$(MANDIR)/man5)
+	$(call texts,$(wildcard man/*.8),644,$(MANDIR)/man8)
+	install -m 644 LICENSE NOTICE CHANGELOG SECURITY.md docs/INSTALL.md docs/OPERATING.md $(DESTDIR)$(DOCDIR)
 
 clean:
-	rm -rf crates/*/out
+	rm -rf crates/*/out dist

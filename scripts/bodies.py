@@ -270,10 +270,10 @@ def words_of(group, program, name, function=None):
     return [f"{KIT}/bin/rattle-test", "--seconds", str(LONGEST), "--filter", name, program]
 
 
-def is_failing(name, found):
-    """Whether a case fails of this name, or the run ends before it."""
+def is_failing(name, found, count=1):
+    """Whether a case fails of this name, or the run ends before as many have come as are to."""
     named = [it.is_good for it in found if it.name.startswith(name)]
-    return not all(named) or not named and any(it.name == END for it in found)
+    return not all(named) or len(named) < count and any(it.name == END for it in found)
 
 
 def unseen(body, programs, without):
@@ -286,8 +286,8 @@ def unseen(body, programs, without):
             continue
         functions = {it.function for it in named}
         words = words_of(group, programs[target_of(group)], name, functions.pop() if len(functions) == 1 else None)
-        found = outcomes(words, body.number, lambda found: is_failing(name, found))
-        if not is_failing(name, found):
+        found = outcomes(words, body.number, lambda found: is_failing(name, found, len(named)))
+        if not is_failing(name, found, len(named)):
             others = [it.name[:100] for it in found if not it.is_good][:3]
             missed.append(f"{group}: {name}" + f" (others fail: {'; '.join(others)})" * bool(others))
     return missed

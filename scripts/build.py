@@ -11,9 +11,14 @@ is the command rt, whose kit proves.
 A crate is proved over the statements of those below it, without their proofs, as rt ci has it: a check then loads a fraction of them, and any two crates
 can be proved at once. These libraries stand in crates/NAME/out/build, apart from what rt keeps there for checks of a single crate. Which crate waits for
 which stands in a makefile, crates/mailquota/out/mailquota.mk, by which make runs this script for each crate, with '--prove' and how many jobs it has.
+
+The program prints its version with the commit that it is built of. So its own crate, and no other, is proved and compiled from a copy, in
+crates/mailquota/out/build/source, in which the version has that commit; no source is written.
 """
 import hashlib
 import os
+import re
+import shutil
 import signal
 import subprocess
 import sys
@@ -31,6 +36,11 @@ MEMORY = 4_000_000
 # How many jobs prove a crate, where not one for each processor along the longest chain, and one elsewhere: each job does part of the work of the others
 # again, and while other crates are ready, two or three jobs of each are better than four of one.
 JOBS = {"mq_request": 2, "mq_frame": 2, "mq_ledger": 2, "mq_rows": 2, "mq_tables": 2, "mq_store": 3}
+
+
+# The file of the program's crate with the version that it prints, and the version there.
+VERSION_FILE = "src/version.rt"
+VERSION = re.compile(r'(?<=: &str = ")([^"]+)(?=")')
 
 
 def folder(name):
@@ -55,6 +65,47 @@ def stamp(name):
     return f"{folder(name)}/out/build/done"
 
 
+def commit():
+    """The commit that this tree is of: by git, or by the file COMMIT of an archive that `make dist` made. None where neither is there, and where a file
+    is changed."""
+    if not os.path.exists(f"{TOP}/.git"):
+        if not os.path.exists(f"{TOP}/COMMIT"):
+            return None
+        with open(f"{TOP}/COMMIT", encoding="ascii") as file:
+            return file.read().strip()
+    git = lambda *words: subprocess.run(["git", "-C", TOP, *words], stdin=subprocess.DEVNULL, capture_output=True, text=True, check=True).stdout.strip()
+    try:
+        return None if git("status", "--porcelain", "--untracked-files=no") else git("rev-parse", "HEAD")
+    except (FileNotFoundError, subprocess.CalledProcessError):
+        return None
+
+
+def commit_file():
+    """A file with the first twelve digits of the commit of the build that is going on; it is empty where there is none."""
+    return f"{folder(PROGRAM)}/out/build/commit"
+
+
+def source_of(name):
+    """The folder from which a crate is proved: its own, or the program's copy."""
+    if name != PROGRAM:
+        return folder(name)
+    copy = f"{folder(name)}/out/build/source"
+    shutil.rmtree(copy, ignore_errors=True)
+    for part in PARTS:
+        if os.path.isdir(f"{folder(name)}/{part}"):
+            shutil.copytree(f"{folder(name)}/{part}", f"{copy}/{part}")
+    with open(commit_file(), encoding="ascii") as file:
+        of = file.read()
+    if of:
+        with open(f"{copy}/{VERSION_FILE}", "r+", encoding="utf-8") as file:
+            text, count = VERSION.subn(rf"\1 ({of})", file.read())
+            if count != 1:
+                raise ValueError(f"{VERSION_FILE} has {count} versions")
+            file.seek(0)
+            file.write(text)
+    return copy
+
+
 def crates(rows):
     """The program and the crates that it stands on, each with those of ours that its line names."""
     return {name: [it for it in rows[name] if it in rows] for name in [*all_below(PROGRAM, rows), PROGRAM]}
@@ -72,8 +123,14 @@ def write_sums(rows, known):
     """Writes of each crate the sum of all that its build reads of it, the kit and its line of crates.txt, where that changed. Where what was made of
     it is gone, it isn't built."""
     kit = subprocess.run([RT, "version"], stdin=subprocess.DEVNULL, capture_output=True, check=True).stdout
+    of = (commit() or "")[:12]
+    os.makedirs(os.path.dirname(commit_file()), exist_ok=True)
+    with open(commit_file(), "w", encoding="ascii") as file:
+        file.write(of)
     for name in known:
         total = hashlib.sha256(kit + repr(rows[name]).encode())
+        if name == PROGRAM:
+            total.update(of.encode())
         for path in files_of(name):
             with open(path, "rb") as file:
                 total.update(f"{os.path.relpath(path, TOP)}\n".encode() + hashlib.sha256(file.read()).digest())
@@ -143,8 +200,9 @@ def prove(name, jobs):
     """Proves and compiles a crate. Where that fails, it says why, and ends the whole build."""
     rows, begun = rows_of(TOP), time.monotonic()
     tell(f"{name}: begun")
+    at = source_of(name)
     with open(f"{folder(name)}/out/build.log", "wb") as log:
-        run = lambda words: subprocess.run(words, cwd=folder(name), stdin=subprocess.DEVNULL, stdout=log, stderr=log).returncode
+        run = lambda words: subprocess.run(words, cwd=at, stdin=subprocess.DEVNULL, stdout=log, stderr=log).returncode
         status = run(words_for(name, rows, jobs))
         if status == -signal.SIGKILL and jobs > 1:
             # (most likely for memory)

@@ -64,7 +64,7 @@ def unseen(place, program, cases, without):
             continue
         functions = {it.function for it in named}
         words = words_of(place, group, program, functions.pop() if len(functions) == 1 else None)
-        if not is_failing(name, outcomes(words, 0, lambda found, name=name: is_failing(name, found))):
+        if not is_failing(name, outcomes(words, 0, lambda found, name=name, count=len(named): is_failing(name, found, count)), len(named)):
             yield f"{group}: {name}"
 
 

@@ -1,0 +1,328 @@
+"""From nothing to the first 550, an upgrade, a removal and what follows, by the words of INSTALL: what is typed there is run as it stands.
+
+usage: installs.py PACKAGE     in namespaces of its own, as run.sh starts it
+"""
+import os
+import re
+import sys
+from pathlib import Path
+
+HERE = Path(__file__).resolve().parent
+os.environ.setdefault("SMTPD_ROOT", "/nowhere")
+sys.path[:0] = [str(HERE), str(HERE.parent / "smtpd"), str(HERE.parent / "program")]
+sys.dont_write_bytecode = True
+
+from host import session_at, wait_for
+from machines import WORK, Machine, NoBoot, PlainMachine
+from pages import block_with, blocks_of
+from senders import Sender, end_all
+from switch import call, make_switch, wait_until
+
+SERVER = "192.0.2.7:7025"
+# What stands at the head of a command; all other lines of a block are what a command prints.
+COMMAND = re.compile(r"(apt|cp|mkdir|mv|rm|mailquota|systemctl|smtpd|nft|echo) ")
+# The smtpd.conf of a mail host before it has a filter: its mail goes nowhere.
+BEFORE = """pki mx1.example.org cert "/etc/ssl/mx1.example.org.crt"
+pki mx1.example.org key "/etc/ssl/private/mx1.example.org.key"
+table credentials file:/etc/mail/credentials
+{listen}
+action "outbound" mda "true" virtual {{ "@" = nobody }}
+match auth from any for any action "outbound"
+"""
+LISTEN = "listen on {address} port 587 tls-require pki mx1.example.org auth <credentials>"
+LOGINS = [f"u{number:02}" for number in range(1, 9)]
+# A server as `make install` of 0.1.0 made one.
+OLD_SETTINGS = 'listen = "192.0.2.8:7025"\nstore = "/var/lib/mailquota/ledger"\ndefault = 1000\noffset = 0\n'
+OLD_UNIT = """[Service]
+ExecStart=/usr/local/sbin/mailquota server --config /etc/mailquota.toml
+Restart=always
+DynamicUser=yes
+User=mailquota
+StateDirectory=mailquota
+StateDirectoryMode=0700
+UMask=0077
+[Install]
+WantedBy=multi-user.target
+"""
+
+failed = 0
+
+
+def note(what, came, wanted):
+    """Prints what came; it has to be what is wanted."""
+    global failed
+    failed += came != wanted
+    print(f"{what}: {came}" if came == wanted else f"NOT {what}: {came}, and not {wanted}", flush=True)
+
+
+def steps(block):
+    """The commands of a block, each with what it prints by the page."""
+    found = []
+    for line in block:
+        if found and found[-1][0].endswith("\\"):
+            found[-1] = (f"{found[-1][0][:-1]}{line.strip()}", [])
+        elif COMMAND.match(line):
+            found.append((line, []))
+        else:
+            found[-1][1].append(line)
+    return found
+
+
+def play(machine, block, changes=()):
+    """Types a block of INSTALL at a machine: each command goes well, and prints what the page shows."""
+    for command, shown in steps(block):
+        for old, new in changes:
+            shown = [line.replace(old, new) for line in shown]
+        status, said = machine.by_shell([command])
+        came = (status, said.splitlines() if shown or status else shown)
+        note(f"{machine.name}: {command.partition('  #')[0].strip()}", came, (0, shown))
+
+
+def install(machine, package):
+    """Types the first command of INSTALL, with this package in place of the one of that name."""
+    [[command]] = [it for it in blocks_of("INSTALL.md", "The package")]
+    name = re.search(r"\./(\S+)", command)[1]
+    (machine.root / "root" / name).write_bytes(package.read_bytes())
+    status, said = machine.by_shell([command])
+    note(f"{machine.name}: {command}", (status, said[-500:] if status else ""), (0, ""))
+    return [line for line in said.splitlines() if line.startswith("mailquota: ")]
+
+
+def installed(machine, version):
+    """The package is there, and runs nothing."""
+    note(f"{machine.name}: its version", machine.shown("dpkg-query", "--show", "--showformat=${Version}", "mailquota"), version)
+    note(f"{machine.name}: /etc/mailquota", machine.shown("ls", "-A", "/etc/mailquota"), "")
+    for unit in machine.shown("sh", "-c", "cd /usr/lib/systemd/system && ls mailquota*").split():
+        wanted = "static" if unit == "mailquota-forget.service" else "disabled"
+        note(f"{machine.name}: {unit}", [machine.run("systemctl", it, unit)[1].strip() for it in ("is-enabled", "is-active")], [wanted, "inactive"])
+    pages = machine.root / "usr/share/doc/mailquota"
+    links = [(page.name, to) for page in pages.glob("*.md") for to in re.findall(r"\]\(([^):#]+)[#)]", page.read_text())]
+    note(f"{machine.name}: of {len(links)} links in pages those that lead nowhere", [it for it in links if not (pages / it[1]).exists()], [])
+
+
+def set_up_server(quota):
+    settings, addresses, makes, starts, filters = [it for it in blocks_of("INSTALL.md", "The quota server") if not any("useradd" in line for line in it)]
+    for block in (settings, addresses, makes, starts, filters):
+        play(quota, block)
+    note("quota: whom the packet filter lets through", re.findall(r"192\.0\.2\.\d+", quota.shown("nft", "list", "set", "inet", "mailquota", "mailhosts")), ["192.0.2.1", "192.0.2.2", "192.0.2.9"])
+
+
+def make_mail_host(machine):
+    """smtpd with a listener that requires a login, as it is before mailquota is installed."""
+    folder = WORK / "certificate"
+    folder.mkdir(exist_ok=True)
+    if not (folder / "key").exists():
+        words = ["-newkey", "rsa:2048", "-nodes", "-days", "30", "-subj", "/CN=mx1.example.org", "-keyout", folder / "key", "-out", folder / "certificate"]
+        call("openssl", "req", "-x509", *words)
+    secret = call("openssl", "passwd", "-6", "secret").stdout.strip()
+    machine.write("/etc/mail/credentials", "".join(f"{it} {secret}\n" for it in ["alice", *LOGINS]))
+    machine.write("/etc/ssl/mx1.example.org.crt", (folder / "certificate").read_text())
+    machine.write("/etc/ssl/private/mx1.example.org.key", (folder / "key").read_text(), 0o600)
+    machine.write("/etc/smtpd.conf", BEFORE.format(listen=LISTEN.format(address=machine.address)))
+    machine.shown("systemctl", "restart", "opensmtpd")
+
+
+def set_up_mail_host(machine, host):
+    settings, tests, lines, restarts, again = blocks_of("INSTALL.md", "Each mail host")
+    play(machine, settings)
+    if host != "mx1.example.org":
+        machine.edit("/etc/mailquota/filter.toml", "mx1.example.org", host)
+    play(machine, tests, [("mx1.example.org", host)])
+    listen = LISTEN.format(address=machine.address)
+    machine.edit("/etc/smtpd.conf", listen, "\n".join(lines).replace("192.0.2.1 ", f"{machine.address} "))
+    play(machine, restarts)
+    return again
+
+
+def recipients(machine, login, count):
+    """What so many recipients of a message are answered."""
+    wait_for(587, machine.address)
+    smtp = session_at(587, login, machine.address)
+    smtp.mail("a@quota.test")
+    answers = [smtp.rcpt(f"r{number}@example.test") for number in range(count)]
+    if any(code == 250 for code, _ in answers):
+        smtp.data(b"Subject: hello\r\n\r\nhello\r\n")
+    smtp.quit()
+    return [f"{code} {text.decode()}" if code != 250 else "250" for code, text in answers]
+
+
+def report(quota):
+    """Of each login what is settled, what is reserved, and its limit."""
+    today = quota.shown("mailquota", "day", "--config", "/etc/mailquota/server.toml").strip()
+    rows = [line.split() for line in quota.shown("mailquota", "report", "--server", SERVER, "--day", today).splitlines()]
+    return {login: (int(settled), int(reserved), int(limit)) for settled, reserved, limit, login in rows}
+
+
+def first_550(quota, hosts):
+    [block] = blocks_of("INSTALL.md", "The first 550")
+    play(quota, block)
+    one, two = hosts
+    note("mx1: alice to three recipients", recipients(one, "alice", 3), ["250", "250", "550 daily recipient limit reached"])
+    note("mx2: alice to another", recipients(two, "alice", 1), ["550 daily recipient limit reached"])
+    note("the report of alice", report(quota).get("alice"), (2, 0, 2))
+
+
+def later(package, version):
+    """The same package under a later version."""
+    folder = WORK / "later"
+    call("dpkg-deb", "--raw-extract", package, folder)
+    control = folder / "DEBIAN/control"
+    control.write_text(re.sub(r"^Version: .*$", f"Version: {version}", control.read_text(), flags=re.MULTILINE))
+    made = WORK / "later.deb"
+    call("dpkg-deb", "--root-owner-group", "--build", folder, made)
+    return made
+
+
+def filter_of(machine):
+    """The process that the filter is."""
+    return machine.shown("sh", "-c", "grep -lsa ^/usr/sbin/mailquota.filter /proc/[0-9]*/cmdline || :").split()
+
+
+def upgrade(quota, hosts, package):
+    """Under load the server is restarted, and no smtpd; each recipient is answered, and each that was accepted counts."""
+    senders = [Sender(it.address, login, seed, pace=0.05) for seed, login in enumerate(LOGINS) for it in hosts]
+    for sender in senders:
+        sender.start()
+    wait_until(lambda: sum(it.accepted for it in senders) > 100)
+    settings, before = quota.read("/etc/mailquota/server.toml"), quota.main_pid("mailquota")
+    note("quota, upgraded under load: what the package says", install(quota, package), [])
+    note("quota, upgraded: another server runs", quota.main_pid("mailquota") not in (0, before), True)
+    note("quota, upgraded: the settings are the same", quota.read("/etc/mailquota/server.toml") == settings, True)
+    sent = sum(it.accepted for it in senders)
+    note("quota, upgraded: mail goes on", wait_until(lambda: sum(it.accepted for it in senders) > sent + 100), True)
+    for host in hosts:
+        runs = (host.main_pid("opensmtpd"), filter_of(host))
+        said = " ".join(install(host, package))
+        note(f"{host.name}, upgraded under load: it says when to restart smtpd", "Once the quota server is upgraded too" in said and "systemctl restart opensmtpd" in said, True)
+        note(f"{host.name}, upgraded: smtpd and its filter run on", (host.main_pid("opensmtpd"), filter_of(host)), runs)
+    end_all(senders)
+    codes = [code for it in senders for _, _, code in it.answers]
+    note("the upgrade: recipients without an answer", [why for it in senders for why in it.unanswered], [])
+    print(f"the upgrade: of {len(codes)} recipients {codes.count(250)} were let through, {codes.count(451)} answered 451, after {max(end - begun for it in senders for begun, end, _ in it.answers):.1f} s at most")
+    accepted = {login: sum(it.accepted for it in senders if it.login == login) for login in LOGINS}
+    wait_until(lambda: {login: report(quota)[login][:2] for login in LOGINS} == {login: (count, 0) for login, count in accepted.items()}, 10)
+    note("the upgrade: what counts of each login", {login: report(quota)[login][:2] for login in LOGINS}, {login: (count, 0) for login, count in accepted.items()})
+    for host in hosts:
+        host.shown("systemctl", "restart", "opensmtpd")
+        note(f"{host.name}, smtpd restarted: alice", recipients(host, "alice", 1), ["550 daily recipient limit reached"])
+
+
+def remove_and_install_again(quota, host, package):
+    counted = report(quota)
+    status, said = quota.run("apt", "remove", "-y", "mailquota")
+    note("quota, removed: status, and whether the server runs", (status, quota.run("systemctl", "is-active", "mailquota")[1].strip()), (0, "inactive"))
+    note("quota, removed: what stays", quota.run("ls", "/etc/mailquota/server.toml", "/var/lib/mailquota/ledger")[0], 0)
+    note("mx1, without a server: u01", recipients(host, "u01", 1), ["451 quota service unavailable"])
+    status, said = quota.run("apt", "purge", "-y", "mailquota")
+    told = [line for line in said.splitlines() if line.startswith("mailquota: ")]
+    note("quota, purged: status, and what it says", (status, told), (0, [
+        f"mailquota: the ledger, with all counts and limits, stays in {quota.shown('readlink', '-f', '/var/lib/mailquota').strip()}: remove it yourself if nobody wants it back"]))
+    note("quota, purged: what stays", [quota.run("ls", it)[0] == 0 for it in ("/etc/mailquota", "/var/lib/mailquota/ledger")], [False, True])
+    install(quota, package)
+    settings, addresses, makes, starts, _, _ = blocks_of("INSTALL.md", "The quota server")
+    play(quota, settings)
+    play(quota, addresses)
+    [(init, _)] = steps(makes)
+    status, said = quota.by_shell([init])
+    note("quota, installed again: init", (status, said.splitlines()[-1]), (1, "mailquota: store is not this ledger"))
+    play(quota, starts)
+    note("quota, installed again: the report is as before", report(quota) == counted, True)
+    note("mx1, with the old ledger: alice", recipients(host, "alice", 1), ["550 daily recipient limit reached"])
+
+
+def remove_from_mail_host(host):
+    status, said = host.run("apt", "remove", "-y", "mailquota")
+    told = " ".join(line for line in said.splitlines() if line.startswith("mailquota: "))
+    note(f"{host.name}, removed: status, and that smtpd.conf has to be edited", (status, "take their lines out" in told), (0, True))
+    note(f"{host.name}, removed: smtpd runs on", (host.run("systemctl", "is-active", "opensmtpd")[1].strip(), recipients(host, "alice", 1)),
+         ("active", ["550 daily recipient limit reached"]))
+    status, said = host.run("apt", "purge", "-y", "mailquota")
+    left = [it for it in ("/etc/mailquota", "/var/lib/mailquota") if host.run("ls", "-d", it)[0] == 0]
+    note(f"{host.name}, purged: status, what it says, and what stays", (status, [it for it in said.splitlines() if it.startswith("mailquota: ")], left), (0, [], []))
+
+
+def from_usr_local(old, package):
+    """A server that `make install` of 0.1.0 made, and its ledger, by INSTALL's lines."""
+    (old.root / "usr/local/sbin/mailquota").write_bytes((WORK / "later/usr/sbin/mailquota").read_bytes())
+    (old.root / "usr/local/sbin/mailquota").chmod(0o755)
+    for folder in ("libexec/mailquota", "share/doc/mailquota", "share/examples/mailquota"):
+        old.write(f"/usr/local/{folder}/file", "")
+    old.write("/usr/local/share/man/man8/mailquota.8", "")
+    old.write("/etc/mailquota.toml", OLD_SETTINGS)
+    for name, text in (("mailquota.service", OLD_UNIT), ("mailquota-forget.service", "[Service]\nExecStart=/bin/true\n"), ("mailquota-forget.timer", "[Timer]\nOnCalendar=*-*-* 03:30\n[Install]\nWantedBy=timers.target\n")):
+        old.write(f"/etc/systemd/system/{name}", text)
+    old.shown("systemd-run", "--quiet", "--wait", "--pipe", "-p", "DynamicUser=yes", "-p", "User=mailquota", "-p", "StateDirectory=mailquota", "/usr/local/sbin/mailquota", "init",
+              "--config", "/etc/mailquota.toml")
+    old.shown("systemctl", "enable", "--now", "mailquota", "mailquota-forget.timer")
+    ask = ["--server", "192.0.2.8:7025"]
+    note("old: a limit", wait_until(lambda: old.run("/usr/local/sbin/mailquota", "limit", *ask, "--host", "admin", "--login", "bob", "--from", "1", "--cap", "7") == (0, "set\n")), True)
+    old.shown("systemctl", "stop", "mailquota", "mailquota-forget.timer")
+    play(old, block_with("INSTALL.md", "Upgrading", "/usr/local"))
+    left = old.shown("find", "/usr/local", "-name", "mailquota*").splitlines()
+    note("old: what is left below /usr/local", left, [])
+    install(old, package)
+    settings, addresses, makes, starts, *_ = blocks_of("INSTALL.md", "The quota server")
+    play(old, addresses)
+    play(old, [it.replace("192.0.2.7", "192.0.2.8") for it in starts])
+    note("old, with the package: its limits", old.shown("mailquota", "report", *ask, "--day", "1", "--login", "bob").split(), ["0", "0", "7", "bob"])
+
+
+def start_over(quota):
+    """A ledger that root makes in the folder that is the server's by then."""
+    quota.shown("systemctl", "stop", "mailquota")
+    quota.shown("sh", "-c", "cd /var/lib/mailquota && mv ledger ledger.before && mv ledger-wal ledger.before-wal")
+    _, _, makes, starts, _, _ = blocks_of("INSTALL.md", "The quota server")
+    play(quota, makes)
+    play(quota, starts)
+    note("quota, started over: the report", report(quota), {})
+
+
+def kind_of_machine():
+    """Machines with systemd, if it boots in a container here."""
+    if os.environ.get("WITHOUT_SYSTEMD"):
+        return PlainMachine
+    try:
+        Machine("tried", "192.0.2.99", "plain").end()
+    except NoBoot as why:
+        print(f"systemd doesn't boot in a container here, so maintainer scripts and the units' own commands are tried:\n{why}")
+        return PlainMachine
+    return Machine
+
+
+def main(words):
+    package = Path(words[0])
+    version = call("dpkg-deb", "--field", package, "Version").stdout.strip()
+    make_switch()
+    machines, kind = [], kind_of_machine()
+    try:
+        for name, address, base in (("quota", "192.0.2.7", "plain"), ("mx1", "192.0.2.1", "mail"), ("mx2", "192.0.2.2", "mail"), ("old", "192.0.2.8", "plain")):
+            machines.append(kind(name, address, base))
+        quota, *hosts, old = machines
+        for host in hosts:
+            make_mail_host(host)
+        for machine in (quota, *hosts):
+            note(f"{machine.name}: what the package says", install(machine, package), [])
+            installed(machine, version)
+        set_up_server(quota)
+        again = [set_up_mail_host(host, f"{host.name}.example.org") for host in hosts]
+        first_550(quota, hosts)
+        for host, block in zip(hosts, again):
+            play(host, block)
+            log = "journalctl -u opensmtpd -o cat" if kind.has_systemd else "cat /var/log/opensmtpd.service.log"
+            note(f"{host.name}: it retires its runs before smtpd starts", host.shown("sh", "-c", f"{log} | grep -x retired | sort -u").strip(), "retired")
+        upgraded = later(package, f"{version}+later")
+        upgrade(quota, hosts, upgraded)
+        remove_and_install_again(quota, hosts[0], upgraded)
+        remove_from_mail_host(hosts[1])
+        start_over(quota)
+        if kind.has_systemd:
+            from_usr_local(old, upgraded)
+    finally:
+        for machine in machines:
+            machine.end()
+    print("all as it is to be" if not failed else f"{failed} not as they are to be")
+    return 1 if failed else 0
+
+
+if __name__ == "__main__":
+    sys.exit(main(sys.argv[1:]))
