@@ -11,12 +11,15 @@ usage: run.py [TREE]
 - Each crate that has a contract with clauses is one of docs/PROOFS.md's.
 - The lines of prose of the pages below have at most 100 columns.
 - Each command of the program stands in the synopsis of one manual page, with its options and no others, and that page says what each of them does.
-  man/mailquota.8 lists the commands, and the pages have at most 7,000 words.
+  man/mailquota.8 lists the commands, and the pages have at most 7,000 words. Each diagnostic of the commands stands in one page, once.
 - Names of code that were given up stand in no source, definition or proof.
+- The program's version is that of CHANGELOG's first release, and of the package.
+- NOTICE lists the kit's libraries in the program.
 
 A test of these checks comes first: over small trees with one thing wrong, each has to find it. The last line is 'N passed, M failed', and the status
 1 where anything failed.
 """
+import collections
 import glob
 import os
 import re
@@ -48,13 +51,17 @@ NAMES = {
 }
 
 # The pages whose prose is wrapped, and how far.
-WRAPPED = ["README.md", "CONTRIBUTING.md"] + [f"docs/{it}.md" for it in (
-    "ARCHITECTURE", "CLIENT", "DECISIONS", "FRAMES", "GATE", "INSTALL", "LEDGER", "LINES", "OPERATING", "PROOFS", "STORE")]
+WRAPPED = ["README.md", "CONTRIBUTING.md", "SECURITY.md"] + [f"docs/{it}.md" for it in (
+    "ARCHITECTURE", "CLIENT", "DECISIONS", "FRAMES", "GATE", "INSTALL", "LEDGER", "LINES", "OPERATING", "PROOFS", "STABLE", "STORE")]
 COLUMNS = 100
 
 # The table of the program's commands and their options, the options that clap adds, and how many words the manual has at most, as `wc -w` counts them.
 SUBCOMMANDS = "crates/mq_words/src/subcommands.rt"
 OF_CLAP = {"help", "version"}
+# The crates whose errors end a command, and those of their texts that stand behind another alone, as why an address is bad.
+OF_COMMANDS = ["mq_settings", "mq_command", "mq_process", "mq_remote", "mq_program"]
+BEHIND = {"no port", "port above 65535", "no numeric address before the port; an IPv6 address stands in brackets"}
+VERSION = "crates/mailquota/src/version.rt"
 WORDS = 7_000
 
 TOKEN = re.compile(r"""//[^\n]* | "(?:\\.|[^"\\])*" | '(?:\\.[^']*|[^'\\])' | [^/"']+ | .""", re.VERBOSE | re.DOTALL)
@@ -71,10 +78,15 @@ def files(tree, patterns):
     return sorted(it for it in found if os.path.isfile(f"{tree}/{it}") and "/out/" not in it and "__pycache__" not in it)
 
 
+def rows_of(tree):
+    """The crates with the libraries that each names."""
+    rows = [it.partition("#")[0].partition(":") for it in read(tree, "crates.txt").split("\n")]
+    return {name.strip(): libraries.split() for name, colon, libraries in rows if colon}
+
+
 def crates_of(tree):
     """The crates with those of ours that each stands on."""
-    rows = [it.partition("#")[0].partition(":") for it in read(tree, "crates.txt").split("\n")]
-    rows = {name.strip(): libraries.split() for name, colon, libraries in rows if colon}
+    rows = rows_of(tree)
     return {name: [it for it in libraries if it in rows] for name, libraries in rows.items()}
 
 
@@ -252,6 +264,35 @@ def manual(tree):
     yield "the manual", wrong + ([f"its pages have {words} words, and not {WORDS} at most"] if words > WORDS else [])
 
 
+def diagnostics_in(page):
+    """The diagnostics that a manual page lists: a word in capitals stands for what differs, and '..' for how it goes on."""
+    lines = re.findall(r"^\.It Li (.*)$", section_of(page, "DIAGNOSTICS"), re.MULTILINE)
+    return [it.replace('"', "") for line in lines for it in line.split(" , ")]
+
+
+def errors_of(tree):
+    """The texts of the errors that end commands, with a word in capitals in place of each value."""
+    sources = [read(tree, it) for crate in OF_COMMANDS for it in files(tree, [f"crates/{crate}/src/**/*.rt"])]
+    texts = {it for source in sources for it in re.findall(r'#\[error\(\s*"((?:[^"\\]|\\.)*)"', source)}
+    return {re.sub(r"\{[^}]*\}", "N", it) for it in texts} - BEHIND - {"N"}
+
+
+def is_of(item, error):
+    """Whether an item of a manual page is this error."""
+    item, one = re.sub(r"\b[A-Z]+\b", "N", item), re.sub(r"\b[A-Z]+\b", "N", error)
+    return one.startswith(item[:-2]) if item.endswith("..") else one == item
+
+
+def diagnostics(tree):
+    """Yields of each error that ends a command, and of what the manual lists twice, where that stands in other than one page, once."""
+    items = [(page, it) for page in files(tree, ["man/*"]) for it in diagnostics_in(read(tree, page))]
+    for error in sorted(errors_of(tree)):
+        its = [page for page, item in items if is_of(item, error)]
+        yield f"the manual, '{error}'", [] if len(its) == 1 else [f"it stands in {len(its)} places: {', '.join(its) or 'none'}"]
+    counts = collections.Counter(it for _, it in items)
+    yield "the manual's diagnostics", [f"'{it}' stands in it {number} times" for it, number in counts.items() if number > 1]
+
+
 def blank(text):
     """As many lines of nothing."""
     return "\n" * text.count("\n")
@@ -273,12 +314,30 @@ def names(tree):
         yield f"the name {name}", found
 
 
-CHECKS = [pages, listed, drawn, sent_to, carriers, columns, manual, names]
+def versions(tree):
+    """Yields whether the program, CHANGELOG and the package have one version."""
+    places = {VERSION: r'VERSION: &str = "(.*)"', "CHANGELOG": r"\A([^,\n]*),", "debian/changelog": r"\Amailquota \((.*?)\)"}
+    found = {file: (re.findall(pattern, read(tree, file)) or ["none"])[0] for file, pattern in places.items()}
+    yield "the version", [] if len({*found.values()}) == 1 else [", ".join(f"{file} has {version}" for file, version in found.items())]
+
+
+def noticed(tree):
+    """Yields which of the kit's libraries NOTICE lacks, but for sqlite_*, for which the kit has no licence."""
+    rows = rows_of(tree)
+    named = {it for name, libraries in rows.items() if name not in OF_TESTS for it in libraries if it not in rows and not it.startswith("sqlite_")}
+    yield "NOTICE", [f"it hasn't {it}" for it in sorted(named - {*re.findall(r"^(\w+) ", read(tree, "NOTICE"), re.MULTILINE)})]
+
+
+CHECKS = [pages, listed, drawn, sent_to, carriers, columns, manual, diagnostics, names, versions, noticed]
 
 # A tree with nothing wrong, and what each of these changes makes of it: the file, the text there, what takes its place, and the check that finds it.
 TREE = {
     "crates.txt": "# crates\nmq_low: thiserror\nmq_high: mq_low\n",
     "docs/GATE.md": f"A gate.\n\n    {'code ' * 30}\n\n```\n{'code ' * 30}\n```\n\n| {'row ' * 30}|\n",
+    VERSION: '//! The version.\npub const VERSION: &str = "1.2.3";\n',
+    "CHANGELOG": "1.2.3, 1 May 2026\n",
+    "debian/changelog": "mailquota (1.2.3) trixie; urgency=medium\n",
+    "NOTICE": "thiserror  MIT\n",
     "docs/crates.svg": drawing.drawn({"mq_low": [], "mq_high": ["mq_low"]}),
     "docs/ARCHITECTURE.md": "| `mq_low` | words |\n| `mq_high` | words |\n",
     "CONTRIBUTING.md": "| a call | `mq_high/src/lib.rt`: `call` | `done`: so it is (`IsDone`, `specs/Done.antt`) |\n",
@@ -292,7 +351,9 @@ TREE = {
     SUBCOMMANDS: '//! The commands.\nconst FAR: CommandOption = CommandOption {\n    name: "far",\n};\nconst OFF: CommandOption = CommandOption {\n'
                  '    name: "far-off",\n};\npub const SUBCOMMANDS: [Subcommand; 2] = [\n    Subcommand {\n        name: "go",\n        options: &[FAR, OFF],\n'
                  '    },\n    Subcommand {\n        name: "stay",\n        options: &[],\n    },\n];\n',
-    "man/mailquota.8": ".Sh SYNOPSIS\n.Nm\n.Ar command\n.Fl -help | Fl -version\n.Sh DESCRIPTION\n.Fl -help\n.Fl -version\n.It Cm go\n.It Cm stay\n",
+    "man/mailquota.8": ".Sh SYNOPSIS\n.Nm\n.Ar command\n.Fl -help | Fl -version\n.Sh DESCRIPTION\n.Fl -help\n.Fl -version\n.It Cm go\n.It Cm stay\n"
+                       ".Sh DIAGNOSTICS\n.It Li too far , over day D used N\n.It Li no day; copy ..\n",
+    "crates/mq_command/src/fault.rt": '//! Faults.\n#[error("too far")]\n#[error("over day {0} used {1}")]\n#[error("no day; copy one")]\n#[error("{0}")]\n#[error("no port")]\n',
     "man/mailquota-go.8": ".Sh NAME\n.Nm mailquota-go\n.Sh SYNOPSIS\n.Nm mailquota\n.Cm go\n.Op Fl -far\n.Nm mailquota\n.Cm go\n.Op Fl -far-off\n"
                           ".Nm mailquota\n.Cm stay\n.Sh DESCRIPTION\n.It Fl -far\nfar\n.It Fl -far-off\nfarther\n",
     "crates/mq_high/specs/Done.antt": "-- done\nIsDone n = n ≡ 1\n",
@@ -325,6 +386,15 @@ WRONG = [
     ("man/mailquota.8", ".It Cm stay\n", "", manual),
     ("man/mailquota.8", ".It Cm go", "word " * 7_000 + "\n.It Cm go", manual),
     (SUBCOMMANDS, 'name: "far-off"', 'name: "farther"', manual),
+    ("man/mailquota.8", "too far , ", "", diagnostics),
+    ("man/mailquota.8", "used N", "is used", diagnostics),
+    ("man/mailquota.8", "too far , ", "too far , too far , ", diagnostics),
+    ("man/mailquota.8", "too far , ", "farther , farther , too far , ", diagnostics),
+    ("crates/mq_command/src/fault.rt", "no day; copy", "no day; take", diagnostics),
+    (VERSION, "1.2.3", "1.2.4", versions),
+    ("CHANGELOG", "1.2.3", "1.2.4", versions),
+    ("debian/changelog", "1.2.3", "1.2.4", versions),
+    ("NOTICE", "thiserror", "another", noticed),
     ("crates/mq_low/src/lib.rt", "pub fn low(at: u8)", "pub fn low(seq: u8)", names),
     ("crates/mq_low/src/lib.rt", "pub fn low(at: u8)", "pub fn low(at: u64)", names),
     ("crates/mq_high/specs/Done.antt", "IsDone n = n", "IsDone txn at login = txn", names),
