@@ -9,3 +9,4 @@ pub mod AuditSteps
 pub mod CountingSteps
 pub mod DescribingSteps
 pub mod MakingSteps
+pub mod AfterForgetting

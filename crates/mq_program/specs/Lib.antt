@@ -8,3 +8,4 @@ pub mod Describing
 pub mod Listing
 pub mod Refusals
 pub mod Serving
+pub mod AfterForgetting

@@ -7,6 +7,7 @@ ghost use Rattle.sqlite.specs.WalFiles.{image_at};
 ghost use Rattle.mq_server.specs.Delivery.{HasGrown};
 ghost use Rattle.mq_store.specs.Soundness.{book_in, HasKept, IsSound};
 ghost use Rattle.mq_store.specs.Taking.{book_of};
+ghost use Rattle.mq_program.specs.AfterForgetting.{ServesRemembered};
 ghost use Rattle.mq_program.specs.Serving.{connections_of, HasServed, Serves};
 ghost use Rattle.mq_program.specs.Opened.{ServesFrom, ServesFromNothing};
 ghost use Rattle.mq_connections.specs.declared.fault.RoomFault.TheVariants.{Store as store_failed};
@@ -25,6 +26,8 @@ use mq_arguments::{ConnectionsArgument, ServerArguments};
 use mq_chore::NoChore;
 use mq_connections::laws::nothing_is_served;
 use mq_connections::{Connections, serve_connections};
+use mq_forget::laws::late_requests_touch_no_later_day;
+use mq_ledger::laws::{built_is_legal, one_more_arrival};
 use mq_ledger::{Ledger, LedgerFault};
 use mq_process::{elapsed, server_settings};
 use mq_rows::VERSION;
@@ -160,7 +163,16 @@ fn listen_over_file<G: Log, S: Start>(
     ensures made { IsTrue create → IfOk result (λ served. HasKept (file_state served.ledger.connection)
         → ServesFromNothing settings.now.zone settings.now.default (image_at S.Start)
         (file_state served.ledger.connection) served.outcome) }
+
+    // Over what a forgetting left, and what came since, who asks about the kept days under no forgotten number is answered
+    // as if nothing had been forgotten, as long as what came is about kept days, or late.
+    ensures remembered { create ≡ false → IfOk result (λ served. HasKept (file_state served.ledger.connection)
+        → ServesRemembered settings.now.zone settings.now.default (image_at S.Start)
+        (file_state served.ledger.connection) served.outcome) }
 {
+    late_requests_touch_no_later_day();
+    one_more_arrival();
+    built_is_legal();
     let since = Instant::now(rt).ok();
     let ledger = ledger_of_settings(rt, log, settings, create, start)?;
     let took = Took(elapsed(rt, since));

@@ -1,8 +1,12 @@
-use Rattle.std.proofs.Common.{subst₂}
+use Rattle.std.proofs.Common.{refl, subst₂}
 use Rattle.sqlite.specs.Files.{file_state}
 use Rattle.sqlite.specs.WalFiles.{image_at}
+use Rattle.mq_ledger.specs.Day.{day_of}
+use Rattle.mq_forget.specs.Remembered.{remembered}
 use Rattle.mq_store.specs.Soundness.{book_in, IsSound}
+use Rattle.mq_program.specs.AfterForgetting.{grown}
 use Rattle.mq_program.specs.Serving.{Serves}
+use Rattle.mq_program.proofs.AfterForgetting.{answers_as_whole}
 use Rattle.mq_program.proofs.OpenedFiles.{serves_from, serves_from_nothing}
 use Rattle.mq_program.proofs.serving.listen_over_file.Goals as goal
 
@@ -27,3 +31,14 @@ returns-clause-made g c create kept =
     (subst₂ (λ z d. IsSound z d before → IsSound z d after) zone_is default_is (c.listen_over.ensures.sound kept))
     (subst₂ (λ z d. IsSound z d before → Serves (book_in z d before.now) (book_in z d after.now) outcome) zone_is default_is (c.listen_over.ensures.serves kept))
     (image_at g.S.Start) (c.in_ok-ledger.ensures.made create (c.listen_over.ensures.kept kept))
+
+pub returns-clause-remembered : goal.returns-clause-remembered
+returns-clause-remembered g c opened kept D H came legal in_range keeps =
+    let zone = c.args.settings.now.zone in
+    let default = c.args.settings.now.default in
+    let book = grown zone default (remembered (day_of zone) D H) came in
+    let (_, _, served) = returns-clause-begun g c opened kept book keeps in (
+      served,
+      answers_as_whole c.late_requests_touch_no_later_day.ensures.about c.one_more_arrival.ensures.arrived c.one_more_arrival.ensures.again c.built_is_legal.ensures
+          zone default D H came legal in_range keeps.stored.legal.legal _ _ _ refl served.1.served,
+    )
