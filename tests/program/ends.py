@@ -37,11 +37,69 @@ assert libc.prctl(38, 1, 0, 0, 0) == 0 and libc.prctl(22, 2, ctypes.byref(it), 0
 os.execv(sys.argv[3], sys.argv[3:])"""
 
 
+# Runs a program of x86-64, and a child of that traces it by ptrace(2). "noted", the file of the notes, and the words: of each call of the system it notes
+# the number, the first argument, the third, and the result, before the program goes on, and "end" once that has ended. "failing", a call's number, the
+# error and how many such calls are made before, as "17,5,0", and the words: that call isn't made, and fails so.
+TRACED = """import ctypes, os, struct, sys
+SEIZE, INTERRUPT, LISTEN, GO_ON, INFO, POKE, TRACED_BY = 0x4206, 0x4207, 0x4208, 24, 0x420e, 6, 0x59616d61
+CALL_PLACE, RESULT_PLACE = 8 * 15, 8 * 10
+libc, traced, info = ctypes.CDLL(None), os.getpid(), ctypes.create_string_buffer(88)
+ready, is_ready = os.pipe()
+tracer = os.fork()
+if tracer:
+    libc.prctl(TRACED_BY, tracer, 0, 0, 0)
+    os.close(is_ready)
+    assert os.read(ready, 1), "it can't be traced"
+    os.execv(sys.argv[3], sys.argv[3:])
+def ptrace(what, argument, data):
+    return libc.ptrace(ctypes.c_long(what), ctypes.c_long(traced), ctypes.c_void_p(argument), ctypes.c_void_p(data))
+notes, failing, before, begun = None, 0, 0, (0,) * 7
+if sys.argv[1] == "noted":
+    notes = open(sys.argv[2], "w", buffering=1)
+else:
+    failing, error, before = map(int, sys.argv[2].split(","))
+os.setsid()
+for _ in range(1_000):
+    if ptrace(SEIZE, 0, 1) == 0:
+        break
+else:
+    sys.exit(1)
+ptrace(INTERRUPT, 0, 0)
+os.write(is_ready, b"1")
+os.closerange(0, 3)
+os.close(is_ready)
+while True:
+    status = os.waitpid(traced, 0x40000000)[1]
+    if not os.WIFSTOPPED(status):
+        break
+    signal, event, goes_on, handed = os.WSTOPSIG(status), status >> 16, GO_ON, 0
+    if signal == 0x85:
+        ptrace(INFO, 88, ctypes.addressof(info))
+        if info.raw[0] == 1:
+            begun = struct.unpack_from("<7Q", info.raw, 24)
+            if not notes and begun[0] == failing:
+                before -= 1
+                if before == -1:
+                    ptrace(POKE, CALL_PLACE, -1)
+        elif info.raw[0] == 2 and notes:
+            print(begun[0], begun[1], begun[3], *struct.unpack_from("<q", info.raw, 24), file=notes)
+        elif info.raw[0] == 2 and begun[0] == failing and before == -1:
+            ptrace(POKE, RESULT_PLACE, -error)
+    elif not event:
+        handed = signal
+    elif signal in (19, 20, 21, 22):
+        goes_on = LISTEN
+    ptrace(goes_on, 0, handed)
+if notes:
+    print("end", file=notes)"""
+SCRIPTS = {**dict.fromkeys(CALLS, WITHOUT_CALLS), **dict.fromkeys(("noted", "failing"), TRACED)}
+
+
 def under(limit):
-    """The words before a program's that run it under this limit, where there is one: one of LIMITED, or of WITHOUT_CALLS."""
+    """The words before a program's that run it under this limit, where there is one: one of LIMITED, of WITHOUT_CALLS, or of TRACED."""
     if not limit:
         return []
-    return [sys.executable, "-I", "-S", "-c", WITHOUT_CALLS if limit[0] in CALLS else LIMITED, *map(str, limit)]
+    return [sys.executable, "-I", "-S", "-c", SCRIPTS.get(limit[0], LIMITED), *map(str, limit)]
 
 
 def free_port():
@@ -317,7 +375,8 @@ class Server:
     def stopped(self):
         """The system stops it meanwhile, so that what peers send is all there before it looks at any."""
         self.process.send_signal(signal.SIGSTOP)
-        wait_until(lambda: state_of(self.process)[0] == "T")
+        # (one that is traced is in another state)
+        wait_until(lambda: state_of(self.process)[0] in "Tt")
         try:
             yield
         finally:

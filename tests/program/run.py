@@ -30,7 +30,7 @@ from ends import World
 GATE_GROUPS = [
     "figures", "many_answers", "many_numbers", "many_sessions", "forgetting", "causes", "edges", "full_pages", "lengths", "crowds", "bodies", "full_disks", "asking", "filters", "questions", "peers", "restarts", "filter_settings", "holding_back", "server_settings", "replays", "audits", "damage", "words", "links",
     "stores", "refusals", "recordings", "two_hosts", "signals", "as_used", "edges_of_clients",
-    "oracles", "zones", "retiring", "stopping", "servers", "defaults", "setting_up", "limits", "watching", "naming", "storms", "accepting", "contrib", "examples", "units", "spelling",
+    "oracles", "zones", "costs", "failing_calls", "retiring", "stopping", "servers", "defaults", "setting_up", "limits", "watching", "naming", "storms", "accepting", "contrib", "examples", "units", "spelling",
 ]
 # what these do to a server, its files and the machine takes longer, and some of it wants root
 OTHER_GROUPS = ["kills", "failures", "many_limits", "memory_limits"]
