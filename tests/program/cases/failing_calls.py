@@ -1,0 +1,129 @@
+"""A call of the system on a ledger's file fails, another one in each run: all lines that a command or a server says of it, and that it prints nothing."""
+import errno
+import os
+import re
+
+import wire
+from cases.costs import Noted
+from cases.forgetting import left_by_a_server
+from ends import Server, copied, fault, ledger_settings, nobody_there, of_store, refusal, unreached
+
+# Calls that read, write and sync a file, by their numbers on x86-64.
+CALLS = {"pread64": 17, "pwrite64": 18, "fsync": 74, "fdatasync": 75, "ftruncate": 77}
+# As a program is loaded the system's library is read by two calls.
+OF_LOADING = {"pread64": 2}
+# So many places of each call are tried.
+PLACES = 5
+FAILED, UNOPENED = "disk I/O error", "unable to open database file"
+
+
+def run(world, checks):
+    source, _ = left_by_a_server(world, "failing", wire.reserve(1) + wire.limit(2, 1, 2) + wire.reserve(3, txn=2, at=172_800))
+    of_commands(world, checks, source)
+    of_a_forget(world, checks, source)
+    of_requests(world, checks, source)
+
+
+def places(calls, name, first=0):
+    """Which calls of a name are to fail, of those that a run made: the first, the last, and some between, from this one on."""
+    first = max(first, OF_LOADING.get(name, 0))
+    count = sum(call.number == CALLS[name] for call in calls) - first
+    return sorted({first + count * place // PLACES for place in range(PLACES)} | {first + count - 1}) if count > 0 else []
+
+
+def failing(name, before):
+    """The limit of a run in which the call of this name fails that comes after so many."""
+    return "failing", f"{CALLS[name]},{errno.EIO},{before}"
+
+
+def outcomes(world, run):
+    """How a run ends where one call fails, and of which calls: each outcome with the first that comes to it."""
+    noted, found = Noted(world), {}
+    run(noted.limit)
+    calls = noted.calls()
+    for name in CALLS:
+        for place in places(calls, name):
+            found.setdefault(run(failing(name, place)), (name, place))
+    return found
+
+
+def of_commands(world, checks, source):
+    """The file's path and what is wrong with it, and then that it can't be opened, or that a ledger can't be made in it."""
+    for words in (["audit"], ["limits"], ["status"], ["server"], ["server", "--create"]):
+        def run(limit, words=words):
+            path = f"{world.folder}/failing-file"
+            if "--create" in words:
+                for end in ("", "-wal"):
+                    if os.path.exists(path + end):
+                        os.remove(path + end)
+            else:
+                copied(source, path)
+            with nobody_there() as address:
+                status, output, errors = world.run(words[0], "--config", ledger_settings(world, path, listen=address), *words[1:], limit=limit)
+            return status, output, errors.replace(address, "ADDRESS").replace(path, "PATH")
+
+        asked = f"{unreached('ADDRESS')}mailquota: quota service unavailable\n" if words == ["status"] else ""
+        wanted = [fault("store can't be opened", log=asked + of_store("PATH", cause)) for cause in (FAILED, UNOPENED)]
+        if "--create" in words:
+            wanted.append(fault("store failed", log=refusal("PATH", FAILED)))
+        found, what = outcomes(world, run), " ".join(words)
+        checks.equal(f"a call on its file fails: how {what} ends otherwise", {it: place for it, place in found.items() if it not in wanted}, {})
+        checks.equal(f"a call on its file fails: {what}, at each of its steps", [it in found for it in wanted], [True] * len(wanted))
+
+
+def of_a_forget(world, checks, source):
+    """Its lines say at which of its two files, and which are to be removed."""
+    def run(limit):
+        path, into = copied(source, f"{world.folder}/failing-old"), f"{world.folder}/failing-new"
+        for end in ("", "-wal"):
+            if os.path.exists(into + end):
+                os.remove(into + end)
+        status, output, errors = world.run("forget", "--config", ledger_settings(world, path), "--before", "2", "--into", into, limit=limit)
+        return status, output, errors.replace(path, "OLD").replace(into, "NEW")
+
+    log, remove = "[ERROR mq_program::forgetting] ", "[ERROR mq_program::forgetting] remove NEW and NEW-wal\n"
+    wanted = {
+        "opens the old file": fault("store can't be opened", log=of_store("OLD", UNOPENED)),
+        "reads the old file": fault("store can't be opened", log=of_store("OLD", FAILED)),
+        "opens the new file": fault("store can't be opened", log=of_store("NEW", UNOPENED) + remove),
+        "begins the new file": fault("store can't be opened", log=of_store("NEW", FAILED) + remove),
+        "fills the new file": fault("store failed", log=f"{log}NEW, made of OLD: {FAILED}\n{remove}"),
+        "closes the new file": fault("store can't be opened", log=f"{log}NEW: {FAILED}\n{remove}"),
+    }
+    found = outcomes(world, run)
+    checks.equal("a call fails: how forget ends otherwise", {it: place for it, place in found.items() if it not in wanted.values()}, {})
+    for what, its in wanted.items():
+        checks.equal(f"a call fails as forget {what}: all of its lines", its in found and its, its)
+
+
+def of_requests(world, checks, source):
+    """A request whose call fails gets no reply, and the server ends: by the connection, by the file, and at last."""
+    frames = [wire.reserve(n, txn=n, at=172_800) for n in (4, 5)]
+
+    def run(limit):
+        path = copied(source, f"{world.folder}/failing-served")
+        with Server(world, store=path, connections=1, limit=limit) as server:
+            with server.connect() as peer:
+                came = []
+                for frame in frames:
+                    peer.sendall(frame)
+                    came.append(peer.recv(100))
+                    if not came[-1]:
+                        break
+            status, lines = server.status(), [re.sub(r"127\.0\.0\.1:\d+", "PEER", line).replace(path, "PATH") for line in server.log_lines()]
+        return status, tuple(came), tuple(lines)
+
+    start, whole = Noted(world), Noted(world)
+    with Server(world, store=copied(source, f"{world.folder}/failing-served"), connections=1, limit=start.limit) as server:
+        server.connect().close()
+        server.status()
+    came = run(whole.limit)
+    replies = wire.granted(4, 2), wire.full(5, 2, 2)
+    checks.equal("two requests, and none of their calls fails", came, (0, replies, ()))
+    before, calls = start.calls(), whole.calls()
+    lines = ("[ERROR mq_connections::room] connection of PEER: store failed", of_store("PATH", FAILED)[:-1], "mailquota: store failed")
+    for name in ("pwrite64", "fdatasync"):
+        first = sum(call.number == CALLS[name] for call in before)
+        found = [run(failing(name, place)) for place in places(calls, name, first)]
+        wrong = [it for it in found if it not in [(1, (*replies[:count], b""), lines) for count in (0, 1)]]
+        checks.equal(f"a {name} of a request fails, at {len(found)} places: how it ends otherwise", (len(found) > 1, wrong), (True, []))
