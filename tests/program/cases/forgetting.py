@@ -49,6 +49,7 @@ def run(world, checks):
     files_of_many(world, checks)
     filters_go_on(world, checks)
     a_night(world, checks)
+    an_interrupted_night(world, checks)
     days_of_a_night(world, checks)
 
 
@@ -569,18 +570,19 @@ if [ "$(wc -l <{folder}/calls)" = "$(cat {folder}/stop_at)" ]; then kill -"$(cat
 exit $status
 """
 DOES = {
-    # (the options end where the program's path is; as a unit does, what it runs goes on where the script is killed)
+    # (the options end where the program's path is; as a unit does, what it runs goes on where the script is killed; where that is killed too, a sleep of
+    # its may go on, and has the script's output no longer)
     "systemd-run": """while [ "$1" != {program} ]; do shift; done
     if [ -e {folder}/unit ]; then echo "the unit is there already" >&2; exit 1; fi
     if [ -e {folder}/no_room ]; then exit 1; fi
     wait=$(cat {folder}/slow 2>/dev/null || echo 0)
-    setsid sh -c 'sleep "$0"; exec "$@"' "$wait" "$@" & pid=$!; echo $pid >{folder}/unit; wait $pid
+    setsid sh -c 'sleep "$0" >/dev/null 2>&1; exec "$@"' "$wait" "$@" & pid=$!; echo $pid >{folder}/unit; wait $pid
     status=$?; if [ "$(cat {folder}/unit 2>/dev/null)" = $pid ]; then rm {folder}/unit; fi; (exit $status)""",
     "systemctl": """case "$1 $2" in
     "start mailquota") if [ -e {folder}/no_start ]; then exit 1; fi; touch {folder}/server; if [ -e {folder}/slow_start ]; then rm {folder}/slow_start; exec sleep 4; fi ;;
     "stop mailquota") rm -f {folder}/server ;;
     stop*) if [ -e {folder}/unit ]; then kill "$(cat {folder}/unit)"; rm {folder}/unit; fi ;;
-    show*) echo not-found ;;
+    show*) if [ -e {folder}/stays ]; then echo loaded; else echo not-found; fi ;;
     esac""",
     # the address is here until keepalived has seen the script's file so many times, or where that doesn't run
     "ip": """if [ -e {folder}/away ] && [ ! -e {folder}/no_keepalived ] && [ "$(grep -c ^ip {folder}/calls)" -gt 3 ]; then rm -f {folder}/address; fi
@@ -769,13 +771,17 @@ def a_night(world, checks):
     night = Night(world, "night-not-started", source)
     night.touch("no_start")
     checks.equal("the script where the server doesn't start: status, and the ledger", (night.run()[0], rows_of(night.ledger)), (1, again.rows()))
-    an_interrupted_night(world, checks, source, books, again)
     killed_while_the_server_starts(world, checks, source)
     a_night_of_two_servers(world, checks, source, again)
 
 
-def an_interrupted_night(world, checks, source, books, again):
+def an_interrupted_night(world, checks):
     """A script that ends while `forget` runs, and one that meets another."""
+    wait_past_midnight()
+    now = this_day()
+    source, books = left_by_a_server(world, "night-interrupted", b"".join(of_a_week(now)), default=50)
+    again = books.remembered(now - 2)
+
     def while_forgetting(name):
         night = Night(world, name, source)
         with open(f"{night.folder}/slow", "w", encoding="ascii") as file:
@@ -796,6 +802,7 @@ def an_interrupted_night(world, checks, source, books, again):
         checks.equal(f"{what}: status, the server runs, forget doesn't", (status, night.has("server"), runs(unit)), (128 + number, True, False))
         checks.equal(f"{what}: the ledger, and no new one", (rows_in(night.ledger, books.rows()), night.has("ledger.new")), (books.rows(), False))
     night, process, unit = while_forgetting("night-killed")
+    os.remove(f"{night.folder}/slow")
     # (also by a copy of the settings in another folder)
     words, other = night.words, f"{world.folder}/other-settings"
     os.mkdir(other)
@@ -806,10 +813,15 @@ def an_interrupted_night(world, checks, source, books, again):
     process.kill()
     process.wait()
     checks.equal("a script that was killed: forget runs on, and the server doesn't", (runs(unit), night.has("server")), (True, False))
-    os.remove(f"{night.folder}/slow")
     status, _, errors = night.run()
     checks.equal("and run again at once: status, the server runs, the first forget doesn't", (status, night.has("server"), runs(unit), errors), (0, True, False, ""))
     checks.equal("and run again at once: the ledger", rows_in(night.ledger, again.rows()), again.rows())
+    night = Night(world, "night-of-a-unit-that-stays", source)
+    night.touch("stays")
+    status, calls, errors = night.run()
+    looked = sum(it.startswith("systemctl show ") for it in calls), calls.count("sleep 0.1")
+    checks.equal("a unit that doesn't go: status, what it says, how often it looks, and for how many tenths of a second", (status, errors, *looked), (0, "", 102, 100))
+    checks.equal("a unit that doesn't go: the ledger", rows_in(night.ledger, again.rows()), again.rows())
 
 
 def killed_while_the_server_starts(world, checks, source):

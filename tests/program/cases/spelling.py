@@ -114,6 +114,10 @@ def sessions_whose_names_begin_alike(checks):
     checks.equal("after the end of such a session", [it.ask(b"abcd"), it.ask(b"12")], [NO, NO])
     it.gone(b"abcd")
     checks.equal("after the end of one of two that are refused", [it.ask(b"abcd"), it.ask(b"12")], [GO, NO])
+    it.login(b"34", b"Alice")
+    it.login(b"56", b"Alice")
+    it.gone(b"34")
+    checks.equal("after the end of the second of three that are refused", [it.ask(b"12"), it.ask(b"34"), it.ask(b"56")], [NO, GO, NO])
     it.end()
 
 
