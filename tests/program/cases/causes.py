@@ -3,6 +3,7 @@ a terminal of how far it is."""
 import os
 import pty
 import re
+import signal
 import subprocess
 import threading
 import time
@@ -12,13 +13,15 @@ from cases.audits import edited
 from cases.forgetting import left_by_a_server
 from cases.rules import CENTRAL_EUROPE
 from ends import (
-    IS_THERE, NO_NUMERIC_ADDRESS, NO_PORT, PORT_TOO_LARGE, SECONDS, Server, fault, ledger_settings, nobody_there, of_settings, of_store, refusal, toml, unreached,
+    IS_THERE, NO_NUMERIC_ADDRESS, NO_PORT, PORT_TOO_LARGE, SECONDS, Server, fault, ledger_settings, nobody_there, of_settings, of_store, refusal, toml, unreached, wait_until,
 )
 
 BY_RULE = {"offset": None, "rule": CENTRAL_EUROPE}
 NOT_OURS, ANOTHER_ZONE, ANOTHER_DEFAULT = "store is not this ledger", "store has another zone", "store has another default"
 # more answers than `forget` looks through in two seconds, where it keeps them all
 MANY = 25_000
+# so many seconds it is stopped then
+HELD_UP = 4
 
 
 def run(world, checks):
@@ -106,9 +109,11 @@ def a_ledger_that_is_there(world, checks):
 def logs_of_nothing(world, checks):
     """`log = "off"` leaves the last line alone."""
     path, _ = left_by_a_server(world, "off", wire.reserve(1))
-    for subcommand in ("server", "audit", "limits"):
-        came = world.run(subcommand, "--config", ledger_settings(world, path, offset=60, log="off"))
-        checks.equal(f"a log of nothing: {subcommand}", came, (1, b"", f"mailquota: {ANOTHER_ZONE}\n"))
+    for subcommand, *words in (["server"], ["audit"], ["limits"], ["status"], ["forget", "--before", "2", "--into", f"{path}.new"], ["init"]):
+        came = world.run(subcommand, "--config", ledger_settings(world, path, offset=60, log="off"), *words)
+        # (that nothing answers is no matter of the settings)
+        asked = f"{unreached('127.0.0.1:1')}mailquota: quota service unavailable\n" if subcommand == "status" else ""
+        checks.equal(f"a log of nothing: {subcommand}", came, (1, b"", f"{asked}mailquota: {NOT_OURS if subcommand == 'init' else ANOTHER_ZONE}\n"))
 
 
 def addresses_of_settings(world, checks):
@@ -193,8 +198,9 @@ def memory(world, checks):
     checks.equal("status of a ledger in memory, nobody there", came, wanted)
 
 
-def on_a_terminal(world, *words):
-    """The status of a run whose standard error is a terminal, its output, and what came on the terminal."""
+def on_a_terminal(world, *words, held_up=0, times=None):
+    """The status of a run whose standard error is a terminal, its output, and what came on the terminal, and when. Where it is to be held up, it is stopped
+    for so many seconds once it has said something."""
     ours, theirs = pty.openpty()
     said = []
 
@@ -202,6 +208,8 @@ def on_a_terminal(world, *words):
         try:
             while piece := os.read(ours, 65_536):
                 said.append(piece)
+                if times is not None:
+                    times.append(time.monotonic())
         except OSError:
             # (a terminal that nobody has open any more)
             pass
@@ -210,6 +218,11 @@ def on_a_terminal(world, *words):
     os.close(theirs)
     reading = threading.Thread(target=read, daemon=True)
     reading.start()
+    if held_up:
+        wait_until(lambda: said or process.poll() is not None)
+        process.send_signal(signal.SIGSTOP)
+        time.sleep(held_up)
+        process.send_signal(signal.SIGCONT)
     output = process.communicate(timeout=SECONDS)[0]
     reading.join(timeout=SECONDS)
     os.close(ours)
@@ -217,16 +230,18 @@ def on_a_terminal(world, *words):
 
 
 def progress(world, checks):
-    """`forget` says on a terminal how many answers it looks through, where that takes a second or more, and so in the end how many it kept."""
+    """`forget` says on a terminal how many answers it looks through, where that takes a second or more, and so in the end how many it kept, and how long
+    that took."""
     few, _ = left_by_a_server(world, "few", wire.reserve(1) + wire.reserve(2, txn=2, at=172_800))
-    path, half, start = many(world), MANY // 2, time.monotonic()
+    path, half, times, start = many(world), MANY // 2, [], time.monotonic()
     config = ledger_settings(world, path, default=1_000_000)
-    status, output, said = on_a_terminal(world, "forget", "--config", config, "--before", "2", "--into", f"{path}.new")
-    took = time.monotonic() - start
+    status, output, said = on_a_terminal(world, "forget", "--config", config, "--before", "2", "--into", f"{path}.new", held_up=HELD_UP, times=times)
+    least, most = times[-1] - times[0] - 1, times[-1] - start
     checks.equal("forget of many answers on a terminal: what it prints", (status, output), (0, f"kept answers={half} of {MANY}, limits=0\n".encode()))
-    lines = re.fullmatch(rf"{MANY} answers to look through, in up to about 2 s\n({half} of {MANY} answers kept, in [0-9]+ s\n)?", said)
-    good = lines and (lines[1] or took < 3)
-    checks.holds("forget of many answers on a terminal: what it says there", good, "how many to look through, and after a second or more how many it kept", said)
+    lines = re.fullmatch(rf"{MANY} answers to look through, in up to about 2 s\n{half} of {MANY} answers kept, in ([0-9]+) s\n", said)
+    checks.holds("forget of many answers on a terminal: what it says there", lines, "how many to look through, and how many it kept", said)
+    good = lines and least <= int(lines[1]) <= most
+    checks.holds("forget of many answers on a terminal: how long it says that it took", good, f"{least:.1f} to {most:.1f} s", said)
     came = on_a_terminal(world, "forget", "--config", ledger_settings(world, few), "--before", "2", "--into", f"{few}.new")
     checks.equal("forget of two answers on a terminal", came, (0, b"kept answers=1 of 2, limits=0\n", ""))
 

@@ -198,6 +198,8 @@ def warnings(world, checks):
     refusals(world, checks)
     warnings_of_many_sessions(world, checks)
     closings_of_two_sessions(world, checks)
+    moves_of_the_address(world, checks)
+    logins_that_are_full(world, checks)
     login = b"a\x1b[2J \\" + b"x" * 200
     long = INPUT.replace(b"alice", login)
     asked = reserve(1, login=login, at=1_576_146_009, **MX1)
@@ -273,6 +275,34 @@ def closings_of_two_sessions(world, checks):
     # (the second closing waits after the first, which is sent at each closing and at the end)
     wanted = [("reserve", "1", "1", *alice), ("reserve", "2", "2", *bob), *[("release", "3", "1", *alice)] * 3]
     checks.equal("closings of two sessions: whom the log names", named, wanted)
+
+
+def moves_of_the_address(world, checks):
+    """Of the messages that were open as the address moved one is warned of, and one that began after that warning again."""
+    bob = of_session(AUTH + BEGIN + RCPT, b"0123456789abcdef").replace(b"alice", b"bob")
+    text = INPUT + bob + COMMIT + of_session(COMMIT, b"0123456789abcdef") + BEGIN + RCPT + COMMIT
+    too_many = [frame(b"\x89" + identity(n, **MX1) + number(0)) for n in (3, 4, 6)]
+    with Script([GRANTED, granted(2, 1, **MX1), *too_many[:2], granted(5, 1, **MX1), too_many[2]]) as server:
+        errors = world.filter(server.address, text, log="info")[2]
+    said = re.findall(r"\[(\w+) +mq_client::tries\] settle (\d) of transaction (\d) .*: the transaction holds 0 only, the server's address may have moved\n", errors)
+    checks.equal("two messages that were open as the address moved, and one of later: the log", said, [("WARN", "3", "1"), ("INFO", "4", "2"), ("WARN", "6", "3")])
+
+
+def logins_that_are_full(world, checks):
+    """The first 550 of a login on a day is warned of, beside those of 700 others."""
+    def full(heard):
+        # (of a request's frame the number, as its host and its run are)
+        return frame(b"\x82" + heard[3:19] + number(3) + number(3))
+
+    def asked(login, day):
+        name = b"%016x" % login
+        return of_session(AUTH.replace(b"alice", b"u%d" % login) + BEGIN.replace(b"1576146009", b"%d" % (86_400 * day + 9)) + RCPT + RESET_LINE, name)
+
+    wanted = [(0, 10), (0, 10), (0, 11), (0, 10), *((login, 10) for login in range(1, 700)), (0, 10), (0, 12)]
+    with Script([], otherwise=full) as server:
+        errors = world.filter(server.address, CONFIG + b"".join(asked(*it) for it in wanted), log="info")[2]
+    levels = re.findall(r"\[(\w+) +mq_client::tries\] reserve \d+ of transaction \d+ .*: refused by the limit, 3 used of 3\n", errors)
+    checks.equal("logins whose limit is reached, on days", levels, ["WARN" if it not in wanted[:place] else "INFO" for place, it in enumerate(wanted)])
 
 
 def no_server(world, checks):

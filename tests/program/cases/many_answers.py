@@ -1,6 +1,10 @@
 """Tens of thousands of answers in one ledger, over tables in memory and over a file, all given up at last; of connections of one server; days of
 one login."""
+import contextlib
+import os
+import signal
 import socket
+import subprocess
 import threading
 import time
 
@@ -10,7 +14,9 @@ from cases.accepting import waits
 from cases.forgetting import forget, kept
 from cases.limits import limits, printed
 from cases.setting_up import of_file
-from ends import SECONDS, Server, begun, ledger_settings, nobody_there, processor_time, read_to_end, send_no_more, time_of_start, without_time
+from ends import (
+    SECONDS, Server, begun, ledger_settings, nobody_there, processor_time, read_to_end, send_no_more, time_of_start, wait_for_listener, wait_until, without_time,
+)
 from rows import same_rows
 
 MANY = 70_000
@@ -18,6 +24,8 @@ MANY = 70_000
 PLACES = [1_000, 4_096, 9_999, 10_000, 10_001, 16_384, 20_000, 20_001, 32_768, 50_000, 65_535, 65_536, 65_537, MANY]
 # limits of a ledger, one of each login
 LIMITS = 5_000
+# for so many milliseconds a start is stopped
+HELD_UP = 1_500
 # requests of a connection, of at most 10,000
 PORTION = 5_000
 DEFAULT = 1_000_000
@@ -114,9 +122,39 @@ def many_limits(world, checks):
         checks.equal(f"{LIMITS:,} limits: a server's start", without_time(lines)[0], wanted)
         took = time_of_start(lines)
         checks.holds(f"{LIMITS:,} limits: how long the start took", 0 < took <= waited, f"at most {waited:.0f} ms", took)
+    a_start_that_is_held_up(world, checks, path)
     came = world.run("audit", "--config", ledger_settings(world, path, default=DEFAULT))
     checks.equal(f"{LIMITS:,} limits: audit", came, (0, b"sound days=0 transactions=0\n", ""))
     read_by_commands(world, checks, f"{LIMITS:,} limits", path, books)
+
+
+def a_start_that_is_held_up(world, checks, path):
+    """Once it has opened its file it is stopped for a while: its line has that time too. Mostly it isn't at that line yet, and five times are enough."""
+    config, came = ledger_settings(world, path, default=DEFAULT, log="info", listen="127.0.0.1:0"), []
+    for _ in range(5):
+        log, start = world.new_file(""), time.monotonic()
+        with open(log, "wb") as file, subprocess.Popen([world.program, "server", "--config", config], stdin=subprocess.DEVNULL, stdout=file, stderr=file) as process:
+            wait_until(lambda process=process: has_open(process, path) or process.poll() is not None)
+            process.send_signal(signal.SIGSTOP)
+            time.sleep(HELD_UP / 1_000)
+            process.send_signal(signal.SIGCONT)
+            wait_for_listener(process)
+            waited = 1_000 * (time.monotonic() - start)
+            process.terminate()
+        with open(log, encoding="ascii") as lines:
+            came.append((time_of_start(lines.read().splitlines() or [""]), waited))
+        if HELD_UP <= came[-1][0] <= waited:
+            break
+    good = HELD_UP <= came[-1][0] <= came[-1][1]
+    checks.holds(f"{LIMITS:,} limits, and a start that is held up: how long it took", good, f"{HELD_UP} to {came[-1][1]:.0f} ms", came)
+
+
+def has_open(process, path):
+    """Whether a process has the file at a path open."""
+    folder = f"/proc/{process.pid}/fd"
+    with contextlib.suppress(OSError):
+        return any(os.readlink(f"{folder}/{name}") == path for name in os.listdir(folder))
+    return False
 
 
 def again(checks, what, server, books, frames):

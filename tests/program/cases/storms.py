@@ -10,6 +10,8 @@ from ends import but_of_requests, read_all, send_no_more, unavailable
 
 DAY = 86_400
 HOUR = 3_600_000
+# the most logins of which it is known how near they are to their limits
+KNOWN = 100_000
 RETIRED_RUN = "which is retired: its recipients get 451"
 
 
@@ -20,6 +22,7 @@ def run(world, checks):
     two_addresses(world, checks)
     floods(world, checks)
     as_many_as_may_be(world, checks)
+    many_logins(world, checks)
 
 
 def clock():
@@ -170,3 +173,21 @@ def as_many_as_may_be(world, checks):
         lines = it.ask(*(reserve(n, login=b"w") for n in range(6_001, 7_002)))[1]
         wanted = [(WARN, "127.0.0.1", "login w was refused more than 1,000 times within an hour, last for host a")]
         checks.equal("a login that is refused beside 5,000 others", (others, lines), ([], wanted))
+
+
+def many_logins(world, checks):
+    """Of 100,000 logins is it known how near they are to their limits; with one more that begins again. A login is counted beside 25,000 that were refused."""
+    with Storm(world, default=10) as it:
+        def ask_all(frames):
+            return [line for first in range(0, len(frames), 9_000) for line in it.ask(*frames[first:first + 9_000])[1]]
+
+        # (8 of 10 are near)
+        others = ask_all([reserve(n, login=b"%d" % n) for n in range(1, KNOWN)])
+        lines = [ask_all([reserve(KNOWN + n, login=login, count=count)]) for n, (login, count) in enumerate([(b"w", 8), (b"w", 1), (b"x", 1), (b"w", 1)])]
+        today = int(time.time()) // DAY
+        near = [[(WARN, "127.0.0.1", f"login w has used {used} of its limit of 10 on day {today}")] for used in (8, 10)]
+        checks.equal(f"a login that nears its limit beside {KNOWN - 1:,} others, and after one more", (others, lines), ([], [near[0], [], [], near[1]]))
+        others = ask_all([reserve(2 * KNOWN + n, login=b"r%d" % n, count=11) for n in range(25_000)])
+        lines = ask_all([reserve(3 * KNOWN + n, login=b"v", count=11) for n in range(1_001)])
+        wanted = [(WARN, "127.0.0.1", "login v was refused more than 1,000 times within an hour, last for host a")]
+        checks.equal("a login that is refused beside 25,000 others", (others, lines), ([], wanted))
