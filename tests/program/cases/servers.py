@@ -17,6 +17,7 @@ def run(world, checks):
     one_number_for_all(world, checks)
     in_the_order_given(world, checks)
     wrong_words(world, checks)
+    notes(world, checks)
     a_device_that_is_full(world, checks)
 
 
@@ -199,6 +200,15 @@ def wrong_words(world, checks):
         checks.holds("status of an address and of settings", came[0] == 2 and came[2].startswith("error: "), "status 2, and a line that begins with `error: `", came)
         came = world.run("retire", *at(server.address, server.address), "--host", "a")
         checks.holds("retire at two", came[0] == 2 and came[2].startswith("error: "), "status 2, and a line that begins with `error: `", came)
+
+
+def notes(world, checks):
+    """What is noted of a login is said once, however many servers are asked."""
+    noted = "mailquota: note: the filter one-spelling refuses capitals, and lets only alice send\n"
+    with Server(world) as first, Server(world) as second:
+        for name, more in [("limit", ["--from", "1", "--cap", "1"]), ("stop", ["--day", "1", "--force"]), ("resume", ["--day", "1", "--cap", "1"])]:
+            errors = world.run(name, *at(first.address, second.address), "--login", "Alice", *more)[2]
+            checks.equal(f"{name} at two, of a login with capitals: what is noted", errors, noted)
 
 
 def a_device_that_is_full(world, checks):
