@@ -6,10 +6,13 @@ import re
 import wire
 from cases.costs import Noted
 from cases.forgetting import left_by_a_server
+from cases.peers import NOTHING_USED
 from ends import Server, copied, fault, ledger_settings, nobody_there, of_store, refusal, unreached
 
 # Calls that read, write and sync a file, by their numbers on x86-64.
 CALLS = {"pread64": 17, "pwrite64": 18, "fsync": 74, "fdatasync": 75, "ftruncate": 77}
+# Calls on connections.
+OF_SOCKETS = {"sendto": 44, "recvfrom": 45, "epoll_wait": 232, "epoll_ctl": 233}
 # As a program is loaded the system's library is read by two calls.
 OF_LOADING = {"pread64": 2}
 # So many places of each call are tried.
@@ -22,6 +25,7 @@ def run(world, checks):
     of_commands(world, checks, source)
     of_a_forget(world, checks, source)
     of_requests(world, checks, source)
+    of_sockets(world, checks)
 
 
 def places(calls, name, first=0):
@@ -127,3 +131,23 @@ def of_requests(world, checks, source):
         found = [run(failing(name, place)) for place in places(calls, name, first)]
         wrong = [it for it in found if it not in [(1, (*replies[:count], b""), lines) for count in (0, 1)]]
         checks.equal(f"a {name} of a request fails, at {len(found)} places: how it ends otherwise", (len(found) > 1, wrong), (True, []))
+
+
+def of_sockets(world, checks):
+    """A call on a connection fails: it is ended, and the next one answered. Where the server can't wait for any, it ends."""
+    # (a server's first call of epoll_ctl is of its listener)
+    # (as a connection is ended, what waits is offered once more)
+    for what, call, error, before, reply, said in [
+        ("a read that finds no memory", "recvfrom", errno.ENOMEM, 0, b"", "[WARN  mq_connections::room] connection of PEER: out of memory"),
+        ("a read that a reset ends", "recvfrom", errno.ECONNRESET, 0, b"", "[WARN  mq_connections::room] connection of PEER: read failed"),
+        ("a write that fails", "sendto", errno.EPIPE, 0, NOTHING_USED, "[WARN  mq_connections::room] connection of PEER: write failed"),
+        ("a connection that the system doesn't report", "epoll_ctl", errno.ENOMEM, 1, b"", "[WARN  mq_connections::sockets] connection of PEER: Cannot allocate memory (os error 12)"),
+    ]:
+        with Server(world, limit=("failing", f"{OF_SOCKETS[call]},{error},{before}")) as server:
+            came = server.ask(wire.usage()), server.ask(wire.usage())
+            lines = [re.sub(r"127\.0\.0\.1:\d+", "PEER", line) for line in server.log_lines()]
+        checks.equal(f"{what}: the reply, the next one, and the log", (*came, lines), (reply, NOTHING_USED, [said]))
+    with Server(world, limit=("failing", f"{OF_SOCKETS['epoll_wait']},{errno.EBADF},0")) as server:
+        came = server.status(), server.log_lines()
+    lines = ["[ERROR mq_connections::serving] waiting for connections: Bad file descriptor (os error 9)", "mailquota: accept failed"]
+    checks.equal("a server that can't wait: its end, and the log", came, (1, lines))

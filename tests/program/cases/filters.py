@@ -337,6 +337,14 @@ def scripted_end(world, script, **settings):
         return world.filter(server.address, INPUT, **settings)[:2]
 
 
+# why recipients are refused without a question, in the cases below
+REFUSED = {
+    "smtpd reported no transaction": ["no transaction", "a transaction that ended"],
+    "the login is empty or longer than 255 bytes": ["an empty login", "a login of 256 bytes"],
+    "the transaction's second is out of range": ["a transaction before the first day", "a transaction after the year 3000"],
+}
+
+
 def without_a_question(world, checks):
     """Requests that are answered with nothing sent."""
     cases = [
@@ -361,9 +369,14 @@ def without_a_question(world, checks):
             checks.equal(f"{what}: the log", came[2], "")
         else:
             login = re.search(rb"\|pass\|(\w*)\n|\|pass\n", text)[1] or b""
-            begins = f"[WARN  mq_client::client] session 7641df9771b4ed00 (login {login[:255].decode()}): recipients are refused, "
-            lines = came[2].splitlines()
-            checks.holds(f"{what}: the log", len(lines) == 1 and lines[0].startswith(begins), f"one line, which begins {begins}", lines)
+            why = next(said for said, whats in REFUSED.items() if what in whats)
+            line = f"[WARN  mq_client::client] session 7641df9771b4ed00 (login {login[:255].decode()}): recipients are refused, {why}\n"
+            checks.equal(f"{what}: the log", came[2], line)
+    with Script([GRANTED]) as server:
+        came = world.filter(server.address, INPUT + AUTH.replace(b"alice", b"bob") + RCPT)
+    said = "the transaction began with another login or at another second"
+    line = f"[WARN  mq_client::client] session 7641df9771b4ed00 (login bob): recipients are refused, {said}\n"
+    checks.equal("another login within a transaction", (*came, server.heard), (0, REGISTRATION + answer(PROCEED) + answer(SERVICE), line, [RESERVE]))
 
 
 def faults(world, checks):
