@@ -124,6 +124,10 @@ def hands_on_its_words(world, checks):
     for words in ([], ["--config", "/etc/mailquota/second.toml"], ["--config", "of two words", "--run", "7"]):
         run = subprocess.run(["sh", path, *words], cwd="/", capture_output=True, text=True, timeout=SECONDS)
         checks.equal(f"filter-mailquota: the words of the program, with {words} behind it", (run.returncode, run.stdout), (0, "".join(f"({it})" for it in ["filter", *words])))
+    # (a signal of smtpd's is then the program's)
+    path = world.new_file(text_of("filter-mailquota").replace("/usr/sbin/mailquota", f"sh {world.new_file('echo $$')}"))
+    with subprocess.Popen(["sh", path], stdout=subprocess.PIPE, text=True) as process:
+        checks.equal("filter-mailquota: the program is the process that smtpd started", process.stdout.read(), f"{process.pid}\n")
 
 
 class Backup:
@@ -138,8 +142,13 @@ class Backup:
         # (what is there when what was written goes to the disk)
         with open(f"{self.folder}/bin/sync", "w", encoding="ascii") as file:
             file.write(f'#!/bin/sh\nls {self.folder} {self.into}.part >>{self.folder}/bin/synced\n')
-        open(f"{self.folder}/bin/synced", "wb").close()
-        for it in ("systemctl", "sync"):
+        # (and how the server stands as its files are read)
+        state = f"sed -n 's/^State:.\\(.\\).*/\\1/p' /proc/{server.process.pid if server else 0}/status"
+        with open(f"{self.folder}/bin/cat", "w", encoding="ascii") as file:
+            file.write(f'#!/bin/sh\n{state} >>{self.folder}/bin/states\nexec {shutil.which("cat")} "$@"\n')
+        for it in ("synced", "states"):
+            open(f"{self.folder}/bin/{it}", "wb").close()
+        for it in ("systemctl", "sync", "cat"):
             os.chmod(f"{self.folder}/bin/{it}", 0o755)
         self.words = ["sh", script(world, "mailquota-backup", changes), self.into, world.new_file(toml(settings)), path]
         self.environment = {**os.environ, "PATH": f"{self.folder}/bin{os.pathsep}{os.environ['PATH']}"}
@@ -203,6 +212,9 @@ def a_backup(world, checks):
         with open(f"{backup.folder}/bin/synced", encoding="ascii") as file:
             synced = [line for line in file.read().splitlines() if line and not line.endswith(":")]
         checks.equal("a backup under load: what is on the disk before it has its name", synced, ["bin", "copy.part", "ledger", "ledger-wal", "server.toml"])
+        with open(f"{backup.folder}/bin/states", encoding="ascii") as file:
+            states = file.read().split()
+        checks.equal("a backup under load: its files are read once, and not while the server stands", (len(states), "T" in states), (1, False))
         checks.equal("a backup under load: what is there", (backup.left(), sorted(os.listdir(backup.into))), (["copy"], ["ledger", "ledger-wal", "server.toml"]))
     there, copied = (answers_of(it, ANSWERS)["answers"] for it in (path, f"{backup.into}/ledger"))
     checks.equal("a backup under load: the copy has what the ledger had then", there[:len(copied)] == copied, True)

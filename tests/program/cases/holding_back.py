@@ -101,6 +101,9 @@ def two_pauses(world, checks):
     output, heard, log, _ = scripted(world, text, [SILENCE, SILENCE, granted(3, 1, **MX1)], tries=1, timeout=300, pause=30)
     checks.equal("two pauses, and an answer: the lines, the frames", (output, heard), (answer(SERVICE) * 5 + answer(PROCEED), [RESERVE, asked(2), asked(3)]))
     checks.equal("two pauses, and an answer: the log", log, [WHY, PAUSE, f"{SERVER} answers again, requests without an answer: 2", AGAIN + "3"])
+    log = scripted(world, text, [SILENCE, SILENCE, granted(3, 1, **MX1)], tries=1, timeout=300, pause=30, log="info")[2]
+    later = PAUSE.replace("WARN ", "INFO ").removesuffix(", recipients are answered 451")
+    checks.equal('two pauses, with log = "info": the lines of them', [line for line in log if "pauses]" in line], [PAUSE, later, AGAIN + "3"])
     text = INPUT + b"".join(at(RCPT, begins + later) for later in (1, 30, 60, 61, 62, 90))
     _, _, log, _ = scripted(world, text, [SILENCE, granted(2, 1, **MX1), SILENCE, granted(4, 2, **MX1)], tries=1, timeout=300, pause=30)
     # (that the second outage begins and ends within a second of the first has no line of its own)

@@ -361,6 +361,9 @@ def ends(world, checks):
         wanted = [begun("memory"), *(f"[INFO  mq_program::serving] {line}" for line in (
             f"listening on {server.listen} for 1 connections", "ending after 1 connections"))]
         checks.equal('log = "info": status, start and end', (server.status(), without_time(server.log_lines())), (0, wanted))
+    with Server(world, connections=0, words=["--endless"], log="info") as server:
+        wanted = [begun("memory"), f"[INFO  mq_program::serving] listening on {server.listen} for any number of connections"]
+        checks.equal('--endless, with log = "info": its start', without_time(server.log_lines()), wanted)
     with Server(world, offset=60) as server:
         asked = reserve(1, at=1_576_105_199) + reserve(2, txn=2, at=1_576_105_200) + page(day=18_241) + page(day=18_242)
         wanted = granted(1, 1) + granted(2, 1) + page_reply([row(b"u", 0, 1, 3)], day=18_241) + page_reply([row(b"u", 0, 1, 3)], day=18_242)
