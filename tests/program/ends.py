@@ -96,12 +96,9 @@ SCRIPTS = {**dict.fromkeys(CALLS, WITHOUT_CALLS), **dict.fromkeys(("noted", "fai
 
 
 def under(limit):
-    """The words before a program's that run it under this limit, where there is one: one of LIMITED, of WITHOUT_CALLS, of TRACED, or what strace(1)
-    injects."""
+    """The words before a program's that run it under this limit, where there is one: one of LIMITED, of WITHOUT_CALLS, or of TRACED."""
     if not limit:
         return []
-    if limit[0] == "strace":
-        return ["strace", "-D", "-qq", "-o", os.devnull, "-e", f"inject={limit[1]}"]
     return [sys.executable, "-I", "-S", "-c", SCRIPTS.get(limit[0], LIMITED), *map(str, limit)]
 
 

@@ -28,7 +28,7 @@ from ends import World
 
 # (those that take longest stand first)
 GATE_GROUPS = [
-    "figures", "many_answers", "many_numbers", "many_sessions", "forgetting", "nights", "causes", "edges", "full_pages", "lengths", "crowds", "bodies", "full_disks", "asking", "filters", "questions", "peers", "restarts", "filter_settings", "holding_back", "server_settings", "replays", "audits", "damage", "words", "links",
+    "figures", "many_answers", "many_numbers", "many_sessions", "forgetting", "causes", "edges", "full_pages", "lengths", "crowds", "bodies", "full_disks", "asking", "filters", "questions", "peers", "restarts", "filter_settings", "holding_back", "server_settings", "replays", "audits", "damage", "words", "links",
     "stores", "refusals", "recordings", "two_hosts", "signals", "as_used", "edges_of_clients",
     "oracles", "zones", "costs", "failing_calls", "retiring", "stopping", "servers", "defaults", "setting_up", "limits", "watching", "naming", "storms", "accepting", "contrib", "examples", "units", "spelling",
 ]

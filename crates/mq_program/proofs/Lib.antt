@@ -10,4 +10,3 @@ pub mod CountingSteps
 pub mod DescribingSteps
 pub mod MakingSteps
 pub mod AfterForgetting
-pub mod NightSteps
