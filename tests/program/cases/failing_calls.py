@@ -51,15 +51,21 @@ def outcomes(world, run):
     return found
 
 
+def removed(path):
+    """Removes a ledger's file and its log, where they are there; gives the path."""
+    for end in ("", "-wal"):
+        if os.path.exists(path + end):
+            os.remove(path + end)
+    return path
+
+
 def of_commands(world, checks, source):
     """The file's path and what is wrong with it, and then that it can't be opened, or that a ledger can't be made in it."""
     for words in (["audit"], ["limits"], ["status"], ["server"], ["server", "--create"]):
         def run(limit, words=words):
             path = f"{world.folder}/failing-file"
             if "--create" in words:
-                for end in ("", "-wal"):
-                    if os.path.exists(path + end):
-                        os.remove(path + end)
+                removed(path)
             else:
                 copied(source, path)
             with nobody_there() as address:
@@ -78,10 +84,7 @@ def of_commands(world, checks, source):
 def of_a_forget(world, checks, source):
     """Its lines say at which of its two files, and which are to be removed."""
     def run(limit):
-        path, into = copied(source, f"{world.folder}/failing-old"), f"{world.folder}/failing-new"
-        for end in ("", "-wal"):
-            if os.path.exists(into + end):
-                os.remove(into + end)
+        path, into = copied(source, f"{world.folder}/failing-old"), removed(f"{world.folder}/failing-new")
         status, output, errors = world.run("forget", "--config", ledger_settings(world, path), "--before", "2", "--into", into, limit=limit)
         return status, output, errors.replace(path, "OLD").replace(into, "NEW")
 
