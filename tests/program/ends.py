@@ -13,6 +13,8 @@ import sys
 import threading
 import time
 
+import clocks
+
 # The top of the repository.
 TOP = os.path.dirname(os.path.dirname(os.path.dirname(os.path.abspath(__file__))))
 # Enough for whatever is to come, also on a machine that has much else to do.
@@ -39,7 +41,8 @@ os.execv(sys.argv[3], sys.argv[3:])"""
 
 # Runs a program of x86-64, and a child of that traces it by ptrace(2). "noted", the file of the notes, and the words: of each call of the system it notes
 # the number, the first argument, the third, and the result, before the program goes on, and "end" once that has ended. "failing", a call's number, the
-# error and how many such calls are made before, as "17,5,0", and the words: that call isn't made, and fails so.
+# error and how many such calls are made before, as "17,5,0", and the words: that call isn't made, and fails so. "killed", the numbers of some calls and how
+# many of all these are made before, as "18,82,0", and the words: the program is killed at the next one, which isn't made.
 TRACED = """import ctypes, os, struct, sys
 SEIZE, INTERRUPT, LISTEN, GO_ON, INFO, POKE, TRACED_BY = 0x4206, 0x4207, 0x4208, 24, 0x420e, 6, 0x59616d61
 CALL_PLACE, RESULT_PLACE = 8 * 15, 8 * 10
@@ -53,9 +56,11 @@ if tracer:
     os.execv(sys.argv[3], sys.argv[3:])
 def ptrace(what, argument, data):
     return libc.ptrace(ctypes.c_long(what), ctypes.c_long(traced), ctypes.c_void_p(argument), ctypes.c_void_p(data))
-notes, failing, before, begun = None, 0, 0, (0,) * 7
+notes, failing, killed, before, begun = None, -1, [], 0, (0,) * 7
 if sys.argv[1] == "noted":
     notes = open(sys.argv[2], "w", buffering=1)
+elif sys.argv[1] == "killed":
+    *killed, before = map(int, sys.argv[2].split(","))
 else:
     failing, error, before = map(int, sys.argv[2].split(","))
 os.setsid()
@@ -81,6 +86,10 @@ while True:
                 before -= 1
                 if before == -1:
                     ptrace(POKE, CALL_PLACE, -1)
+            elif begun[0] in killed:
+                before -= 1
+                if before == -1:
+                    os.kill(traced, 9)
         elif info.raw[0] == 2 and notes:
             print(begun[0], begun[1], begun[3], *struct.unpack_from("<q", info.raw, 24), file=notes)
         elif info.raw[0] == 2 and begun[0] == failing and before == -1:
@@ -92,13 +101,16 @@ while True:
     ptrace(goes_on, 0, handed)
 if notes:
     print("end", file=notes)"""
-SCRIPTS = {**dict.fromkeys(CALLS, WITHOUT_CALLS), **dict.fromkeys(("noted", "failing"), TRACED)}
+SCRIPTS = {**dict.fromkeys(CALLS, WITHOUT_CALLS), **dict.fromkeys(("noted", "failing", "killed"), TRACED), "clock": clocks.TICKING}
 
 
 def under(limit):
-    """The words before a program's that run it under this limit, where there is one: one of LIMITED, of WITHOUT_CALLS, or of TRACED."""
+    """The words before a program's that run it under this limit, where there is one: one of LIMITED, of WITHOUT_CALLS, of TRACED, of clocks.py, or what
+    strace(1) injects."""
     if not limit:
         return []
+    if limit[0] == "strace":
+        return ["strace", "-D", "-qq", "-o", os.devnull, "-e", f"inject={limit[1]}"]
     return [sys.executable, "-I", "-S", "-c", SCRIPTS.get(limit[0], LIMITED), *map(str, limit)]
 
 

@@ -28,14 +28,14 @@ from ends import World
 
 # (those that take longest stand first)
 GATE_GROUPS = [
-    "figures", "many_answers", "many_numbers", "many_sessions", "forgetting", "causes", "edges", "full_pages", "lengths", "crowds", "bodies", "full_disks", "asking", "filters", "questions", "peers", "restarts", "filter_settings", "holding_back", "server_settings", "replays", "audits", "damage", "words", "links",
+    "figures", "many_answers", "many_numbers", "many_sessions", "forgetting", "nights", "causes", "edges", "full_pages", "lengths", "crowds", "bodies", "full_disks", "asking", "filters", "questions", "peers", "restarts", "filter_settings", "holding_back", "server_settings", "replays", "audits", "damage", "words", "links",
     "stores", "refusals", "recordings", "two_hosts", "signals", "as_used", "edges_of_clients",
     "oracles", "zones", "costs", "failing_calls", "retiring", "stopping", "servers", "defaults", "setting_up", "limits", "watching", "naming", "storms", "accepting", "contrib", "examples", "units", "spelling",
 ]
 # what these do to a server, its files and the machine takes longer, and some of it wants root
 OTHER_GROUPS = ["kills", "failures", "many_limits", "memory_limits"]
 # these run only where they are named
-LONG_GROUPS = ["many_pages"]
+LONG_GROUPS = ["many_pages", "many_nights"]
 # texts that groups share
 NO_GROUPS = ["__init__", "rules", "texts_of_settings", "texts_of_words"]
 # So many groups at once: they mostly wait.

@@ -322,9 +322,9 @@ def versions(tree):
 
 
 def noticed(tree):
-    """Yields which of the kit's libraries NOTICE lacks, but for sqlite_*, for which the kit has no licence."""
+    """Yields which of the kit's libraries NOTICE lacks, but for os and sqlite_*, for which the kit has no licence."""
     rows = rows_of(tree)
-    named = {it for name, libraries in rows.items() if name not in OF_TESTS for it in libraries if it not in rows and not it.startswith("sqlite_")}
+    named = {it for name, libraries in rows.items() if name not in OF_TESTS for it in libraries if it not in rows and it != "os" and not it.startswith("sqlite_")}
     yield "NOTICE", [f"it hasn't {it}" for it in sorted(named - {*re.findall(r"^(\w+) ", read(tree, "NOTICE"), re.MULTILINE)})]
 
 

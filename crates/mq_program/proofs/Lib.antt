@@ -10,3 +10,4 @@ pub mod CountingSteps
 pub mod DescribingSteps
 pub mod MakingSteps
 pub mod AfterForgetting
+pub mod NightSteps

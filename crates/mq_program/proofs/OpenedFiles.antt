@@ -16,6 +16,7 @@ use Rattle.mq_ledger.specs.Legal.{Book, IsLegalBook}
 use Rattle.mq_rows.specs.Tables.{AreRows}
 use Rattle.mq_tables.specs.Ledger.{HasLedger}
 use Rattle.mq_tables.specs.Making.{AreUnnamed}
+use Rattle.mq_store.specs.Forgetting.{IsFree}
 use Rattle.mq_store.specs.Soundness.{book_in, HasKept, HasStored, IsNew, IsSound, MeansBook}
 use Rattle.mq_store.specs.Taking.{book_of}
 use Rattle.mq_rows.specs.declared.audited.Audit.TheVariants.{Sound}
@@ -34,6 +35,13 @@ EmptyAreReady = (db : Database) → IsDatabase db → db.trees catalog_tree ≡ 
 listed_in : (image : Image) (db : Trees) → image.db ≡ [] → AreFoundIn image db → db catalog_tree ≡ []
 listed_in image db none (inl (size, pages, wanted, adopts, ours, is)) = absurd (omega (arith, ap length none, adopts.found.present))
 listed_in image db none (inr (nothing, empty)) = empty.1
+
+-- an empty file that was opened has no table
+pub is_free : (image : Image) (s : State) → EmptyAreReady → Opens s → IsLive s → FindsIn image s → image.db ≡ [] → IsFree s.now
+is_free image s ready opens live found none =
+    let listed : s.now.trees catalog_tree ≡ [] = subst (λ (d : Database). d.trees catalog_tree ≡ []) (sym opens.clean) (listed_in image s.committed.trees none found.reads) in
+    let it = ready s.now (live opens.is_open).0 listed in
+    record { counters = it.0; unnamed = it.1 }
 
 module _ (image : Image) (s : State) (one : HaveOneSchema) (opens : Opens s) (live : IsLive s) (found : FindsIn image s) where
   sound : IsDatabase s.now

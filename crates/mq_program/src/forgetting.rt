@@ -13,7 +13,7 @@ ghost use Rattle.mq_store.specs.Soundness.{HasKept, IsSound, book_in};
 use crate::auditing::print;
 use crate::fault::ProgramFault;
 use crate::progress::{Progress, Terminal};
-use crate::store::{connect_new, ledger_of_settings, let_go, make_new_file, path_of};
+use crate::store::{close_file, connect_new, ledger_of_settings, let_go, make_new_file, path_of};
 use log::sink::Console;
 use log::{Log, Logged, error, info};
 use mq_arguments::ForgetArguments;
@@ -169,21 +169,6 @@ fn fill<S: Alter + Drop, T: Alter + Drop, P: Progress>(
             kept,
         }),
         Err(fault) => Err(with_cause(&old, fault)),
-    }
-}
-
-/// Closes a new file, so that it stands without its log.
-fn close_file<G: Log, S: Start>(
-    log: &G,
-    name: &str,
-    filled: Connection<FileStore<FileFrom<S>>>,
-) -> Result<(), ProgramFault> {
-    match filled.close() {
-        Ok(()) => Ok(()),
-        Err(cause) => {
-            error!(log; "{name}: {cause}");
-            Err(ProgramFault::Store)
-        }
     }
 }
 

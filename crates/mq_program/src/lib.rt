@@ -6,23 +6,27 @@
 //!
 //! Those that need no ledger, the filter among them, are `mq_remote`'s. It stands on `mq_arguments`, `mq_request`,
 //! `mq_stream`, `mq_frame`, `mq_ledger`, `mq_chore`, `mq_forget`, `mq_rows`, `mq_tables`, `mq_server`, `mq_settings`,
-//! `mq_connections`, `mq_watch`, `mq_command`, `mq_replay`, `mq_process` and `mq_store`. It knows no words of the command
-//! line, and decides nothing by itself. Begin with `serving.rt`, where the server is put together, then `store.rt`.
+//! `mq_connections`, `mq_watch`, `mq_command`, `mq_replay`, `mq_process`, `mq_store` and `mq_nights`. It knows no words of
+//! the command line, and decides nothing by itself. Begin with `serving.rt`, where the server is put together, then
+//! `store.rt`, then `nights.rt`.
 #![tactic(auto)]
 
 mod auditing;
 mod describing;
 mod fault;
 mod forgetting;
+mod last_night;
 mod listing;
 mod making;
 mod memory;
+mod nights;
 mod probing;
 mod progress;
 mod refusal;
 mod replaying;
 mod serving;
 mod store;
+mod switching;
 
 pub use auditing::{audit, audit_ledger};
 pub use fault::{ProgramFault, end_program, or_memory};

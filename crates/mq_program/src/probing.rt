@@ -8,14 +8,16 @@ ghost use Rattle.mq_program.specs.Describing.{Describes, DescribesFile};
 ghost use Rattle.mq_program.specs.Opened.{MeansFile, path_in};
 ghost use Rattle.mq_process.specs.Settings.{AreInRange};
 
+use crate::auditing::print;
 use crate::describing::describe_ledger;
 use crate::fault::{ProgramFault, or_memory};
+use crate::last_night::last_night;
 use crate::store::{ledger_of_settings, let_go, log_cause, path_of};
 use log::sink::Console;
 use log::{Log, Logged};
 use mq_arguments::StatusArguments;
 use mq_process::{Dialer, Question, probe, server_settings};
-use mq_settings::ServerSettings;
+use mq_settings::{Place, ServerSettings};
 use mq_store::SqlLedger;
 use sqlite::{Alter, FileFrom, FileStore, Start};
 use std::io::Write;
@@ -25,7 +27,7 @@ use std::{fs, io};
 const NOT_RUNNING: u8 = 3;
 
 /// `status` of settings: asks their quota server once, and prints that it answers. Where it doesn't, and no server has the file
-/// of its ledger open, prints what that holds; the status is 3 then.
+/// of its ledger open, prints what that holds; the status is 3 then. Last it prints which days the server forgot last.
 ///
 /// `start` stands for what the file of the settings and its log hold before the call.
 pub fn status<E: Write, S: Start>(
@@ -42,12 +44,30 @@ pub fn status<E: Write, S: Start>(
         Question::Status,
         errors,
     )?;
+    let output = &mut io::writer(rt);
     if status == 0 {
+        print_last_night(rt, &settings.store, output)?;
         return Ok(0);
     }
-    let output = &mut io::writer(rt);
     let_go(describe_file(rt, &settings, start, output))?;
+    print_last_night(rt, &settings.store, output)?;
     Ok(NOT_RUNNING)
+}
+
+/// Prints what the last night of the ledger in this place did, where that is noted.
+fn print_last_night<W: Write>(
+    rt: &HostRuntime,
+    store: &Place,
+    output: &mut W,
+) -> Result<(), ProgramFault> {
+    let Place::File(path) = store else {
+        return Ok(());
+    };
+    let Some(night) = last_night(rt, path.as_str()) else {
+        return Ok(());
+    };
+    let line = format!(in rt.alloc(); "ledger {path}: {night}\n")?;
+    print(output, line.as_bytes())
 }
 
 /// Prints what the ledger in the file of these settings holds, which it opens as a server does, and which comes back.

@@ -1,5 +1,5 @@
 //! `server`: serves a ledger to filters.
-ghost use Rattle.std.specs.Prelude.{◌≡◌, [], false, IfOk, IsTrue};
+ghost use Rattle.std.specs.Prelude.{◌≡◌, [], false, IfErr, IfOk, IsTrue};
 ghost use Rattle.sqlite.specs.Files.{file_state};
 ghost use Rattle.sqlite.specs.Held.{state};
 ghost use Rattle.sqlite.specs.Steps.{over_memory};
@@ -18,10 +18,11 @@ ghost use Rattle.mq_process.specs.Settings.{AreInRange};
 
 use crate::fault::ProgramFault;
 use crate::memory::warn_of_memory;
+use crate::nights::listen_by_night;
 use crate::refusal::days_by;
 use crate::store::{ledger_of_settings, log_cause, memory_ledger};
 use log::sink::Console;
-use log::{Log, Logged, error, info};
+use log::{Log, Logged, error, info, warn};
 use mq_arguments::{ConnectionsArgument, ServerArguments};
 use mq_chore::NoChore;
 use mq_connections::laws::nothing_is_served;
@@ -37,7 +38,7 @@ use mq_watch::{Hear, Watched};
 use sqlite::{Alter, FileFrom, FileStore, MemStore, Start};
 use std::alloc::Global;
 use std::fmt;
-use std::net::{Net, TcpListener, TcpStream};
+use std::net::{Net, SocketAddr, TcpListener, TcpStream};
 use std::rt::Clock;
 use std::time::{Duration, Instant};
 
@@ -70,7 +71,7 @@ fn connections_of(asked: ConnectionsArgument) -> Connections
 
 /// How many connections are served, as the log says it.
 #[derive(Clone, Copy)]
-struct Crowd(Connections);
+pub struct Crowd(pub Connections);
 
 impl fmt::Display for Crowd {
     fn fmt<W: fmt::Write>(&self, f: &mut fmt::Formatter<W>) -> fmt::Result {
@@ -94,6 +95,9 @@ fn serve<S: Start>(
     let logged = Logged::new(rt, settings.log, Console(rt));
     match &settings.store {
         Place::Memory => {
+            if settings.keep.is_some() {
+                warn!(logged; "a ledger in memory forgets nothing, whatever `keep` says");
+            }
             let Served { ledger: _, outcome } = listen_in_memory(
                 rt,
                 &logged,
@@ -104,6 +108,9 @@ fn serve<S: Start>(
         }
         Place::File(path) => {
             warn_of_memory(rt, &logged, path.as_str());
+            if let Some(keep) = settings.keep {
+                return listen_by_night(rt, &logged, settings, keep, create, connections);
+            }
             let Served { ledger: _, outcome } = listen_over_file(
                 rt,
                 &logged,
@@ -119,9 +126,9 @@ fn serve<S: Start>(
 
 /// A server that has ended: its ledger, and how it ended.
 #[derive(Drop)]
-struct Served<S: Alter> {
-    ledger: SqlLedger<S>,
-    outcome: Result<u8, ProgramFault>,
+pub struct Served<S: Alter> {
+    pub ledger: SqlLedger<S>,
+    pub outcome: Result<u8, ProgramFault>,
 }
 
 /// Serves so many connections over a new ledger in memory.
@@ -239,7 +246,7 @@ fn begin<G: Log, S: Alter + Drop>(
 
 /// How long something took, where the clock could be read.
 #[derive(Clone, Copy)]
-struct Took(Option<Duration>);
+pub struct Took(pub Option<Duration>);
 
 impl fmt::Display for Took {
     fn fmt<W: fmt::Write>(&self, f: &mut fmt::Formatter<W>) -> fmt::Result {
@@ -259,7 +266,7 @@ fn place_name(place: &Place) -> &str {
 }
 
 /// Logs what a ledger holds as a server begins with it, and how long it took to open it.
-fn log_ledger<G: Log, S: Alter>(
+pub fn log_ledger<G: Log, S: Alter>(
     log: &G,
     settings: &ServerSettings,
     ledger: &mut SqlLedger<S>,
@@ -286,6 +293,21 @@ fn log_ledger<G: Log, S: Alter>(
     Ok(())
 }
 
+/// Listens at an address. What prevents it is logged.
+pub fn bind<R, G: Log>(rt: &R, log: &G, address: SocketAddr) -> Result<TcpListener, ProgramFault>
+where
+    R: Net<Listener = TcpListener, Stream = TcpStream>,
+    ensures { IfErr result (λ fault. fault ≡ ProgramFault.Listen) }
+{
+    match TcpListener::bind(rt, address) {
+        Ok(listener) => Ok(listener),
+        Err(error) => {
+            error!(log; "listening on {address}: {error}");
+            Err(ProgramFault::Listen)
+        }
+    }
+}
+
 /// Listens at the address of the settings, and serves so many connections over the ledger. The start,
 /// the end and what prevents it are logged.
 pub fn listen<R, G: Log, L: Ledger + Hear>(
@@ -310,12 +332,9 @@ where
 {
     nothing_is_served();
     let address = settings.listen;
-    let listener = match TcpListener::bind(rt, address) {
+    let listener = match bind(rt, log, address) {
         Ok(listener) => listener,
-        Err(error) => {
-            error!(log; "listening on {address}: {error}");
-            return Err(ProgramFault::Listen);
-        }
+        Err(fault) => return Err(fault),
     };
     let crowd = Crowd(connections);
     info!(log; "listening on {address} for {crowd}");

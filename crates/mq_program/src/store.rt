@@ -18,6 +18,7 @@ ghost use Rattle.mq_process.specs.Settings.{AreInRange};
 
 use crate::fault::ProgramFault;
 use crate::refusal::refused_by;
+use crate::switching::{clear_part, repair_switch};
 use log::{Log, error};
 use mq_ledger::Zone;
 use mq_settings::{Place, ServerSettings};
@@ -47,8 +48,8 @@ pub fn memory_ledger(
     Ok(SqlLedger::in_memory(alloc, zone, default)?)
 }
 
-/// Logs why a database file can't be opened.
-fn unopened<G: Log, C: std::fmt::Display + Drop>(log: &G, path: &str, cause: C) -> ProgramFault
+/// Logs why a database file can't be had.
+pub fn unopened<G: Log, C: std::fmt::Display + Drop>(log: &G, path: &str, cause: C) -> ProgramFault
     ensures { result ≡ ProgramFault.Store }
 {
     error!(log; "{path}: {cause}");
@@ -81,7 +82,7 @@ fn give_to_owner(rt: &HostRuntime, file: &File, path: &str) -> io::Result<()> {
 }
 
 /// The folder in which the file at a path is.
-fn folder_of(alloc: Global, path: &str) -> Result<String, AllocError> {
+pub fn folder_of(alloc: Global, path: &str) -> Result<String, AllocError> {
     match Path::new(path).parent() {
         Some(folder) if !folder.as_str().is_empty() => String::from_str(alloc, folder.as_str()),
         _ => String::from_str(alloc, "."),
@@ -163,8 +164,23 @@ pub fn connect_new<G: Log, S: Start>(
     log: &G,
     path: &str,
     start: S,
-) -> Result<Connection<FileStore<FileFrom<S>>>, ProgramFault> {
+) -> Result<Connection<FileStore<FileFrom<S>>>, ProgramFault>
+    ensures opened { IfOk result (λ c. HasCleanDisk (file_state c) → IsOpened c) }
+    ensures found { IfOk result (λ c. HasCleanDisk (file_state c) → FindsIn (image_at S.Start) (file_state c)) }
+{
     connect(rt, log, path, false, start)
+}
+
+/// Closes the file of a ledger, so that it stands without its log. The cause of `ProgramFault::Store` is logged.
+pub fn close_file<G: Log, S: Start>(
+    log: &G,
+    path: &str,
+    connection: Connection<FileStore<FileFrom<S>>>,
+) -> Result<(), ProgramFault> {
+    match connection.close() {
+        Ok(()) => Ok(()),
+        Err(cause) => Err(unopened(log, path, cause)),
+    }
 }
 
 /// The path of the file in which settings keep the ledger.
@@ -227,7 +243,8 @@ fn ledger_over<G: Log, S: Alter + Drop>(
 
 /// The ledger in the file of these settings; with `create` a new one. Why it can't be had is logged.
 ///
-/// `start` stands for what the two files, the database and its log, hold before the call.
+/// A switch to another ledger of this path that was interrupted is finished or undone first, and what a renewal left is
+/// removed. `start` stands for what the two files, the database and its log, hold then.
 pub fn ledger_of_settings<G: Log, S: Start>(
     rt: &HostRuntime,
     log: &G,
@@ -256,8 +273,10 @@ pub fn ledger_of_settings<G: Log, S: Start>(
     trees_have_one_schema();
     empty_databases_have_no_table();
     let path = path_of(settings)?;
+    repair_switch(rt, log, path)?;
     let connection = connect(rt, log, path, create, start)?;
     let ledger = ledger_over(rt.alloc(), log, path, connection, create, settings)?;
+    clear_part(rt, log, path);
     Ok(ledger)
 }
 

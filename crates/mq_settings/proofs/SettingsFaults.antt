@@ -1,12 +1,12 @@
 -- Why settings are refused, from the first reading that fails.
-use Rattle.std.proofs.Common.{◌≡◌, ◌≢◌, ℕ, List, Result, Ok, Err, sym, subst, ◌⊎◌, inl, inr, refl}
+use Rattle.std.proofs.Common.{◌≡◌, ◌≢◌, ℕ, List, Option, Result, Ok, Err, sym, subst, ◌⊎◌, inl, inr, refl}
 use Rattle.std.specs.Prelude.{IfErr}
 use Rattle.std.specs.Result.{IsErrAnd}
 use Rattle.std.specs.declared.net.SocketAddr.{SocketAddr}
 use Rattle.toml.specs.Data.{Members}
 use Rattle.mq_ledger.specs.declared.zone.Zone.{Zone}
 use Rattle.mq_settings.specs.Keys.{filter_keys, server_keys, HasOnly}
-use Rattle.mq_settings.specs.Settings.{Spells, IsTableRefusal, memory, IsHostAt, IsAddressAt, tries_at, timeout_at, pause_at, hold_at, default_at, IsZoneAt, IsPlaceAt, level_at, IsFilterRefusal, IsServerRefusal}
+use Rattle.mq_settings.specs.Settings.{Spells, IsTableRefusal, memory, IsHostAt, IsAddressAt, tries_at, timeout_at, pause_at, hold_at, default_at, IsZoneAt, keep_at, IsPlaceAt, level_at, IsFilterRefusal, IsServerRefusal}
 use Rattle.mq_settings.specs.declared.settings.key.Key.TheVariants.{Server, Listen}
 use Rattle.mq_settings.specs.declared.settings.value.Place.{Place}
 use Rattle.mq_settings.specs.declared.settings.fault.SettingsFault.{SettingsFault}
@@ -82,10 +82,15 @@ pub server_at_zone : (text : List ℕ) (table : Members) (listen : SocketAddr) (
     → IsAddressAt Listen table (Ok listen) → IsPlaceAt table (Ok store) → default_at table ≡ Ok default → IsZoneAt table (Err e) → IsServerRefusal text e
 server_at_zone text table listen store default e spells names l s d bad = inr (table, spells, names, inr (listen, l, inr (store, s, inr (default, d, inl bad))))
 
-pub server_at_timeout : (text : List ℕ) (table : Members) (listen : SocketAddr) (store : Place) (default : ℕ) (zone : Zone) (e : SettingsFault) → Spells text table → HasOnly server_keys table
-    → IsAddressAt Listen table (Ok listen) → IsPlaceAt table (Ok store) → default_at table ≡ Ok default → IsZoneAt table (Ok zone) → timeout_at table ≡ Err e → IsServerRefusal text e
-server_at_timeout text table listen store default zone e spells names l s d z bad = inr (table, spells, names, inr (listen, l, inr (store, s, inr (default, d, inr (zone, z, inl bad)))))
+pub server_at_keep : (text : List ℕ) (table : Members) (listen : SocketAddr) (store : Place) (default : ℕ) (zone : Zone) (e : SettingsFault) → Spells text table → HasOnly server_keys table
+    → IsAddressAt Listen table (Ok listen) → IsPlaceAt table (Ok store) → default_at table ≡ Ok default → IsZoneAt table (Ok zone) → keep_at table ≡ Err e → IsServerRefusal text e
+server_at_keep text table listen store default zone e spells names l s d z bad = inr (table, spells, names, inr (listen, l, inr (store, s, inr (default, d, inr (zone, z, inl bad)))))
 
-pub server_at_log : (text : List ℕ) (table : Members) (listen : SocketAddr) (store : Place) (default : ℕ) (zone : Zone) (timeout : ℕ) (e : SettingsFault) → Spells text table → HasOnly server_keys table
-    → IsAddressAt Listen table (Ok listen) → IsPlaceAt table (Ok store) → default_at table ≡ Ok default → IsZoneAt table (Ok zone) → timeout_at table ≡ Ok timeout → level_at table ≡ Err e → IsServerRefusal text e
-server_at_log text table listen store default zone timeout e spells names l s d z m bad = inr (table, spells, names, inr (listen, l, inr (store, s, inr (default, d, inr (zone, z, inr (timeout, m, bad))))))
+pub server_at_timeout : (text : List ℕ) (table : Members) (listen : SocketAddr) (store : Place) (default : ℕ) (zone : Zone) (keep : Option ℕ) (e : SettingsFault) → Spells text table → HasOnly server_keys table
+    → IsAddressAt Listen table (Ok listen) → IsPlaceAt table (Ok store) → default_at table ≡ Ok default → IsZoneAt table (Ok zone) → keep_at table ≡ Ok keep → timeout_at table ≡ Err e → IsServerRefusal text e
+server_at_timeout text table listen store default zone keep e spells names l s d z k bad = inr (table, spells, names, inr (listen, l, inr (store, s, inr (default, d, inr (zone, z, inr (keep, k, inl bad))))))
+
+pub server_at_log : (text : List ℕ) (table : Members) (listen : SocketAddr) (store : Place) (default : ℕ) (zone : Zone) (keep : Option ℕ) (timeout : ℕ) (e : SettingsFault) → Spells text table → HasOnly server_keys table
+    → IsAddressAt Listen table (Ok listen) → IsPlaceAt table (Ok store) → default_at table ≡ Ok default → IsZoneAt table (Ok zone) → keep_at table ≡ Ok keep → timeout_at table ≡ Ok timeout → level_at table ≡ Err e
+    → IsServerRefusal text e
+server_at_log text table listen store default zone keep timeout e spells names l s d z k m bad = inr (table, spells, names, inr (listen, l, inr (store, s, inr (default, d, inr (zone, z, inr (keep, k, inr (timeout, m, bad)))))))

@@ -6,7 +6,7 @@ use Rattle.std.specs.Cmp.Lexicographic.{slice_cmp}
 use Rattle.toml.specs.Data.{Members, get_member}
 use Rattle.mq_settings.specs.declared.settings.key.Key.{Key}
 use Rattle.mq_settings.specs.declared.settings.key.Key.TheVariants.{Host, Server, Tries, Listen, Store, Default, Offset, Rule}
-use Rattle.mq_settings.specs.declared.settings.key.Key.TheVariants.{Timeout, Pause, Hold, Log}
+use Rattle.mq_settings.specs.declared.settings.key.Key.TheVariants.{Keep, Timeout, Pause, Hold, Log}
 
 -- a key as it is written
 abbrev pub key_name : Key → List ℕ
@@ -18,6 +18,7 @@ key_name Store = codes "store"
 key_name Default = codes "default"
 key_name Offset = codes "offset"
 key_name Rule = codes "rule"
+key_name Keep = codes "keep"
 key_name Timeout = codes "timeout"
 key_name Pause = codes "pause"
 key_name Hold = codes "hold"
@@ -29,7 +30,7 @@ filter_keys = Host ∷ Server ∷ Tries ∷ Timeout ∷ Pause ∷ Hold ∷ Log �
 
 -- the keys of the server's settings, in the order in which they are checked
 abbrev pub server_keys : List Key
-server_keys = Listen ∷ Store ∷ Default ∷ Offset ∷ Rule ∷ Timeout ∷ Log ∷ []
+server_keys = Listen ∷ Store ∷ Default ∷ Offset ∷ Rule ∷ Keep ∷ Timeout ∷ Log ∷ []
 
 -- whether a name is one of these keys
 abbrev pub is_known : List Key → List ℕ → Bool

@@ -17,7 +17,7 @@ use Rattle.mq_ledger.specs.Day.{ByOffset, ByRule, IsRule}
 use Rattle.mq_settings.specs.Keys.{key_name, filter_keys, server_keys, IsLeastUnknown, HasOnly}
 use Rattle.mq_settings.specs.declared.settings.key.Key.{Key}
 use Rattle.mq_settings.specs.declared.settings.key.Key.TheVariants.{Host, Server, Tries, Listen, Store, Default, Offset, Rule}
-use Rattle.mq_settings.specs.declared.settings.key.Key.TheVariants.{Timeout, Pause, Hold, Log}
+use Rattle.mq_settings.specs.declared.settings.key.Key.TheVariants.{Keep, Timeout, Pause, Hold, Log}
 use Rattle.mq_settings.specs.declared.settings.value.Place.{Place}
 use Rattle.mq_settings.specs.declared.settings.value.Place.TheVariants as place
 use Rattle.mq_settings.specs.declared.settings.FilterSettings.{FilterSettings}
@@ -159,6 +159,20 @@ pause_at table = count_at Pause 0 3600 (Ok 0) table
 abbrev pub hold_at : Members → Result ℕ SettingsFault
 hold_at table = count_at Hold 0 60 (Ok 0) table
 
+-- a value that was read, as one that may be there
+abbrev pub present : Result ℕ SettingsFault → Result (Option ℕ) SettingsFault
+present (Ok n) = Ok (Some n)
+present (Err e) = Err e
+
+-- days before today that are kept, up to a year of them, or all where the entry is absent
+abbrev pub keep_of : Option Data → Result (Option ℕ) SettingsFault
+keep_of None = Ok None
+keep_of (Some entry) = present (count_in Keep 1 366 (as_integer entry))
+
+-- the days that are kept of the table
+abbrev pub keep_at : Members → Result (Option ℕ) SettingsFault
+keep_at table = keep_of (get_member (key_name Keep) table)
+
 -- the limit of a login that has none of its own
 abbrev pub default_at : Members → Result ℕ SettingsFault
 default_at table = count_at Default 0 1000000 (Err (Missing Default)) table
@@ -210,6 +224,7 @@ pub record IsServerSettings (table : Members) (settings : ServerSettings) : Type
   pub store : IsPlaceAt table (Ok settings.store)
   pub default : default_at table ≡ Ok settings.default
   pub zone : IsZoneAt table (Ok settings.zone)
+  pub keep : keep_at table ≡ Ok settings.keep
   pub timeout : timeout_at table ≡ Ok settings.timeout
   pub log : level_at table ≡ Ok settings.log
 
@@ -217,8 +232,8 @@ pub record IsServerSettings (table : Members) (settings : ServerSettings) : Type
 abbrev pub IsServerFault : Members → SettingsFault → Type 0
 IsServerFault table e =
     FailsOr (IsAddressAt Listen table) (FailsOr (IsPlaceAt table)
-    (FailsOr (λ r. default_at table ≡ r) (FailsOr (IsZoneAt table)
-    (FailsOr (λ r. timeout_at table ≡ r) (λ f. level_at table ≡ Err f))))) e
+    (FailsOr (λ r. default_at table ≡ r) (FailsOr (IsZoneAt table) (FailsOr (λ r. keep_at table ≡ r)
+    (FailsOr (λ r. timeout_at table ≡ r) (λ f. level_at table ≡ Err f)))))) e
 
 -- why the server's settings are refused
 abbrev pub IsServerRefusal : List ℕ → SettingsFault → Type 0

@@ -52,6 +52,8 @@ pub struct ServerSettings {
     pub default: u32,
     /// What the ledger's days go by.
     pub zone: Zone,
+    /// How many days before today are kept while it serves, 1 to 366: all, if nothing is said.
+    pub keep: Option<u32>,
     /// For how many milliseconds a peer may neither send nor take anything, 1 to 60,000. A whole connection has twice
     /// as long.
     pub timeout: u32,
@@ -69,12 +71,13 @@ const FILTER_KEYS: [Key; 7] = [
     Key::Log,
 ];
 
-const SERVER_KEYS: [Key; 7] = [
+const SERVER_KEYS: [Key; 8] = [
     Key::Listen,
     Key::Store,
     Key::Default,
     Key::Offset,
     Key::Rule,
+    Key::Keep,
     Key::Timeout,
     Key::Log,
 ];
@@ -119,6 +122,7 @@ pub fn read_server_settings(alloc: Global, text: &[u8]) -> Result<ServerSettings
     let store = value::read_place(alloc, &table)?;
     let default = value::read_count(&table, Key::Default, 0, 1_000_000, None)?;
     let zone = value::read_zone(&table)?;
+    let keep = value::read_keep(&table)?;
     let timeout = value::read_count(&table, Key::Timeout, 1, 60_000, Some(2_000))?;
     let log = value::read_level(&table)?;
     Ok(ServerSettings {
@@ -126,6 +130,7 @@ pub fn read_server_settings(alloc: Global, text: &[u8]) -> Result<ServerSettings
         store,
         default,
         zone,
+        keep,
         timeout,
         log,
     })

@@ -93,9 +93,8 @@ def of_a_forget(world, checks, source):
         "opens the old file": fault("store can't be opened", log=of_store("OLD", UNOPENED)),
         "reads the old file": fault("store can't be opened", log=of_store("OLD", FAILED)),
         "opens the new file": fault("store can't be opened", log=of_store("NEW", UNOPENED) + remove),
-        "begins the new file": fault("store can't be opened", log=of_store("NEW", FAILED) + remove),
+        "begins or closes the new file": fault("store can't be opened", log=of_store("NEW", FAILED) + remove),
         "fills the new file": fault("store failed", log=f"{log}NEW, made of OLD: {FAILED}\n{remove}"),
-        "closes the new file": fault("store can't be opened", log=f"{log}NEW: {FAILED}\n{remove}"),
     }
     found = outcomes(world, run)
     checks.equal("a call fails: how forget ends otherwise", {it: place for it, place in found.items() if it not in wanted.values()}, {})

@@ -78,6 +78,8 @@ class Cases:
         self.expect("a bad offset and a rule", self.text_of(offset=1440, rule=rule), "setting offset: bad value")
         self.expect("default and rule bad", self.text_of(default=-1, offset=None, rule='"CET"'), "setting default: bad value")
         self.expect("rule and timeout bad", self.text_of(offset=None, rule='"CET"', timeout=0), "setting rule: bad value")
+        self.expect("rule and keep bad", self.text_of(offset=None, rule='"CET"', keep=0), "setting rule: bad value")
+        self.expect("keep and timeout bad", self.text_of(keep=0, timeout=0), "setting keep: bad value")
         self.expect("timeout and log bad", self.text_of(timeout=0, log=0), "setting timeout: bad value")
         self.expect("store missing, default bad", self.text_of(store=None, default='"x"'), "setting store: missing")
 
@@ -85,6 +87,7 @@ class Cases:
         accepted = [
             ("default", ["0", "1000000"]),
             ("offset", ["-1439", "1439", "+60"]),
+            ("keep", ["1", "366"]),
             ("timeout", ["1", "60000"]),
             ("log", ['"off"', '"error"', '"warn"', '"info"']),
         ]
@@ -93,14 +96,16 @@ class Cases:
             ("store", ['""', "1", "true"]),
             ("default", ["-1", "1000001", '"3"', "3.5", "true"]),
             ("offset", ["-1440", "1440", '"0"', "0.0", "true"]),
+            ("keep", ["0", "367", "-1", '"2"', "2.0"]),
             ("timeout", ["0", "60001", '"300"', "300.0"]),
             ("log", ['"debug"', '"Info"', "1"]),
         ]
         # (with "info" it says first what it has opened, and with "off" nothing)
         logs = {'"off"': "", '"info"': f"{begun('memory')}\n{self.in_use()}"}
+        logs |= dict.fromkeys(["1", "366"], f"[WARN  mq_program::serving] a ledger in memory forgets nothing, whatever `keep` says\n{self.in_use()}")
         for key, spellings in accepted:
             for value in spellings:
-                self.expect(f"{key} = {value}", self.text_of(**{key: value}), ACCEPTED, log=logs.get(value))
+                self.expect(f"{key} = {value}", self.text_of(**{key: value}), ACCEPTED, log=logs.get(value) if key in ("keep", "log") else None)
         for key, spellings in refused:
             for value in spellings:
                 self.expect(f"{key} = {value}", self.text_of(**{key: value}), f"setting {key}: bad value", lacks=ADDRESSES.get(value) if key == "listen" else None)

@@ -15,6 +15,7 @@ WANTED = {
     "store": "'memory' or the path of a file, in quotes",
     "default": "a whole number from 0 to 1000000",
     "offset": "a whole number of minutes from -1439 to 1439",
+    "keep": "a whole number of days from 1 to 366",
     "rule": "a zone rule of at most 64 bytes, in quotes, in place of an offset",
 }
 NOT_TOML = "settings are not TOML"

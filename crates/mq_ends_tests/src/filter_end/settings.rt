@@ -59,11 +59,14 @@ fn server_text(rt: &impl Abort, alloc: Global, settings: &ServerSettings) -> Str
         store,
         default,
         zone,
+        keep,
         timeout,
         log,
     } = settings;
     let days = zone_text(rt, alloc, zone);
-    format!(in alloc; "{listen} {store:?} {default} {days} {timeout} {log:?}").expect(rt, MEMORY)
+    format!(in alloc; "{listen} {store:?} {default} {days} {keep:?} {timeout} {log:?}").expect(
+        rt, MEMORY,
+    )
 }
 
 /// The rule of a zone, or its minutes east of UTC.
@@ -161,12 +164,12 @@ const OUTCOMES: &[(Whose, &str, &str)] = &[
     (
         Whose::Server,
         "listen = \"[::1]:7025\"\nstore = \"memory\"\ndefault = 1_000_000\noffset = -1439\nlog = \"off\"\n",
-        "[::1]:7025 Memory 1000000 -1439 2000 Off",
+        "[::1]:7025 Memory 1000000 -1439 None 2000 Off",
     ),
     (
         Whose::Server,
         "listen = \"[::1]:7025\"\nstore = \"/var/lib/mailquota/ledger\"\ndefault = 0\noffset = 0\n",
-        "[::1]:7025 File(\"/var/lib/mailquota/ledger\") 0 0 2000 Warn",
+        "[::1]:7025 File(\"/var/lib/mailquota/ledger\") 0 0 None 2000 Warn",
     ),
     (Whose::Server, "host = \"mx1\"", "setting host: unknown"),
     (
@@ -207,7 +210,7 @@ const OUTCOMES: &[(Whose, &str, &str)] = &[
     (
         Whose::Server,
         "listen = \"[::1]:7025\"\nstore = \"memory\"\ndefault = 0\nrule = \"CET-1CEST,M3.5.0,M10.5.0/3\"\n",
-        "[::1]:7025 Memory 0 CET-1CEST,M3.5.0,M10.5.0/3 2000 Warn",
+        "[::1]:7025 Memory 0 CET-1CEST,M3.5.0,M10.5.0/3 None 2000 Warn",
     ),
     (
         Whose::Server,
@@ -228,6 +231,16 @@ const OUTCOMES: &[(Whose, &str, &str)] = &[
         Whose::Server,
         "listen = \"127.0.0.1:7025\"\nstore = \"memory\"\ndefault = 0\nrule = 60",
         "setting rule: bad value",
+    ),
+    (
+        Whose::Server,
+        "listen = \"[::1]:7025\"\nstore = \"ledger\"\ndefault = 0\noffset = 0\nkeep = 366\n",
+        "[::1]:7025 File(\"ledger\") 0 0 Some(366) 2000 Warn",
+    ),
+    (
+        Whose::Server,
+        "listen = \"127.0.0.1:7025\"\nstore = \"memory\"\ndefault = 0\noffset = 0\nkeep = 0\ntimeout = 0",
+        "setting keep: bad value",
     ),
 ];
 

@@ -3,7 +3,7 @@ ghost use Rattle.std.specs.Prelude.{◌≡◌, Ok, Err, None, Some, ◌≢◌, I
 ghost use Rattle.mq_ledger.specs.Day.{ByRule, IsRule};
 ghost use Rattle.toml.specs.Data.{as_integer};
 ghost use Rattle.toml.specs.View.{view, table_view};
-ghost use Rattle.mq_settings.specs.Settings.{IsTextAt, IsHostAt, IsAddressAt, count_at, count_in, IsZoneByRule, IsZoneAt};
+ghost use Rattle.mq_settings.specs.Settings.{IsTextAt, IsHostAt, IsAddressAt, count_at, count_in, keep_at, IsZoneByRule, IsZoneAt};
 ghost use Rattle.mq_settings.specs.Settings.{level_named, level_at, zone_by_offset, IsPlaceAt};
 
 use crate::settings::address::address_flaw;
@@ -77,6 +77,19 @@ pub fn read_count(
     match value_at(table, key) {
         None => absent.ok_or(SettingsFault::Missing(key)),
         Some(value) => count_in(key, least, most, value.as_integer()),
+    }
+}
+
+/// For how many days before today the ledger keeps what it knows: all, where the key is absent.
+pub fn read_keep(table: &Table) -> Result<Option<u32>, SettingsFault>
+    ensures { result ≡ keep_at (table_view table.now) }
+{
+    match value_at(table, Key::Keep) {
+        None => Ok(None),
+        Some(value) => match count_in(Key::Keep, 1, 366, value.as_integer()) {
+            Ok(days) => Ok(Some(days)),
+            Err(fault) => Err(fault),
+        },
     }
 }
 

@@ -1,8 +1,7 @@
-use Rattle.std.proofs.Common.{Err, Ok, refl}
+use Rattle.std.proofs.Common.{Err, Ok, ap, refl}
 use Rattle.std.proofs.lemmas.Result.{err_from_is_err_and}
 use Rattle.mq_connections.specs.Sessions.{Outside}
 use Rattle.mq_connections.specs.Wires.{unknown}
-use Rattle.mq_program.specs.declared.fault.ProgramFault.TheVariants.{Listen}
 use Rattle.mq_program.proofs.ServingEnds.{ends_faulty, ends_unheard, ends_well}
 use Rattle.mq_program.proofs.serving.listen.Goals as goal
 
@@ -10,7 +9,7 @@ use Rattle.mq_program.proofs.serving.listen.Goals as goal
 pub returns-in-Err-clause-serves : goal.returns-in-Err-clause-serves
 returns-in-Err-clause-serves g c = λ k s.
     let o : Outside = record { book = g.L.Ledger.book c.args.ledger.now; told = g.L.Ledger.told c.args.ledger.now; wires = unknown } in
-    ends_unheard o (Err Listen) refl (c.nothing_is_served.ensures o (g.met.L.Ledger.sound_is_legal c.args.ledger.now s))
+    ends_unheard o (Err c.in-Err.fault) (ap Err c.in-Err.ensures) (c.nothing_is_served.ensures o (g.met.L.Ledger.sound_is_legal c.args.ledger.now s))
 
 -- the serving ended by a fault
 pub returns-in_err-_ended-clause-serves : goal.returns-in_err-_ended-clause-serves

@@ -1,0 +1,209 @@
+//! Looking out for days that are due to be forgotten.
+ghost use Rattle.std.specs.Prelude.{◌≡◌, ◌-◌, ◌*◌, ◌%◌, IfOk, IfSome};
+ghost use Rattle.std.specs.Duration.{as_nanos};
+ghost use Rattle.sqlite.specs.Held.{state};
+ghost use Rattle.mq_request.specs.Range.{IsMoment};
+ghost use Rattle.mq_store.specs.Soundness.{book_in, HasKept, IsSound};
+ghost use Rattle.mq_nights.specs.Due.{IsDue};
+ghost use Rattle.mq_nights.specs.Nights.{FindsDue};
+
+use crate::due::{Due, night_of, what_is_due};
+use log::{Log, warn};
+use mq_deadline::deadline_after;
+use mq_ledger::{Ledger, LedgerFault};
+use mq_request::bounds::{FIRST_MOMENT, LAST_MOMENT};
+use mq_store::SqlLedger;
+use sqlite::Alter;
+use std::rt::Clock;
+use std::time::{Duration, Instant, SystemTime, UNIX_EPOCH};
+
+/// The seconds until another attempt, after a fault.
+const HOUR: u64 = 3_600;
+
+/// How often it is looked whether it is night: zones are quarters of an hour apart. In seconds.
+const QUARTER: u64 = 900;
+
+/// What a lookout sees.
+#[derive(Clone, Copy, Debug, PartialEq, Eq)]
+pub enum Sight {
+    /// There is nothing to do for so long.
+    Nothing(Duration),
+    /// The days before this one are to be forgotten.
+    Before(u32),
+}
+
+/// The moment that the clock shows, in seconds since 1970-01-01T00:00:00Z, where it can be read and shows one of those of
+/// a ledger.
+fn moment_of(clock: &impl Clock) -> Option<u64>
+    ensures { IfSome result IsMoment }
+{
+    let now = SystemTime::now(clock).ok()?;
+    let moment = now.duration_since(UNIX_EPOCH).ok()?.as_secs();
+    if moment < FIRST_MOMENT || LAST_MOMENT < moment {
+        return None;
+    }
+    Some(moment)
+}
+
+/// The time until the next quarter of an hour.
+fn time_to_quarter(moment: u64) -> Duration
+    ensures { as_nanos result ≡ (900 - moment % 900) * 1_000_000_000 }
+{
+    Duration::from_secs(QUARTER - moment % QUARTER)
+}
+
+/// What is due of a ledger that keeps today and so many days before, at a moment. Nothing is written.
+pub fn due_at<S: Alter>(
+    ledger: &mut SqlLedger<S>,
+    keep: u32,
+    moment: u64,
+) -> Result<Due, LedgerFault>
+    requires { IsMoment moment }
+    ensures lent { (ledger.new.zone ≡ ledger.old.zone) × (ledger.new.default ≡ ledger.old.default) }
+    ensures kept { HasKept (state S.Store ledger.new.connection) → HasKept (state S.Store ledger.old.connection) }
+    ensures same { HasKept (state S.Store ledger.new.connection)
+        → (state S.Store ledger.new.connection).now ≡ (state S.Store ledger.old.connection).now }
+    ensures sound { HasKept (state S.Store ledger.new.connection)
+        → IsSound ledger.old.zone ledger.old.default (state S.Store ledger.old.connection)
+        → IsSound ledger.new.zone ledger.new.default (state S.Store ledger.new.connection) }
+    ensures due { HasKept (state S.Store ledger.new.connection)
+        → IsSound ledger.old.zone ledger.old.default (state S.Store ledger.old.connection)
+        → IfOk result (IsDue keep moment (book_in ledger.old.zone ledger.old.default
+        (state S.Store ledger.old.connection).now)) }
+{
+    let night = night_of(ledger.zone(), moment);
+    let reserved = ledger.days()?;
+    Ok(what_is_due(keep, night, reserved))
+}
+
+/// Looks whether days of a ledger are due to be forgotten: at once, and then each night once.
+#[derive(Drop)]
+pub struct Lookout<'a, C, G> {
+    clock: &'a C,
+    log: &'a G,
+    /// The days before today that are kept.
+    keep: u32,
+    /// The last night that has nothing left to do.
+    pub done: Option<u32>,
+    /// When it looks again.
+    next: Option<Instant>,
+}
+
+impl<'a, C: Clock, G: Log> Lookout<'a, C, G> {
+    /// So many days before today are kept, and in this night nothing is left to do.
+    pub fn new(clock: &'a C, log: &'a G, keep: u32, done: Option<u32>) -> Lookout<'a, C, G>
+        ensures { result.keep ≡ keep }
+    {
+        Lookout {
+            clock,
+            log,
+            keep,
+            done,
+            next: None,
+        }
+    }
+
+    /// How long it doesn't look yet, where it doesn't.
+    fn time_left(&self) -> Option<Duration> {
+        let left = self.next?.duration_since(Instant::now(self.clock).ok()?);
+        if left.is_zero() { None } else { Some(left) }
+    }
+
+    /// It doesn't look for so long.
+    pub fn rest(&mut self, time: Duration)
+        ensures { self.new.keep ≡ self.old.keep }
+    {
+        self.next = deadline_after(self.clock, time).ok();
+    }
+
+    /// It looks again in an hour, also in the same night.
+    pub fn rest_an_hour(&mut self) -> Duration
+        ensures { self.new.keep ≡ self.old.keep }
+    {
+        self.done = None;
+        let time = Duration::from_secs(HOUR);
+        self.rest(time);
+        time
+    }
+
+    /// There is nothing to do this night.
+    fn rest_a_night(&mut self, night: u32, moment: u64) -> Duration
+        ensures { self.new.keep ≡ self.old.keep }
+    {
+        self.done = Some(night);
+        let time = time_to_quarter(moment);
+        self.rest(time);
+        time
+    }
+
+    /// Looks at this moment.
+    fn look_at<S: Alter>(&mut self, ledger: &mut SqlLedger<S>, moment: u64) -> Sight
+        requires { IsMoment moment }
+        ensures keep { self.new.keep ≡ self.old.keep }
+        ensures lent { (ledger.new.zone ≡ ledger.old.zone) × (ledger.new.default ≡ ledger.old.default) }
+        ensures kept { HasKept (state S.Store ledger.new.connection) → HasKept (state S.Store ledger.old.connection) }
+        ensures same { HasKept (state S.Store ledger.new.connection)
+            → (state S.Store ledger.new.connection).now ≡ (state S.Store ledger.old.connection).now }
+        ensures sound { HasKept (state S.Store ledger.new.connection)
+            → IsSound ledger.old.zone ledger.old.default (state S.Store ledger.old.connection)
+            → IsSound ledger.new.zone ledger.new.default (state S.Store ledger.new.connection) }
+        ensures due { HasKept (state S.Store ledger.new.connection)
+            → IsSound ledger.old.zone ledger.old.default (state S.Store ledger.old.connection)
+            → FindsDue self.old.keep (book_in ledger.old.zone ledger.old.default
+            (state S.Store ledger.old.connection).now) result }
+    {
+        let night = night_of(ledger.zone(), moment);
+        if self.done == Some(night) {
+            return Sight::Nothing(self.rest_a_night(night, moment));
+        }
+        match due_at(ledger, self.keep, moment) {
+            Ok(Due::Before(day)) => {
+                self.done = Some(night);
+                Sight::Before(day)
+            }
+            Ok(Due::Nothing) => Sight::Nothing(self.rest_a_night(night, moment)),
+            Ok(Due::Differs { newest }) => {
+                warn!(
+                    self.log;
+                    "nothing is forgotten: it is day {night}, and something was reserved on day {newest} last"
+                );
+                Sight::Nothing(self.rest_a_night(night, moment))
+            }
+            Err(fault) => {
+                warn!(self.log; "days to be forgotten: {fault}; next attempt in an hour");
+                Sight::Nothing(self.rest_an_hour())
+            }
+        }
+    }
+
+    /// Looks whether days of a ledger are due, unless it is to rest still. Nothing is written.
+    ///
+    /// Days are due at once, or as a night begins: at 03:00, which it looks for each quarter of an hour. A night in which they
+    /// were due is done, whatever comes to earlier days later in it, from a host whose clock is slow. After a fault it rests
+    /// for an hour. Where clock and newest day differ that is logged, once a night.
+    pub fn look<S: Alter>(&mut self, ledger: &mut SqlLedger<S>) -> Sight
+        ensures keep { self.new.keep ≡ self.old.keep }
+        ensures lent { (ledger.new.zone ≡ ledger.old.zone) × (ledger.new.default ≡ ledger.old.default) }
+        ensures kept { HasKept (state S.Store ledger.new.connection) → HasKept (state S.Store ledger.old.connection) }
+        ensures same { HasKept (state S.Store ledger.new.connection)
+            → (state S.Store ledger.new.connection).now ≡ (state S.Store ledger.old.connection).now }
+        ensures sound { HasKept (state S.Store ledger.new.connection)
+            → IsSound ledger.old.zone ledger.old.default (state S.Store ledger.old.connection)
+            → IsSound ledger.new.zone ledger.new.default (state S.Store ledger.new.connection) }
+        ensures due { HasKept (state S.Store ledger.new.connection)
+            → IsSound ledger.old.zone ledger.old.default (state S.Store ledger.old.connection)
+            → FindsDue self.old.keep (book_in ledger.old.zone ledger.old.default
+            (state S.Store ledger.old.connection).now) result }
+    {
+        if let Some(left) = self.time_left() {
+            return Sight::Nothing(left);
+        }
+        match moment_of(self.clock) {
+            Some(moment) => self.look_at(ledger, moment),
+            None => {
+                warn!(self.log; "days to be forgotten: no clock; next attempt in an hour");
+                Sight::Nothing(self.rest_an_hour())
+            }
+        }
+    }
+}

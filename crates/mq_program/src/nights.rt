@@ -1,0 +1,342 @@
+//! `server` with `keep`: a ledger is served night after night, and days leave it meanwhile.
+ghost use Rattle.std.specs.Prelude.{◌≡◌, IfOk, IfSome, IsSomeAnd};
+ghost use Rattle.sqlite.specs.Held.{state};
+ghost use Rattle.mq_process.specs.Settings.{AreInRange};
+ghost use Rattle.mq_server.specs.Delivery.{HasGrown};
+ghost use Rattle.mq_store.specs.Forgetting.{IsRemembered};
+ghost use Rattle.mq_store.specs.Soundness.{book_in, HasKept, IsSound};
+
+use crate::fault::ProgramFault;
+use crate::last_night::{last_night, note_night};
+use crate::serving::{Crowd, Took, bind, log_ledger};
+use crate::store::{ledger_of_settings, log_cause, path_of};
+use crate::switching::{Names, PartStore, discard_part, make_part, switch};
+use log::{Log, info};
+use mq_connections::Connections;
+use mq_ledger::{Ledger, LedgerFault, Zone};
+use mq_nights::{NoPart, Parts, Renewed, pass_night};
+use mq_process::elapsed;
+use mq_settings::ServerSettings;
+use mq_store::SqlLedger;
+use mq_watch::Watched;
+use sqlite::{Alter, Connection, Unknown};
+use std::alloc::AllocError;
+use std::net::TcpListener;
+use std::time::{Duration, Instant};
+
+/// A ledger with the log of what comes to it.
+type Serving<'a, S, G> = Watched<'a, SqlLedger<S>, HostRuntime, G>;
+
+/// What all nights of a server have in common.
+#[derive(Drop)]
+struct Nights<'a, G> {
+    rt: &'a HostRuntime,
+    log: &'a G,
+    settings: &'a ServerSettings,
+    /// How many days before today are kept.
+    keep: u32,
+    /// The ledger's path.
+    path: &'a str,
+    /// How many connections are served in all.
+    connections: Connections,
+}
+
+/// Lets a ledger that a renewal made take the place of the former one, to which there is a connection `C`.
+trait Switch<C> {
+    /// Closes the former ledger's file once it has another name, gives that of it to the new one, and logs and notes which
+    /// days were forgotten. `zone` is the ledger's, and `began` when the renewal began.
+    fn take_place(
+        &self,
+        former: C,
+        zone: Zone,
+        day: u32,
+        began: Option<Instant>,
+    ) -> Result<(), ProgramFault>;
+}
+
+/// The ledger's file, and those beside it that renewals fill.
+struct NightFiles<'a, G> {
+    rt: &'a HostRuntime,
+    log: &'a G,
+    names: &'a Names,
+}
+
+impl<G> Clone for NightFiles<'_, G> {
+    fn clone(&self) -> Result<Self, AllocError> {
+        Ok(*self)
+    }
+}
+
+impl<G> Copy for NightFiles<'_, G> {}
+
+impl<G: Log> Parts<PartStore> for NightFiles<'_, G> {
+    fn part(&mut self) -> Result<Connection<PartStore>, NoPart> {
+        match make_part(self.rt, self.log, self.names) {
+            Ok(connection) => Ok(connection),
+            Err(_) => {
+                // (what was made of it takes room that requests may need)
+                self.discard();
+                Err(NoPart)
+            }
+        }
+    }
+
+    fn discard(&mut self) {
+        discard_part(self.rt, self.log, self.names);
+    }
+}
+
+impl<G: Log> Switch<Connection<PartStore>> for NightFiles<'_, G> {
+    fn take_place(
+        &self,
+        former: Connection<PartStore>,
+        zone: Zone,
+        day: u32,
+        began: Option<Instant>,
+    ) -> Result<(), ProgramFault> {
+        let since = Instant::now(self.rt).ok();
+        switch(self.rt, self.log, self.names, former)?;
+        let ledger = self.names.ledger.as_str();
+        let took = Took(elapsed(self.rt, began));
+        let switched = Took(elapsed(self.rt, since));
+        info!(
+            self.log;
+            "ledger {ledger}: the days before {day} are forgotten, in {took}, the last {switched} without an answer"
+        );
+        note_night(self.rt, self.log, ledger, zone, day, took);
+        Ok(())
+    }
+}
+
+/// A ledger that a renewal made.
+#[derive(Drop)]
+struct Dawn<'a, N: Alter, G> {
+    serving: Serving<'a, N, G>,
+    /// The first day that it has.
+    day: u32,
+    /// When the renewal began.
+    began: Option<Instant>,
+    /// The night, which has nothing left to do.
+    night: Option<u32>,
+}
+
+/// A night that is over: the ledger that it began with, and the one that is served from then on, if there is one.
+#[derive(Drop)]
+struct Passed<'a, S: Alter, N: Alter, G> {
+    ledger: SqlLedger<S>,
+    outcome: Result<Option<Dawn<'a, N, G>>, ProgramFault>,
+}
+
+/// The end of a night without a fault: a renewed ledger is served from then on, by who served the former one.
+fn end_night<'a, G: Log, S: Alter + Drop, N: Alter + Drop>(
+    nights: &Nights<'a, G>,
+    serving: Serving<'a, S, G>,
+    night: Option<Renewed<N>>,
+) -> Passed<'a, S, N, G>
+    ensures former { result.ledger ≡ serving.entry }
+    ensures next { IfOk result.outcome (λ dawn. IfSome dawn (λ d.
+        IsSomeAnd night (λ n. (d.serving ≡ n.ledger) × (d.day ≡ n.day)))) }
+{
+    match night {
+        Some(renewed) => {
+            let Renewed {
+                ledger,
+                day,
+                began,
+                night,
+            } = renewed;
+            let (ledger, serving) = serving.take_over(ledger);
+            let dawn = Dawn {
+                serving,
+                day,
+                began,
+                night,
+            };
+            Passed {
+                ledger,
+                outcome: Ok(Some(dawn)),
+            }
+        }
+        None => {
+            let crowd = Crowd(nights.connections);
+            info!(nights.log; "ending after {crowd}");
+            Passed {
+                ledger: serving.into_inner(),
+                outcome: Ok(None),
+            }
+        }
+    }
+}
+
+/// Serves a ledger until a renewal of it is through, or the serving is over. It goes over any stores, since a proof over the
+/// file's own takes far longer.
+fn pass<'a, G: Log, S: Alter + Drop, N: Alter + Drop, P: Parts<N> + Drop>(
+    nights: &Nights<'a, G>,
+    listener: &TcpListener,
+    done: Option<u32>,
+    parts: P,
+    serving: Serving<'a, S, G>,
+    left: &mut Connections,
+) -> Passed<'a, S, N, G>
+    ensures lent { (result.ledger.zone ≡ serving.entry.zone) × (result.ledger.default ≡ serving.entry.default) }
+    ensures kept { HasKept (state S.Store result.ledger.connection) → HasKept (state S.Store serving.entry.connection) }
+
+    // The ledger gained what was served, and nothing else.
+    ensures sound { HasKept (state S.Store result.ledger.connection)
+        → IsSound serving.entry.zone serving.entry.default (state S.Store serving.entry.connection)
+        → IsSound result.ledger.zone result.ledger.default (state S.Store result.ledger.connection) }
+    ensures grown { HasKept (state S.Store result.ledger.connection)
+        → IsSound serving.entry.zone serving.entry.default (state S.Store serving.entry.connection)
+        → HasGrown (book_in serving.entry.zone serving.entry.default (state S.Store serving.entry.connection).now)
+        (book_in result.ledger.zone result.ledger.default (state S.Store result.ledger.connection).now) }
+
+    // The next one has exactly what is remembered of it.
+    ensures next_lent { HasKept (state S.Store result.ledger.connection)
+        → IsSound serving.entry.zone serving.entry.default (state S.Store serving.entry.connection)
+        → IfOk result.outcome (λ dawn. IfSome dawn (λ d. (d.serving.zone ≡ serving.entry.zone)
+        × (d.serving.default ≡ serving.entry.default))) }
+    ensures remembered { HasKept (state S.Store result.ledger.connection)
+        → IsSound serving.entry.zone serving.entry.default (state S.Store serving.entry.connection)
+        → IfOk result.outcome (λ dawn. IfSome dawn (λ d. P.is_fresh → HasKept (state N.Store d.serving.connection)
+        → IsRemembered serving.entry.zone serving.entry.default d.day (state S.Store result.ledger.connection).now
+        (state N.Store d.serving.connection))) }
+{
+    let mut serving = serving;
+    let (rt, log) = (nights.rt, nights.log);
+    let timeout = Duration::from_millis(u64::from(nights.settings.timeout));
+    match pass_night(
+        rt,
+        log,
+        rt.alloc(),
+        listener,
+        timeout,
+        nights.keep,
+        done,
+        parts,
+        &mut serving,
+        left,
+    ) {
+        Ok(night) => end_night(nights, serving, night),
+        Err(fault) => {
+            let ledger = serving.into_inner();
+            log_cause(log, nights.path, &ledger);
+            Passed {
+                ledger,
+                outcome: Err(ProgramFault::Serve(fault)),
+            }
+        }
+    }
+}
+
+/// Serves a ledger, and each that a renewal makes of the one before.
+fn pass_nights<G: Log, N: Alter + Drop, F: Parts<N> + Switch<Connection<N>> + Copy + Drop>(
+    nights: &Nights<'_, G>,
+    listener: &TcpListener,
+    files: F,
+    ledger: SqlLedger<N>,
+) -> Result<u8, ProgramFault> {
+    let rt = nights.rt;
+    let mut left = nights.connections;
+    let mut serving = Watched::new(rt, nights.log, rt.alloc(), ledger);
+    let mut done = None;
+    // (there are fewer nights than that)
+    for _night in 0..u64::MAX {
+        let Passed { ledger, outcome } = pass(nights, listener, done, files, serving, &mut left);
+        match outcome? {
+            Some(dawn) => {
+                let zone = *ledger.zone();
+                files.take_place(ledger.into_connection(), zone, dawn.day, dawn.began)?;
+                done = dawn.night;
+                serving = dawn.serving;
+            }
+            None => return Ok(0),
+        }
+    }
+    Ok(0)
+}
+
+/// Logs from which day on a ledger has reserves, and how many before today are kept.
+fn log_keep<G: Log, S: Alter>(
+    log: &G,
+    path: &str,
+    ledger: &mut SqlLedger<S>,
+    keep: u32,
+) -> Result<(), LedgerFault> {
+    match ledger.days()? {
+        Some(days) => {
+            let oldest = days.oldest;
+            info!(log; "ledger {path}: has days from {oldest} on, keeps {keep} before today");
+        }
+        None => info!(log; "ledger {path}: keeps {keep} days before today"),
+    }
+    Ok(())
+}
+
+/// Logs what a ledger holds as a server begins with it, and listens at the address of the settings.
+fn prepare<G: Log, S: Alter>(
+    nights: &Nights<'_, G>,
+    ledger: &mut SqlLedger<S>,
+    took: Took,
+) -> Result<TcpListener, ProgramFault> {
+    let (log, settings, path) = (nights.log, nights.settings, nights.path);
+    let mut logged = log_ledger(log, settings, ledger, took);
+    if logged.is_ok() {
+        logged = log_keep(log, path, ledger, nights.keep);
+    }
+    if let Err(fault) = logged {
+        log_cause(log, path, ledger);
+        return Err(ProgramFault::Audit(fault));
+    }
+    if let Some(night) = last_night(nights.rt, path) {
+        info!(log; "ledger {path}: {night}");
+    }
+    bind(nights.rt, log, settings.listen)
+}
+
+/// Serves a ledger, and each that a renewal makes of it. The start, the end and what prevents it are logged. It goes over any
+/// store, as all above does: each way out of a function that owns a ledger over the file's own store takes long to prove.
+fn begin_nights<G: Log, N: Alter + Drop, F: Parts<N> + Switch<Connection<N>> + Copy + Drop>(
+    nights: &Nights<'_, G>,
+    files: F,
+    ledger: SqlLedger<N>,
+    took: Took,
+) -> Result<u8, ProgramFault> {
+    let mut ledger = ledger;
+    let listener = prepare(nights, &mut ledger, took)?;
+    let address = nights.settings.listen;
+    let crowd = Crowd(nights.connections);
+    info!(nights.log; "listening on {address} for {crowd}");
+    pass_nights(nights, &listener, files, ledger)
+}
+
+/// Serves so many connections over the ledger in the file of the settings, with `create` over a new one. Meanwhile days leave
+/// it, but today and so many before.
+pub fn listen_by_night<G: Log>(
+    rt: &HostRuntime,
+    log: &G,
+    settings: &ServerSettings,
+    keep: u32,
+    create: bool,
+    connections: Connections,
+) -> Result<u8, ProgramFault>
+    requires { AreInRange settings.now }
+{
+    let since = Instant::now(rt).ok();
+    let names = Names::new(rt.alloc(), path_of(settings)?)?;
+    let nights = Nights {
+        rt,
+        log,
+        settings,
+        keep,
+        path: names.ledger.as_str(),
+        connections,
+    };
+    let files = NightFiles {
+        rt,
+        log,
+        names: &names,
+    };
+    // (the files of nights have one type, and of one that a renewal makes nothing is known before)
+    let ledger = ledger_of_settings(rt, log, settings, create, Unknown)?;
+    begin_nights(&nights, files, ledger, Took(elapsed(rt, since)))
+}

@@ -1,0 +1,324 @@
+//! The switch to the ledger that a renewal made: which file takes which name, and in which order.
+//!
+//! A renewal fills `LEDGER.part`, and then that file takes the place of `LEDGER`:
+//!
+//! 1. `LEDGER` gets the name `LEDGER.old`, while it is open still, and is closed then. A `LEDGER.old-wal` is removed before.
+//! 2. `LEDGER.part` gets the name `LEDGER.next`: from then on the new ledger is whole by its name.
+//! 3. `LEDGER.part-wal` becomes `LEDGER-wal`.
+//! 4. `LEDGER.next` becomes `LEDGER`.
+//!
+//! The folder is synced after each step. So what a kill or a power cut leaves says how far it came, and there is no file
+//! `LEDGER` that could be opened beside the log of another one. Whoever opens the ledger next undoes the first step, or does
+//! the rest. The process that renews has locked the new file all the time, so nobody else does either before it has ended.
+ghost use Rattle.std.specs.Prelude.{IfOk};
+ghost use Rattle.sqlite.specs.Files.{file_state};
+ghost use Rattle.sqlite.specs.State.{HasCleanDisk};
+ghost use Rattle.mq_store.specs.Forgetting.{IsFree};
+
+use crate::fault::ProgramFault;
+use crate::last_night::drop_note;
+use crate::store::{close_file, connect_new, folder_of, make_new_file, unopened};
+use log::{Log, info, warn};
+use mq_tables::laws::empty_databases_have_no_table;
+use os::RangeLock;
+use sqlite::{Connection, FileFrom, FileStore, Start, Unknown};
+use std::alloc::{AllocError, Global};
+use std::fs::{File, OpenOptions};
+use std::io::ErrorKind;
+use std::os::fd::AsRawFd;
+use std::{fs, io};
+
+/// The bytes that SQLite locks of a database file that is open.
+const LOCK_START: u64 = 1 << 30;
+
+const LOCK_LENGTH: u64 = 512;
+
+/// The store of a ledger that a renewal makes: its file is empty before.
+pub type PartStore = FileStore<FileFrom<Unknown>>;
+
+/// The path of a ledger, and the names that a switch gives to files beside it.
+#[derive(Drop)]
+pub struct Names {
+    pub ledger: String,
+    /// The log of the ledger.
+    pub log: String,
+    /// The ledger that was served before the last switch, and a log that was left beside it by hand.
+    pub old: String,
+    pub old_log: String,
+    /// The ledger that a renewal fills, and its log.
+    pub part: String,
+    pub part_log: String,
+    /// The new ledger, which is whole.
+    pub next: String,
+}
+
+impl Names {
+    /// The names beside the path of a ledger.
+    pub fn new(alloc: Global, ledger: &str) -> Result<Names, AllocError> {
+        Ok(Names {
+            ledger: String::from_str(alloc, ledger)?,
+            log: format!(in alloc; "{ledger}-wal")?,
+            old: format!(in alloc; "{ledger}.old")?,
+            old_log: format!(in alloc; "{ledger}.old-wal")?,
+            part: format!(in alloc; "{ledger}.part")?,
+            part_log: format!(in alloc; "{ledger}.part-wal")?,
+            next: format!(in alloc; "{ledger}.next")?,
+        })
+    }
+}
+
+/// Whether there is something of this name, as far as this process may see.
+fn is_there(rt: &HostRuntime, path: &str) -> bool {
+    fs::symlink_metadata(rt, path).is_ok()
+}
+
+/// Whether there is nothing of this name.
+fn is_missing(rt: &HostRuntime, path: &str) -> bool {
+    match fs::symlink_metadata(rt, path) {
+        Ok(_) => false,
+        Err(cause) => cause.kind() == ErrorKind::NotFound,
+    }
+}
+
+/// Syncs the folder of the file at a path, so that a power cut leaves the names as they are.
+fn sync_folder(rt: &HostRuntime, path: &str) -> io::Result<()> {
+    let folder = folder_of(rt.alloc(), path)?;
+    File::open(rt, folder.as_str())?.sync_all()
+}
+
+/// Gives a file another name in its folder, and syncs that.
+fn rename(rt: &HostRuntime, from: &str, to: &str) -> io::Result<()> {
+    fs::rename(rt, from, to)?;
+    sync_folder(rt, to)
+}
+
+/// Removes a file, if it is there, and syncs its folder.
+fn remove(rt: &HostRuntime, path: &str) -> io::Result<()> {
+    if is_missing(rt, path) {
+        return Ok(());
+    }
+    fs::remove_file(rt, path)?;
+    sync_folder(rt, path)
+}
+
+/// The same; why it can't be renamed is logged.
+fn move_file<G: Log>(rt: &HostRuntime, log: &G, from: &str, to: &str) -> Result<(), ProgramFault> {
+    match rename(rt, from, to) {
+        Ok(()) => Ok(()),
+        Err(cause) => Err(unopened(log, from, cause)),
+    }
+}
+
+/// Takes the lock that a process has of a database file that it has open, for as long as the file is held. There is none
+/// where another process has it.
+fn hold(rt: &HostRuntime, path: &str) -> io::Result<Option<File>> {
+    let file = OpenOptions::new().read(true).write(true).open(rt, path)?;
+    let lock = os::try_lock_range(
+        file.as_raw_fd(),
+        RangeLock::Exclusive,
+        LOCK_START,
+        LOCK_LENGTH,
+    );
+    if lock == 0 {
+        return Ok(Some(file));
+    }
+    let cause = io::Error::from_raw_os_error(os::errno());
+    match cause.kind() {
+        ErrorKind::WouldBlock => Ok(None),
+        _ => Err(cause),
+    }
+}
+
+/// What a switch that was interrupted has left.
+#[derive(Clone, Copy, PartialEq, Eq)]
+enum Left {
+    /// There was none.
+    Nothing,
+    /// The former ledger has lost its name, and the new one isn't whole by its own.
+    Part,
+    /// The new ledger is whole, and hasn't its name yet.
+    Next,
+}
+
+/// What was left of a switch.
+fn find_left(rt: &HostRuntime, names: &Names) -> Left {
+    if !is_missing(rt, names.ledger.as_str()) {
+        return Left::Nothing;
+    }
+    if is_there(rt, names.next.as_str()) {
+        return Left::Next;
+    }
+    if is_there(rt, names.old.as_str()) && is_there(rt, names.part.as_str()) {
+        return Left::Part;
+    }
+    Left::Nothing
+}
+
+/// Does the rest of a switch from where the new ledger is whole.
+fn finish<G: Log>(rt: &HostRuntime, log: &G, names: &Names) -> Result<(), ProgramFault> {
+    // (a log that can't be looked at is never left behind: its answers would be lost)
+    if !is_missing(rt, names.part_log.as_str()) {
+        move_file(rt, log, names.part_log.as_str(), names.log.as_str())?;
+    }
+    move_file(rt, log, names.next.as_str(), names.ledger.as_str())
+}
+
+/// Gives the former ledger its name back. Its log is where it was.
+fn undo<G: Log>(rt: &HostRuntime, log: &G, names: &Names) -> Result<(), ProgramFault> {
+    move_file(rt, log, names.old.as_str(), names.ledger.as_str())
+}
+
+/// Finishes or undoes a switch that was interrupted. It is refused while the process lives that switches. The cause of
+/// `ProgramFault::Store` is logged.
+fn repair<G: Log>(rt: &HostRuntime, log: &G, names: &Names) -> Result<(), ProgramFault> {
+    let left = find_left(rt, names);
+    let new = match left {
+        Left::Nothing => return Ok(()),
+        Left::Part => names.part.as_str(),
+        Left::Next => names.next.as_str(),
+    };
+    let _held = match hold(rt, new) {
+        Ok(Some(file)) => file,
+        Ok(None) => return Err(unopened(log, new, "database is locked")),
+        Err(cause) => return Err(unopened(log, new, cause)),
+    };
+    // (another process may have been quicker)
+    if find_left(rt, names) != left {
+        return Ok(());
+    }
+    let ledger = names.ledger.as_str();
+    match left {
+        Left::Nothing => Ok(()),
+        Left::Part => {
+            info!(log; "{ledger}: an interrupted switch to a new file is undone");
+            undo(rt, log, names)
+        }
+        Left::Next => {
+            info!(log; "{ledger}: an interrupted switch to a new file is finished");
+            drop_note(rt, ledger);
+            finish(rt, log, names)
+        }
+    }
+}
+
+/// Finishes or undoes what is left of a switch to another ledger at this path, before that is opened. The cause of
+/// `ProgramFault::Store` is logged.
+pub fn repair_switch<G: Log>(rt: &HostRuntime, log: &G, ledger: &str) -> Result<(), ProgramFault> {
+    if !is_missing(rt, ledger) {
+        return Ok(());
+    }
+    repair(rt, log, &Names::new(rt.alloc(), ledger)?)
+}
+
+/// Removes what a renewal has left of its file, the log first, and a name that no switch came to use.
+fn remove_part(rt: &HostRuntime, names: &Names) -> io::Result<()> {
+    remove(rt, names.part_log.as_str())?;
+    remove(rt, names.part.as_str())?;
+    remove(rt, names.next.as_str())
+}
+
+/// Whether a rename can replace what has this name: there is nothing, or a plain file.
+fn may_replace(rt: &HostRuntime, path: &str) -> bool {
+    match fs::symlink_metadata(rt, path) {
+        Ok(found) => found.is_file(),
+        Err(cause) => cause.kind() == ErrorKind::NotFound,
+    }
+}
+
+/// Makes the file of a new ledger, in place of one that was left, and opens it. There is none where a rename couldn't give the
+/// names at the end, or would replace a link. The cause of `ProgramFault::Store` is logged.
+pub fn make_part<G: Log>(
+    rt: &HostRuntime,
+    log: &G,
+    names: &Names,
+) -> Result<Connection<PartStore>, ProgramFault>
+    ensures { IfOk result (λ c. HasCleanDisk (file_state c) → IsFree (file_state c).now) }
+{
+    empty_databases_have_no_table();
+    let part = names.part.as_str();
+    for name in [names.ledger.as_str(), names.old.as_str()] {
+        if !may_replace(rt, name) {
+            return Err(unopened(log, name, "not a plain file"));
+        }
+    }
+    if let Err(cause) = remove_part(rt, names) {
+        return Err(unopened(log, part, cause));
+    }
+    make_new_file(rt, log, part)?;
+    if let Err(cause) = sync_folder(rt, part) {
+        return Err(unopened(log, part, cause));
+    }
+    let connection = connect_new(rt, log, part, Unknown)?;
+    Ok(connection)
+}
+
+/// Removes the file of a renewal that failed. One that can't be removed is logged.
+pub fn discard_part<G: Log>(rt: &HostRuntime, log: &G, names: &Names) {
+    if let Err(cause) = remove_part(rt, names) {
+        log_left(log, names, cause);
+    }
+}
+
+/// Logs that what a renewal left can't be removed.
+fn log_left<G: Log>(log: &G, names: &Names, cause: io::Error) {
+    let part = names.part.as_str();
+    warn!(log; "{part}, which a renewal left: {cause}");
+}
+
+/// Removes the file of a renewal that was interrupted, now that this process has the ledger. It stays where another process has
+/// it open.
+fn clear(rt: &HostRuntime, names: &Names) -> io::Result<()> {
+    if is_missing(rt, names.part.as_str()) {
+        return Ok(());
+    }
+    match hold(rt, names.part.as_str())? {
+        Some(_held) => remove_part(rt, names),
+        None => Ok(()),
+    }
+}
+
+/// Removes the file of a renewal that was interrupted, once the ledger at this path is open. One that can't be removed is
+/// logged, and does no harm.
+pub fn clear_part<G: Log>(rt: &HostRuntime, log: &G, ledger: &str) {
+    let Ok(names) = Names::new(rt.alloc(), ledger) else {
+        return;
+    };
+    if let Err(cause) = clear(rt, &names) {
+        log_left(log, &names, cause);
+    }
+}
+
+/// Removes a log that a `forget` by hand has left: it is of an earlier file than the one that gets the name beside it. One
+/// that can't be removed is logged.
+fn remove_old_log<G: Log>(rt: &HostRuntime, log: &G, names: &Names) {
+    let old_log = names.old_log.as_str();
+    if let Err(cause) = remove(rt, old_log) {
+        warn!(log; "{old_log}: {cause}");
+    }
+}
+
+/// Looks whether the new ledger and its log still have their names, before the former one loses its own.
+fn check_part<G: Log>(rt: &HostRuntime, log: &G, names: &Names) -> Result<(), ProgramFault> {
+    for name in [names.part.as_str(), names.part_log.as_str()] {
+        if !is_there(rt, name) {
+            return Err(unopened(log, name, "it was removed"));
+        }
+    }
+    Ok(())
+}
+
+/// Lets the new ledger, which this process has open, take the place of the one that this connection is to. The cause of
+/// `ProgramFault::Store` is logged; the next start then does the rest.
+pub fn switch<G: Log, S: Start>(
+    rt: &HostRuntime,
+    log: &G,
+    names: &Names,
+    old: Connection<FileStore<FileFrom<S>>>,
+) -> Result<(), ProgramFault> {
+    check_part(rt, log, names)?;
+    remove_old_log(rt, log, names);
+    move_file(rt, log, names.ledger.as_str(), names.old.as_str())?;
+    close_file(log, names.old.as_str(), old)?;
+    move_file(rt, log, names.part.as_str(), names.next.as_str())?;
+    finish(rt, log, names)
+}

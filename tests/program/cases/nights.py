@@ -1,0 +1,789 @@
+"""`server` with `keep`: days leave the ledger while it is served. What a kill leaves at each step of the switch to the new file, and who repairs it; a new
+file that can't be made, or on a full disk; clocks that differ, and jump; `status` and `audit` beside a renewal; filters of two hosts over ten nights.
+
+What is kept is said by the ledger of tests/model. The new file has each of the names that docs/OPERATING.md has for it.
+"""
+import collections
+import fcntl
+import itertools
+import os
+import random
+import re
+import shutil
+import threading
+import time
+
+import clocks
+import wire
+from books import Books
+from cases.audits import audit
+from cases.costs import Noted
+from cases.damage import sound
+from cases.failures import Disk, can_mount
+from cases.filters import LIMIT, PROCEED
+from ends import (
+    LOCKED, LONG, NO_FILE, SECONDS, Server, copied, fault, ledger_settings, of_store, wait_past_midnight, wait_until
+)
+from random_inputs import body
+from rows import rows_in, same_rows
+from smtpd import Smtpd, result
+
+DAY = 86_400
+DEFAULT = 1_000
+# days before today that are kept
+KEEP = 2
+# answers of a file whose renewal takes long enough to be looked at
+MANY = 1_200
+NOT_OPENED = "store can't be opened"
+# the bytes that are locked of a database that is open
+LOCK = 1 << 30, 512
+RENAMES = 4
+# the numbers of pwrite64(2), pwritev(2), ftruncate(2), rename(2) and unlink(2), and at how many of
+# their calls a server is killed
+CHANGES, KILLS = (18, 296, 77, 82, 87), 8
+
+
+def run(world, checks):
+    wait_past_midnight()
+    forgets_at_a_start(world, checks)
+    repairs(world, checks)
+    leaves_what_is_locked(world, checks)
+    counts_on(world, checks)
+    clocks_that_differ(world, checks)
+    no_new_file(world, checks)
+    beside_a_renewal(world, checks)
+    killed_at_a_rename(world, checks)
+    killed_at_a_change(world, checks)
+    wrong_clocks(world, checks)
+    ten_nights(world, checks)
+    random_histories(world, checks)
+    on_full_disks(world, checks)
+
+
+def today():
+    return int(time.time()) // DAY
+
+
+def first_day():
+    """The first day that is kept where something was reserved today: a night begins at 03:00."""
+    return min((int(time.time()) - 10_800) // DAY, today()) - KEEP
+
+
+def days_of(number):
+    """One day of the last six, by the number of a request."""
+    return today() - number % 6
+
+
+def request(number, day, host=b"mx1"):
+    return wire.reserve(number, txn=number, login=b"u%d" % (number % 40), at=day * DAY + number, host=host)
+
+
+def requests(count):
+    """Reserves of six days and some of their closings, and limits."""
+    made = [request(number, days_of(number)) for number in range(1, count + 1)]
+    made += [wire.settle(count + number, txn=number, login=b"u%d" % (number % 40), at=days_of(number) * DAY + number, host=b"mx1") for number in range(1, count, 3)]
+    return made + [wire.limit(number, today() - number % 6, 50 + number, login=b"u%d" % number, host=b"adm") for number in range(1, 12)]
+
+
+def whole_reply(back):
+    """The next reply of a connection, where the whole of it comes."""
+    try:
+        head = back.read(2)
+        reply = back.read(int.from_bytes(head, "big"))
+    except OSError:
+        return b""
+    return head + reply if len(head) == 2 and len(reply) == int.from_bytes(head, "big") else b""
+
+
+def asked(server, frames):
+    """The replies to these frames on one connection, as far as they come."""
+    came = []
+    try:
+        with server.connect() as peer, peer.makefile("rb") as back:
+            for frame in frames:
+                peer.sendall(frame)
+                if not (reply := whole_reply(back)):
+                    break
+                came.append(reply)
+    except OSError:
+        pass
+    return came
+
+
+def filled(world, path, count=60):
+    """A file whose server took requests of six days and was killed, so that its log has commits; gives the books."""
+    books, frames = Books(0, DEFAULT), requests(count)
+    with Server(world, words=["--create"], store=path, default=DEFAULT) as server:
+        came = server.ask(b"".join(frames))
+        server.process.kill()
+        server.status()
+    assert came == b"".join(map(books.serve, frames))
+    return books
+
+
+def nightly(world, path, **more):
+    return Server(world, **{"store": path, "default": DEFAULT, "keep": KEEP, "log": "info", **more})
+
+
+def is_through(server):
+    return any("are forgotten" in line for line in server.all_log_lines())
+
+
+def names(path):
+    """What stands beside a ledger."""
+    folder, name = os.path.split(path)
+    return sorted(it.removeprefix(name) for it in os.listdir(folder) if it == name or it.startswith((f"{name}-", f"{name}.")) and not it.endswith((".read", ".read-wal", ".read-shm")))
+
+
+# after a switch, and where a night was over then
+SWITCHED = ["", "-wal", ".old"]
+NOTED = ["", "-wal", ".night", ".old"]
+
+
+def forgets_at_a_start(world, checks):
+    """A client asks all the time, over a file that has days to be forgotten."""
+    path = f"{world.folder}/start"
+    old, sent, day = filled(world, path), [], first_day()
+    before = list(old.answers)
+    # (as `forget` by hand leaves one: the former ledger gets the name beside it)
+    shutil.copy(f"{path}-wal", f"{path}.old-wal")
+    with nightly(world, path) as server:
+        number = 1_000
+        while not is_through(server) and number < 100_000:
+            number += 1
+            frame = request(number, today() - number % 2, host=b"mx2")
+            sent += [(frame, it) for it in asked(server, [frame])]
+        after = [request(number + more, today(), host=b"mx2") for more in range(1, 20)]
+        later = asked(server, after)
+        checks.equal("a start: replies while days are forgotten", [reply for _, reply in sent], [old.serve(frame) for frame, _ in sent])
+        books = old.remembered(day)
+        checks.equal("a start: replies after it", later, [books.serve(it) for it in after])
+        checks.equal("a start: a number that was forgotten is new", len(books.answers) < len(old.answers) + len(after), True)
+        again = [frame for frame, _ in sent] + [b"".join([wire.number(len(body), 2), body]) for _, body, _ in before]
+        checks.equal("a start: each number again", asked(server, again), [books.serve(it) for it in again])
+        lines = [line for line in server.log_lines() if "are forgotten" in line]
+        checks.holds("a start: what is logged", len(lines) == 1 and f"the days before {day} " in lines[0], "one line with the day", lines)
+        server.process.kill()
+        server.status()
+    checks.equal("a start: files", names(path), NOTED)
+    is_noted(world, checks, path, day)
+    same_rows(checks, "a start", path, books)
+    checks.equal("a start: audit", audit(world, path, default=DEFAULT), sound(books))
+    checks.equal("a start: audit of the former file", audit(world, f"{path}.old", default=DEFAULT)[0], 0)
+
+
+def is_noted(world, checks, path, day):
+    """The last night is noted beside the ledger, for `status` and a later start. Who may not read the note does without."""
+    with open(f"{path}.night", encoding="ascii") as file:
+        note = file.read()
+    good = re.fullmatch(rf"forgot the days before {day} on day {today()}, in \d+ ms\n", note)
+    checks.holds("a night's note", good, "which days, on which one, how long", note)
+    line = f"ledger {path}: {note}"
+    config = ledger_settings(world, path, default=DEFAULT)
+    came = world.run("status", "--config", config)
+    checks.equal("a night's note: status, where nobody answers", (came[0], came[1].endswith(line.encode())), (3, True))
+    with nightly(world, path) as server:
+        asked(server, [wire.page()])
+        config = ledger_settings(world, path, default=DEFAULT, listen=server.address, timeout=LONG)
+        came = world.run("status", "--config", config)
+        checks.equal("a night's note: status of a server", (came[0], came[1].endswith(b"\n" + line.encode())), (0, True))
+        told = [it for it in server.all_log_lines() if it.endswith(line.rstrip("\n"))]
+        checks.holds("a night's note: a start", len(told) == 1, "a line of the log", told)
+    os.rename(f"{path}.night", f"{path}.kept")
+    os.mkdir(f"{path}.night")
+    came = world.run("status", "--config", ledger_settings(world, path, default=DEFAULT))
+    checks.equal("a night's note that can't be read: status", (came[0], b"forgot" in came[1]), (3, False))
+    os.rmdir(f"{path}.night")
+    os.rename(f"{path}.kept", f"{path}.night")
+
+
+# ---- what a kill leaves
+
+def two_files(world):
+    """A ledger and the one that a renewal made of it, each with commits in its log, and their books."""
+    old, new = f"{world.folder}/two-old", f"{world.folder}/two-new"
+    books = filled(world, old)
+    settings = ledger_settings(world, old, default=DEFAULT)
+    came = world.run("forget", "--config", settings, "--before", str(first_day()), "--into", new)
+    assert came[0] == 0, came
+    kept = books.remembered(first_day())
+    frames = [request(number, today(), host=b"mx3") for number in range(1, 30)]
+    with Server(world, store=new, default=DEFAULT) as server:
+        assert asked(server, frames) == [kept.serve(it) for it in frames]
+        server.process.kill()
+        server.status()
+    closed = f"{world.folder}/two-closed"
+    shutil.copy(old, closed)
+    shutil.copy(f"{old}-wal", f"{closed}-wal")
+    came = world.run("audit", "--config", ledger_settings(world, closed, default=DEFAULT))
+    assert came[0] == 0, came
+    return old, closed, new, books, kept
+
+
+# of each state: what stands where, by the names of `two_files`, whether the former ledger is opened then, and what is left beside it
+STATES = {
+    "while the new file is filled": ({"": "old", "-wal": "old-wal", ".part": "new", ".part-wal": "new-wal"}, True, ["", "-wal"]),
+    "a new file without a log": ({"": "old", "-wal": "old-wal", ".part": "new"}, True, ["", "-wal"]),
+    "a log without its new file": ({"": "old", "-wal": "old-wal", ".part-wal": "new-wal"}, True, ["", "-wal", ".part-wal"]),
+    "after the first step": ({".old": "old", "-wal": "old-wal", ".part": "new", ".part-wal": "new-wal"}, True, ["", "-wal"]),
+    "after the second": ({".old": "old", "-wal": "old-wal", ".next": "new", ".part-wal": "new-wal"}, False, SWITCHED),
+    "after the third": ({".old": "old", "-wal": "new-wal", ".next": "new"}, False, SWITCHED),
+    "after the last": ({"": "new", "-wal": "new-wal", ".old": "old"}, False, SWITCHED),
+}
+OPENERS = {
+    "limits": lambda world, config, _: world.run("limits", "--config", config)[0],
+    "status": lambda world, config, _: world.run("status", "--config", config)[0] - 3,
+    "forget": lambda world, config, into: world.run("forget", "--config", config, "--before", "1", "--into", into)[0],
+    "a server": lambda world, config, _: world.run("server", "--config", config, "--connections", "1")[0] - 1,
+}
+
+
+def put(folder, files, sources):
+    """Puts what a kill left into a new folder; gives the path of the ledger."""
+    os.mkdir(folder)
+    for end, name in files.items():
+        source, _, log = name.partition("-")
+        shutil.copy(f"{sources[source]}{'-wal' if log else ''}", f"{folder}/ledger{end}")
+    return f"{folder}/ledger"
+
+
+def repairs(world, checks):
+    old, closed, new, books, kept = two_files(world)
+    place = 0
+    for row, (state, (files, is_former, left)) in enumerate(STATES.items()):
+        sources = {"old": closed if state == "after the second" else old, "new": new}
+        for opener, opens in OPENERS.items() if state in ("after the first step", "after the second") else ():
+            place += 1
+            what, path = f"{state}: {opener}", put(f"{world.folder}/opened{place}", files, sources)
+            with Taken() as address:
+                config = ledger_settings(world, path, default=DEFAULT, listen=address if opener == "a server" else "127.0.0.1:1")
+                checks.equal(f"{what}: its status, and files", (opens(world, config, f"{world.folder}/into{place}"), names(path)), (0, left))
+        what, path = f"{state}: audit", put(f"{world.folder}/state{row}", files, sources)
+        checks.equal(what, audit(world, path, default=DEFAULT), sound(books if is_former else kept))
+        checks.equal(f"{what}: files", names(path), left)
+        same_rows(checks, what, path, books if is_former else kept)
+    alone = put(f"{world.folder}/alone", {".old": "old"}, {"old": old})
+    came = world.run("audit", "--config", ledger_settings(world, alone, default=DEFAULT))
+    checks.equal("a former file alone: audit", came, fault(NOT_OPENED, log=of_store(alone, NO_FILE)))
+    checks.equal("a former file alone: files", names(alone), [".old"])
+    beside = put(f"{world.folder}/beside", STATES["after the third"][0], {"old": old, "new": new})
+    came = world.run("init", "--config", ledger_settings(world, beside, default=DEFAULT))
+    checks.equal("after the third: init, which makes none over it", (came[0], names(beside)), (1, SWITCHED))
+    same_rows(checks, "after the third: init", beside, kept)
+
+
+class Taken:
+    """An address at which another process listens, so that a server ends before it serves."""
+
+    def __enter__(self):
+        import socket
+        self.listening = socket.create_server(("127.0.0.1", 0))
+        return f"127.0.0.1:{self.listening.getsockname()[1]}"
+
+    def __exit__(self, *_):
+        self.listening.close()
+
+
+def leaves_what_is_locked(world, checks):
+    """While the process lives that switches, nobody else touches its files."""
+    old, new = f"{world.folder}/two-old", f"{world.folder}/two-new"
+    for state, locked in [("after the first step", ".part"), ("after the second", ".next"), ("after the third", ".next")]:
+        what = f"{state}, in another process"
+        path = put(f"{world.folder}/locked{locked}{state[-3:]}", STATES[state][0], {"old": old, "new": new})
+        before = names(path)
+        with open(path + locked, "r+b") as file:
+            fcntl.lockf(file, fcntl.LOCK_EX | fcntl.LOCK_NB, LOCK[1], LOCK[0])
+            came = world.run("audit", "--config", ledger_settings(world, path, default=DEFAULT))
+            checks.equal(f"{what}: audit", came, fault(NOT_OPENED, log=of_store(path + locked, LOCKED)))
+            checks.equal(f"{what}: files", names(path), before)
+        checks.equal(f"{what}, which has ended: audit", audit(world, path, default=DEFAULT)[0], 0)
+    what = "a new file that another process has open"
+    path = put(f"{world.folder}/held", STATES["while the new file is filled"][0], {"old": old, "new": new})
+    with open(f"{path}.part", "r+b") as file:
+        fcntl.lockf(file, fcntl.LOCK_EX | fcntl.LOCK_NB, LOCK[1], LOCK[0])
+        checks.equal(f"{what}: audit", audit(world, path, default=DEFAULT)[0], 0)
+        checks.equal(f"{what}: files", names(path), ["", "-wal", ".part", ".part-wal"])
+
+
+# ---- servers
+
+def counts_on(world, checks):
+    """A server ends after so many connections, whether days were forgotten between them or not."""
+    path = f"{world.folder}/counted"
+    books = filled(world, path)
+    with nightly(world, path, connections=5) as server:
+        came = asked(server, [request(900, today())])
+        good = wait_until(lambda: is_through(server))
+        came += [it for number in range(901, 905) for it in asked(server, [request(number, today())])]
+        checks.equal("five connections: days were forgotten, and the status", (good, server.status()), (True, 0))
+    checks.equal("five connections: replies", came, [books.serve(request(number, today())) for number in range(900, 905)])
+    with nightly(world, path) as server:
+        checks.equal("five connections, then a start without days to be forgotten: files", (len(asked(server, [wire.page()])), names(path)), (1, NOTED))
+
+
+def clocks_that_differ(world, checks):
+    for what, newest in [("four days ago", today() - 4), ("in five days", today() + 5)]:
+        path, what = f"{world.folder}/clock{newest}", f"a newest day {what}"
+        books, frames = Books(0, DEFAULT), [request(number, newest - number % 9) for number in range(1, 40)]
+        with Server(world, words=["--create"], store=path, default=DEFAULT) as server:
+            assert asked(server, frames) == [books.serve(it) for it in frames]
+        with nightly(world, path) as server:
+            checks.equal(f"{what}: replies", asked(server, frames), [books.serve(it) for it in frames])
+            lines = [line for line in server.log_lines() if line.startswith("[WARN  mq_nights::")]
+            good = len(lines) == 1 and "nothing is forgotten" in lines[0] and str(newest) in lines[0]
+            checks.holds(f"{what}: what is logged", good, "once, that nothing is forgotten, with the newest day", lines)
+        checks.equal(f"{what}: files", names(path), ["", "-wal"])
+        same_rows(checks, what, path, books)
+
+
+def no_new_file(world, checks):
+    """A folder has the name of the new file: the server goes on, and days stay."""
+    path = f"{world.folder}/none"
+    books = filled(world, path)
+    os.mkdir(f"{path}.part")
+    with nightly(world, path) as server:
+        frames = [request(number, today(), host=b"mx2") for number in range(1, 30)]
+        checks.equal("no new file: replies", asked(server, frames), [books.serve(it) for it in frames])
+        lines = [line for line in server.log_lines() if line.startswith(("[WARN", "[ERROR"))]
+        good = any(f"{path}.part: " in line for line in lines) and any("next attempt in an hour" in line for line in lines)
+        checks.holds("no new file: what is logged", good and len(lines) == 4, "why, at each step, and the next attempt", lines)
+    os.rmdir(f"{path}.part")
+    same_rows(checks, "no new file", path, books)
+    checks.equal("no new file: files", names(path), ["", "-wal"])
+    os.mkdir(f"{path}.old")
+    with nightly(world, path) as server:
+        checks.equal("no other name for the former file: replies", asked(server, frames), [books.serve(it) for it in frames])
+        lines = [line for line in server.log_lines() if line.startswith(("[WARN", "[ERROR"))]
+        good = any(f"{path}.old: not a plain file" in line for line in lines) and any("next attempt in an hour" in line for line in lines)
+        checks.holds("no other name for the former file: what is logged", good and len(lines) == 2, "why, and the next attempt", lines)
+    os.rmdir(f"{path}.old")
+    checks.equal("no other name for the former file: files", names(path), ["", "-wal"])
+    link = f"{world.folder}/link"
+    os.symlink(path, link)
+    with nightly(world, link) as server:
+        checks.equal("a link: replies", asked(server, frames), [books.serve(it) for it in frames])
+        lines = [line for line in server.log_lines() if line.startswith("[ERROR")]
+        checks.holds("a link: what is logged", len(lines) == 1 and f"{link}: not a plain file" in lines[0], "why", lines)
+    checks.equal("a link: files", (names(path), os.path.islink(link)), (["", "-wal"], True))
+
+
+def beside_a_renewal(world, checks):
+    path = f"{world.folder}/beside-it"
+    books = filled(world, path, MANY)
+    with nightly(world, path) as server:
+        good = wait_until(lambda: os.path.exists(f"{path}.part-wal"))
+        config = ledger_settings(world, path, default=DEFAULT, listen=server.address, timeout=LONG)
+        came = [world.run(word, "--config", config) for word in ("status", "audit")]
+        there = os.path.exists(f"{path}.part")
+        is_early = not is_through(server)
+        checks.equal("a renewal: it goes on, and its file is there", (good, is_early, there), (True, True, True))
+        checks.equal("a renewal: status", came[0][0], 0)
+        checks.equal("a renewal: audit", came[1], fault(NOT_OPENED, log=of_store(path, LOCKED)))
+        checks.holds("a renewal: then it is through", wait_until(lambda: is_through(server)), "a line of the log", server.log_lines()[-2:])
+        came = world.run("audit", "--config", config)
+        checks.equal("after a renewal: audit", came, fault(NOT_OPENED, log=of_store(path, LOCKED)))
+    same_rows(checks, "after a renewal", path, books.remembered(first_day()))
+
+
+class Client(threading.Thread):
+    """Asks one number after the other until nobody answers, each again until its reply was read. It
+    keeps what it read, and what it asked last."""
+
+    def __init__(self, server):
+        super().__init__(daemon=True)
+        self.server, self.read, self.last = server, [], None
+
+    def run(self):
+        for number in range(2_000, 100_000):
+            self.last = request(number, today() - number % 2, host=b"mx4")
+            while not (came := asked(self.server, [self.last])):
+                if self.server.process.poll() is not None:
+                    return
+            self.read.append((self.last, came[0]))
+
+
+def killed_at_a_rename(world, checks):
+    """The server is killed as it is about to rename a file, each time with another one."""
+    if not shutil.which("strace"):
+        checks.skip("killed at a rename", "there is no strace here")
+        return
+    for place in range(1, RENAMES + 1):
+        what, path = f"killed before rename {place}", f"{world.folder}/rename{place}"
+        filled(world, path)
+        with nightly(world, path, limit=("strace", f"rename,renameat,renameat2:signal=KILL:when={place}")) as server:
+            client = Client(server)
+            client.start()
+            try:
+                server.status()
+            finally:
+                server.process.kill()
+            client.join(timeout=SECONDS)
+        left = names(path)
+        with nightly(world, path) as server:
+            frames = [frame for frame, _ in client.read]
+            checks.equal(f"{what}: each reply again, with {' '.join(left)} there", asked(server, frames), [reply for _, reply in client.read])
+            good = place > 2 or wait_until(lambda: is_through(server))
+            checks.equal(f"{what}: then days are forgotten, and again", (good, asked(server, frames)), (True, [reply for _, reply in client.read]))
+        checks.equal(f"{what}: files then", names(path), NOTED if place <= 2 else SWITCHED)
+        checks.equal(f"{what}: audit", audit(world, path, default=DEFAULT)[0], 0)
+
+
+def is_renewed(server):
+    """Whether days were forgotten, by this server or by one before it."""
+    begun = f"has days from {first_day()} on"
+    return is_through(server) or any(begun in line for line in server.all_log_lines())
+
+
+def changes_of_a_night(world, source):
+    """How many calls change files from a server's start to its night's end, while a client asks."""
+    noted = Noted(world)
+    path = copied(source, f"{world.folder}/counted-night")
+    with nightly(world, path, limit=noted.limit) as server:
+        client = Client(server)
+        client.start()
+        assert wait_until(lambda: is_through(server)), server.all_log_lines()
+        server.process.kill()
+        server.status()
+        client.join(timeout=SECONDS)
+    return sum(call.number in CHANGES for call in noted.calls())
+
+
+def killed_at_a_change(world, checks, kills=KILLS):
+    """The server is killed as it is about to write or cut a file, to rename or to remove one: at so
+    many of these calls, or at each."""
+    source = f"{world.folder}/to-be-killed"
+    filled(world, source)
+    count = changes_of_a_night(world, source)
+    places = range(count) if kills is None else {count * kill // kills for kill in range(kills)}
+    left = collections.Counter(killed_at(world, checks, source, place) for place in sorted(places))
+    what = f"killed at {len(places)} of {count} changes of files: what was left"
+    checks.holds(what, len(left) > 1, "files of several steps", sorted(left.items()))
+
+
+def killed_at(world, checks, source, place):
+    """The files that a server leaves which is killed at the change after so many. The next one
+    answers as if nothing had been."""
+    what, path = f"killed at change {place}", f"{world.folder}/killed{place}"
+    books = Books(0, DEFAULT)
+    for frame in requests(60):
+        books.serve(frame)
+    limit = "killed", ",".join(map(str, [*CHANGES, place]))
+    with nightly(world, copied(source, path), limit=limit) as server:
+        client = Client(server)
+        client.start()
+        # (where it made fewer changes this time, it is killed after its night)
+        wait_until(lambda: server.process.poll() is not None or is_through(server) and client.read[20:])
+        server.process.kill()
+        server.status()
+        client.join(timeout=SECONDS)
+    left = " ".join(names(path))
+    frames = [frame for frame, _ in client.read] + [client.last]
+    wanted = [books.serve(frame) for frame in frames]
+    with nightly(world, path) as server:
+        came = asked(server, frames)
+        good = wait_until(lambda: is_renewed(server))
+        found = [reply for _, reply in client.read], came, good, asked(server, frames)
+        checks.equal(f"{what}, with {left} there: replies, those then, and once days are forgotten",
+                     found, (wanted[:-1], wanted, True, wanted))
+        server.process.kill()
+        server.status()
+    same_rows(checks, what, path, books.remembered(first_day()))
+    checks.equal(f"{what}: audit", audit(world, path, default=DEFAULT)[0], 0)
+    return left
+
+
+# ---- by a clock that is set
+
+def by_clock(world, path, moment, **more):
+    """A server whose clock shows this moment, and the clock."""
+    ahead = int(moment - time.time())
+    server = nightly(world, path, limit=clocks.limit(ahead), **more)
+    return server, clocks.Clock(server.process.pid, ahead)
+
+
+def due(books, night):
+    """The day from which on is kept, as a night begins, where one before it is there."""
+    days = [day for _, day in books.usage]
+    if not days or abs(night - max(days)) > 1:
+        return None
+    first = min(night, max(days)) - KEEP
+    return first if min(days) < first else None
+
+
+def forgotten_from(server):
+    """The days before which was forgotten, night after night."""
+    lines = [line for line in server.all_log_lines() if "are forgotten" in line]
+    return [int(line.partition("the days before ")[2].split()[0]) for line in lines]
+
+
+def warnings(server):
+    return [line for line in server.log_lines() if line.startswith("[WARN  mq_nights::")]
+
+
+def wrong_clocks(world, checks):
+    """The server's clock jumps ten years ahead and back, and ten years back: nothing is forgotten,
+    and each request answered as before. By a right clock days are forgotten as ever."""
+    what, path, day = "a clock that jumps", f"{world.folder}/jumps", today()
+    books, sent = Books(0, DEFAULT), itertools.count(1)
+
+    def ask(of, clock_shows):
+        frames = [request(next(sent), of, host=b"mx5"), wire.usage(b"u1", day), wire.page(b"", day - 2)]
+        wanted = [books.serve(it) for it in frames]
+        checks.equal(f"{what}: replies as it shows {clock_shows}", asked(server, frames), wanted)
+
+    with Server(world, words=["--create"], store=path, default=DEFAULT) as server:
+        frames = [request(number, day - number % (KEEP + 1)) for number in range(1, 80)]
+        assert asked(server, frames) == [books.serve(it) for it in frames]
+    server, clock = by_clock(world, path, DAY * day + 43_200)
+    with server:
+        ask(day, "the right day")
+        for years in (10, -10):
+            before = len(warnings(server))
+            for hour in range(1, 4):
+                clock.jump_to(DAY * (day + 365 * years) + 43_200)
+                clock.pass_to(DAY * (day + 365 * years) + 43_200 + 3_600 * hour)
+                ask(day, f"{years} years more")
+            lines = warnings(server)[before:]
+            words = "nothing is forgotten", f" {day}", f" {day + 365 * years}"
+            good = len(lines) == 1 and all(it in lines[0] for it in words)
+            checks.holds(f"{what} by {years} years: what is logged", good, "one line, both days", lines)
+            clock.jump_to(DAY * day + 60_000)
+            ask(day, "the right day again")
+        came = forgotten_from(server), names(path)
+        checks.equal(f"{what}: what was forgotten meanwhile, and files", came, ([], ["", "-wal"]))
+        clock.pass_to(DAY * (day + 1) + 3_600)
+        ask(day + 1, "the next day")
+        clock.pass_to(DAY * (day + 1) + 10_860)
+        first = due(books, day + 1)
+        ask(day + 1, "03:01")
+        came = wait_until(lambda: is_through(server)), forgotten_from(server)
+        checks.equal(f"{what}: then a day is forgotten", came, (True, [first]))
+        books = books.remembered(first)
+        ask(day + 1, "03:01, and a day is forgotten")
+        server.process.kill()
+        server.status()
+    same_rows(checks, what, path, books)
+
+
+# ---- two hosts over ten nights
+
+NIGHTS, MAIL_LOGINS, LIMIT_OF_A_LOGIN = 10, 5, 6
+
+
+class Mail:
+    """What one host's filter is told of one message, and what it answers."""
+
+    def __init__(self, host, at, login, place):
+        self.host, self.at, self.login = host, at, login
+        self.session, self.message = b"%016x" % place, b"%08x" % place
+        self.granted = 0
+        host.login(at, self.session, login)
+        host.begin(at, self.session, self.message)
+
+    def recipient(self, used, at):
+        """Its answer, and the one that it has by what the login used on the day on which the
+        message began."""
+        key = self.login, self.at // DAY
+        is_granted = used[key] < LIMIT_OF_A_LOGIN
+        used[key] += is_granted
+        self.granted += is_granted
+        wanted = result(PROCEED if is_granted else LIMIT, self.session)
+        return self.host.recipient(at, self.session), wanted
+
+    def end(self, used, at, is_committed):
+        if is_committed:
+            self.host.commit(at, self.session, self.message)
+        else:
+            self.host.report(at, b"tx-rollback", self.session, self.message)
+            self.host.report(at, b"tx-reset", self.session, self.message)
+            used[self.login, self.at // DAY] -= self.granted
+        return self.host.is_done()
+
+
+def ten_nights(world, checks):
+    """Messages of two hosts, of which some are open while a day is forgotten, get the answers that
+    they get without nights."""
+    what, path, first = "two hosts over ten nights", f"{world.folder}/ten", today()
+    dice, used, pairs, places = random.Random(10), collections.Counter(), [], itertools.count(1)
+    new = {"words": ["--create"], "default": LIMIT_OF_A_LOGIN}
+    server, clock = by_clock(world, path, DAY * first + 7_200, **new)
+
+    def mail():
+        login = b"u%d" % dice.randrange(MAIL_LOGINS)
+        return Mail(dice.choice(hosts), int(clock.now()), login, next(places))
+
+    def recipients(mails, count=1):
+        return [it.recipient(used, int(clock.now())) for it in mails for _ in range(count)]
+
+    def ended(mails):
+        return [it.end(used, int(clock.now()), dice.random() < 0.5) for it in mails]
+
+    with server:
+        hosts, wanted = [Smtpd(world, name, server.address) for name in ("mx1", "mx2")], []
+        for day in range(first, first + NIGHTS):
+            clock.pass_to(DAY * day + 7_200)
+            over_night = [mail() for _ in range(4)]
+            pairs += recipients(over_night, 2)
+            clock.pass_to(DAY * day + 10_830)
+            wanted += [day - KEEP] if day - first > KEEP else []
+            pairs += recipients(over_night)
+            while len(forgotten_from(server)) < len(wanted) and server.process.poll() is None:
+                meanwhile = [mail()]
+                pairs += recipients(meanwhile, dice.randint(1, 3))
+                ended(meanwhile)
+            pairs += recipients(over_night)
+            place = f"day {day - first + 1}"
+            checks.equal(f"{what}: closings on {place}", ended(over_night), [True] * 4)
+        checks.equal(f"{what}: what is forgotten", forgotten_from(server), wanted)
+        others = [pair for pair in pairs if pair[0] != pair[1]]
+        checks.equal(f"{what}: those of {len(pairs)} answers that are others", others, [])
+        days = range(day - KEEP, day + 1)
+        keys = [(b"u%d" % login, it) for login in range(MAIL_LOGINS) for it in days]
+        replies = asked(server, itertools.starmap(wire.usage, keys))
+        came = [int.from_bytes(it[-12:-8], "big") for it in replies]
+        checks.equal(f"{what}: what is used at last", came, [used[it] for it in keys])
+        checks.equal(f"{what}: the filters' ends", [it.end()[:2] for it in hosts], [(0, b"")] * 2)
+    checks.equal(f"{what}: audit", audit(world, path, default=LIMIT_OF_A_LOGIN)[0], 0)
+
+
+# ---- random histories
+
+HISTORIES, NIGHTS_OF_A_HISTORY = 6, 3
+
+
+class Days:
+    """Moments about a day that passes, as tests/model/random_inputs.py has them."""
+
+    def __init__(self, day):
+        self.days = range(day - 5, day + 2)
+
+    def moment(self, dice):
+        return DAY * dice.choice(self.days) + dice.choice([0, 3_600, DAY - 1])
+
+
+def random_histories(world, checks, seeds=range(HISTORIES)):
+    """Nights at random places of random requests, which go on meanwhile, compared with books that
+    forget at once."""
+    wrong, forgotten, answered = [], 0, 0
+    for seed in seeds:
+        path = f"{world.folder}/random{seed}"
+        books, differs, nights = random_history(world, path, random.Random(seed))
+        rows = rows_in(path, books.rows())
+        differs += [table for table, wanted in books.rows().items() if rows[table] != wanted]
+        if audit(world, path, default=DEFAULT)[0] or differs:
+            wrong.append((seed, differs[:2]))
+        forgotten, answered = forgotten + len(nights), answered + len(books.answers)
+    what, good = "random histories", forgotten > len(seeds) and answered > 20 * len(seeds)
+    checks.equal(f"{len(seeds)} {what}: those whose replies, nights or rows differ", wrong, [])
+    checks.holds(f"{what}: nights, and answers at last", good, "many", (forgotten, answered))
+
+
+def random_history(world, path, dice):
+    """The books at last, what differs from them, and how often days were forgotten."""
+    day, books, differs, nights = today(), Books(0, DEFAULT), [], []
+    asked_before, sequence = [], itertools.count(1)
+    server, clock = by_clock(world, path, DAY * day + 36_000, words=["--create"])
+
+    def frame():
+        if asked_before and dice.random() < 0.2:
+            return dice.choice(asked_before)
+        asked_before.append(wire.frame(body(dice, next(sequence), Days(day))))
+        return asked_before[-1]
+
+    with server:
+        for _ in range(NIGHTS_OF_A_HISTORY):
+            frames = [frame() for _ in range(dice.randint(0, 150))]
+            pairs = zip(frames, asked(server, frames), strict=True)
+            differs += [it for it, reply in pairs if reply != books.serve(it)]
+            day += dice.choice([1, 1, 1, 2])
+            moment = DAY * day + 10_800 + dice.randrange(60_000)
+            books, others = pass_night(server, clock, moment, frame, books, nights, dice)
+            differs += others
+        if forgotten_from(server) != nights:
+            differs.append((forgotten_from(server), nights))
+        server.process.kill()
+        server.status()
+    return books, differs, nights
+
+
+def pass_night(server, clock, moment, frame, books, nights, dice):
+    """Lets time pass to a night. Where days are due it asks until the switch closes the connection,
+    and asks again what that cut off. Gives the books then, and what differs from them, and notes
+    the days from which on was kept."""
+    differs, it = [], wire.usage()
+    with server.connect() as peer, peer.makefile("rb") as back:
+        # (so the connection is one of the former ledger's)
+        peer.sendall(it)
+        whole_reply(back)
+        clock.pass_to(moment)
+        first = due(books, moment // DAY)
+        while True:
+            peer.sendall(it)
+            if not (reply := whole_reply(back)):
+                break
+            if reply != books.serve(it):
+                differs.append(it)
+            if not first:
+                return books, differs
+            time.sleep(dice.choice([0, 0, 0, 0.02 * dice.random()]))
+            it = frame()
+    # (with what was reserved meanwhile more days may be due at once)
+    while first:
+        nights.append(first)
+        if not wait_until(lambda: len(forgotten_from(server)) >= len(nights)):
+            differs.append(first)
+        books = books.remembered(first)
+        first = due(books, moment // DAY)
+    # (by the second it has looked)
+    for again in (wire.usage(), it):
+        if asked(server, [again]) != [books.serve(again)]:
+            differs.append(again)
+    return books, differs
+
+
+# ---- full disks
+
+# bytes that a disk has beyond a ledger and its log, where days are to be forgotten
+ROOMS = [100_000 * it for it in (3, 4, 5, 7, 9, 12, 15, 18, 60, 120)]
+
+
+def on_full_disks(world, checks):
+    """The disk has no room for all of a new file: days stay, and the server goes on."""
+    if not can_mount(world, checks, "a night on full disks"):
+        return
+    # (so many requests give its log the size that it keeps: those that come meanwhile need no room)
+    source = f"{world.folder}/roomy"
+    filled(world, source, MANY)
+    ends = [on_a_full_disk(world, checks, source, room) for room in ROOMS]
+    good = 0 < sum(ends) < len(ends)
+    checks.holds("nights on full disks: which forgot days", good, "some, and not all", ends)
+
+
+def on_a_full_disk(world, checks, source, room):
+    """Whether days are forgotten where a disk has so many bytes beyond the ledger."""
+    size = os.path.getsize(source) + os.path.getsize(f"{source}-wal")
+    what, books = f"a disk with room for {room:,} bytes", Books(0, DEFAULT)
+    for frame in requests(MANY):
+        books.serve(frame)
+    with Disk(world, size + room) as disk:
+        path = copied(source, f"{disk.folder}/ledger")
+        with nightly(world, path) as server:
+            sent, came = [], []
+            while not is_through(server) and not warnings(server) and server.process.poll() is None:
+                sent.append(request(10_000 + len(sent), today(), host=b"mx6"))
+                came += asked(server, sent[-1:])
+            # (a line that says why days stay is written before the new file is removed)
+            last = [request(90_000 + number, today(), host=b"mx6") for number in range(20)]
+            came += asked(server, last)
+            ended, is_forgotten = server.process.poll(), is_through(server)
+            lines = warnings(server)
+            server.process.kill()
+            server.status()
+        checks.equal(f"{what}: it goes on", ended, None)
+        checks.equal(f"{what}: replies", came, [books.serve(frame) for frame in sent + last])
+        full = len(lines) == 1 and "next attempt in an hour" in lines[0]
+        checks.holds(f"{what}: what is logged", is_forgotten != full, "a day, or why days stay", lines)
+        checks.equal(f"{what}: files", [it for it in names(path) if it != ".night"], SWITCHED if is_forgotten else ["", "-wal"])
+        kept = copied(path, f"{world.folder}/of-disk{room}")
+    same_rows(checks, what, kept, books.remembered(first_day()) if is_forgotten else books)
+    return is_forgotten
