@@ -90,10 +90,10 @@ install:
 	@test -x $(PROGRAM) || { echo "run 'make build' first" >&2; exit 1; }
 	install -d $(DESTDIR)$(SBINDIR) $(DESTDIR)$(DOCDIR) $(DESTDIR)$(CONFDIR)
 	install -m 755 $(PROGRAM) $(DESTDIR)$(SBINDIR)/mailquota
-	$(call texts,contrib/mailquota-backup contrib/mailquota-forget,755,$(SBINDIR))
+	$(call texts,contrib/mailquota-backup,755,$(SBINDIR))
 	$(call texts,contrib/await-server contrib/keepalived-check,755,$(LIBEXECDIR)/mailquota)
 	$(call texts,contrib/filter-mailquota contrib/filter-one-spelling,755,$(LIBEXECDIR)/opensmtpd)
-	$(call texts,$(wildcard contrib/*.service contrib/*.timer),644,$(UNITDIR))
+	$(call texts,$(wildcard contrib/*.service),644,$(UNITDIR))
 	$(call texts,$(wildcard contrib/*.toml contrib/*.conf),644,$(DOCDIR)/examples)
 	$(call texts,$(wildcard man/*.5),644,$(MANDIR)/man5)
 	$(call texts,$(wildcard man/*.8),644,$(MANDIR)/man8)

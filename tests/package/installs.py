@@ -45,6 +45,13 @@ UMask=0077
 WantedBy=multi-user.target
 """
 
+# What packages of before had, which dropped old days.
+FORGETS, WANTS = "mailquota-forget.timer", "/etc/systemd/system/timers.target.wants"
+TIMER = {
+    "mailquota-forget.service": "[Service]\nType=oneshot\nExecStart=/bin/true\n",
+    FORGETS: "[Timer]\nOnCalendar=*-*-* 03:30\n[Install]\nWantedBy=timers.target\n",
+}
+
 failed = 0
 
 
@@ -93,8 +100,7 @@ def installed(machine, version):
     note(f"{machine.name}: its version", machine.shown("dpkg-query", "--show", "--showformat=${Version}", "mailquota"), version)
     note(f"{machine.name}: /etc/mailquota", machine.shown("ls", "-A", "/etc/mailquota"), "")
     for unit in machine.shown("sh", "-c", "cd /usr/lib/systemd/system && ls mailquota*").split():
-        wanted = "static" if unit == "mailquota-forget.service" else "disabled"
-        note(f"{machine.name}: {unit}", [machine.run("systemctl", it, unit)[1].strip() for it in ("is-enabled", "is-active")], [wanted, "inactive"])
+        note(f"{machine.name}: {unit}", [machine.run("systemctl", it, unit)[1].strip() for it in ("is-enabled", "is-active")], ["disabled", "inactive"])
     pages = machine.root / "usr/share/doc/mailquota"
     links = [(page.name, to) for page in pages.glob("*.md") for to in re.findall(r"\]\(([^):#]+)[#)]", page.read_text())]
     note(f"{machine.name}: of {len(links)} links in pages those that lead nowhere", [it for it in links if not (pages / it[1]).exists()], [])
@@ -162,15 +168,34 @@ def first_550(quota, hosts):
     note("the report of alice", report(quota).get("alice"), (2, 0, 2))
 
 
-def later(package, version):
-    """The same package under a later version."""
-    folder = WORK / "later"
+def changed(package, name, version, change=lambda folder: None):
+    """The same package under a later version, with this change to its files."""
+    folder = WORK / name
     call("dpkg-deb", "--raw-extract", package, folder)
     control = folder / "DEBIAN/control"
     control.write_text(re.sub(r"^Version: .*$", f"Version: {version}", control.read_text(), flags=re.MULTILINE))
-    made = WORK / "later.deb"
+    change(folder)
+    made = WORK / f"{name}.deb"
     call("dpkg-deb", "--root-owner-group", "--build", folder, made)
     return made
+
+
+def add_timer(folder):
+    """The timer that packages of before had, and what debhelper does about it."""
+    for name, text in TIMER.items():
+        (folder / "usr/lib/systemd/system" / name).write_text(text)
+    with open(folder / "DEBIAN/postinst", "a", encoding="ascii") as script:
+        script.write(f"deb-systemd-helper update-state {FORGETS} >/dev/null\n")
+
+
+def run_timer(quota, package):
+    """An administrator has the timer of a package of before, and no `keep` in the settings."""
+    note("quota, with the package of before: what it says", install(quota, package), [])
+    quota.edit("/etc/mailquota/server.toml", "\nkeep = 2\n", "\n")
+    quota.shown("systemctl", "enable", "--now", FORGETS)
+    # (what takes the place of systemctl may make no link)
+    quota.shown("sh", "-c", f"mkdir -p {WANTS} && ln -sf /usr/lib/systemd/system/{FORGETS} {WANTS}/")
+    note("quota, with the package of before: its timer", quota.run("systemctl", "is-active", FORGETS)[1].strip(), "active")
 
 
 def filter_of(machine):
@@ -185,7 +210,10 @@ def upgrade(quota, hosts, package):
         sender.start()
     wait_until(lambda: sum(it.accepted for it in senders) > 100)
     settings, before = quota.read("/etc/mailquota/server.toml"), quota.main_pid("mailquota")
-    note("quota, upgraded under load: what the package says", install(quota, package), [])
+    said = " ".join(install(quota, package))
+    note("quota, upgraded under load: it says what takes the timer's place", f"{FORGETS} is gone" in said and "keep = 2" in said, True)
+    timer = quota.run("systemctl", "is-active", FORGETS)[1].strip(), quota.run("ls", f"{WANTS}/{FORGETS}")[0] == 0
+    note("quota, upgraded: the timer, and its link", timer, ("inactive", False))
     note("quota, upgraded: another server runs", quota.main_pid("mailquota") not in (0, before), True)
     note("quota, upgraded: the settings are the same", quota.read("/etc/mailquota/server.toml") == settings, True)
     sent = sum(it.accepted for it in senders)
@@ -249,14 +277,14 @@ def from_usr_local(old, package):
         old.write(f"/usr/local/{folder}/file", "")
     old.write("/usr/local/share/man/man8/mailquota.8", "")
     old.write("/etc/mailquota.toml", OLD_SETTINGS)
-    for name, text in (("mailquota.service", OLD_UNIT), ("mailquota-forget.service", "[Service]\nExecStart=/bin/true\n"), ("mailquota-forget.timer", "[Timer]\nOnCalendar=*-*-* 03:30\n[Install]\nWantedBy=timers.target\n")):
+    for name, text in (("mailquota.service", OLD_UNIT), *TIMER.items()):
         old.write(f"/etc/systemd/system/{name}", text)
     old.shown("systemd-run", "--quiet", "--wait", "--pipe", "-p", "DynamicUser=yes", "-p", "User=mailquota", "-p", "StateDirectory=mailquota", "/usr/local/sbin/mailquota", "init",
               "--config", "/etc/mailquota.toml")
-    old.shown("systemctl", "enable", "--now", "mailquota", "mailquota-forget.timer")
+    old.shown("systemctl", "enable", "--now", "mailquota", FORGETS)
     ask = ["--server", "192.0.2.8:7025"]
     note("old: a limit", wait_until(lambda: old.run("/usr/local/sbin/mailquota", "limit", *ask, "--host", "admin", "--login", "bob", "--from", "1", "--cap", "7") == (0, "set\n")), True)
-    old.shown("systemctl", "stop", "mailquota", "mailquota-forget.timer")
+    old.shown("systemctl", "disable", "--now", "mailquota", FORGETS)
     play(old, block_with("INSTALL.md", "Upgrading", "/usr/local"))
     left = old.shown("find", "/usr/local", "-name", "mailquota*").splitlines()
     note("old: what is left below /usr/local", left, [])
@@ -310,7 +338,8 @@ def main(words):
             play(host, block)
             log = "journalctl -u opensmtpd -o cat" if kind.has_systemd else "cat /var/log/opensmtpd.service.log"
             note(f"{host.name}: it retires its runs before smtpd starts", host.shown("sh", "-c", f"{log} | grep -x retired | sort -u").strip(), "retired")
-        upgraded = later(package, f"{version}+later")
+        run_timer(quota, changed(package, "former", f"{version}+former", add_timer))
+        upgraded = changed(package, "later", f"{version}+later")
         upgrade(quota, hosts, upgraded)
         remove_and_install_again(quota, hosts[0], upgraded)
         remove_from_mail_host(hosts[1])

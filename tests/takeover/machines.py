@@ -1,14 +1,16 @@
 """Quota servers and mail hosts on one switch, each with a folder of its own over the one with smtpd."""
 import os
+import socket
 import subprocess
 import sys
 from pathlib import Path
 
 HERE = Path(__file__).resolve().parent
-sys.path.append(str(HERE.parent / "smtpd"))
+sys.path += [str(HERE.parent / "smtpd"), str(HERE.parent / "program")]
 
 from host import PROGRAM, ROOT
 from switch import OnSwitch, call
+from wire import reserve
 
 WORK = Path(os.environ["WORK"])
 CONTRIB = HERE.parent.parent / "contrib"
@@ -23,26 +25,6 @@ while :; do
     wait $!
     if [ -e /run/wanted ]; then sleep 1; fi
 done
-"""
-# What takes the place of systemd for `mailquota-forget`.
-SYSTEMCTL = """#!/bin/sh
-case $1/$2 in
-start/mailquota)
-    touch /run/wanted
-    MAINPID=$$ /usr/libexec/mailquota/await-server /etc/mailquota/server.toml
-    ;;
-stop/mailquota)
-    rm -f /run/wanted
-    pid=$(cat /run/mailquota.pid)
-    kill "$pid" 2>/dev/null
-    while kill -0 "$pid" 2>/dev/null; do sleep 0.02; done
-    ;;
-show/*) echo not-found ;;
-esac
-"""
-SYSTEMD_RUN = f"""#!/bin/sh
-while [ "$1" != {PROGRAM} ]; do shift; done
-exec "$@"
 """
 
 
@@ -89,8 +71,6 @@ class QuotaServer(Machine):
         self.write("/etc/keepalived/keepalived.conf", keepalived)
         self.write("/etc/nftables-mailquota.conf", contrib("nftables.conf"))
         self.write("/usr/local/sbin/supervisor", SUPERVISOR, 0o755)
-        self.write("/usr/local/lib/units/systemctl", SYSTEMCTL, 0o755)
-        self.write("/usr/local/lib/units/systemd-run", SYSTEMD_RUN, 0o755)
         (self.root / "var/lib/mailquota").mkdir(parents=True, exist_ok=True)
         for words in (["nft", "-f", "/etc/nftables-mailquota.conf"], [PROGRAM, "init", "--config", "/etc/mailquota/server.toml"]):
             said, status = self.run(*words)
@@ -113,9 +93,13 @@ class QuotaServer(Machine):
     def has_address(self):
         return bool(call("ip", "-n", self.name, "-oneline", "address", "show", "to", MOVING).stdout)
 
-    def forget(self):
-        path = "PATH=/usr/local/lib/units:/usr/local/sbin:/usr/sbin:/usr/bin"
-        return self.run("env", path, "mailquota-forget", "/etc/mailquota/server.toml", "/var/lib/mailquota/ledger", "2", MOVING)
+    def use(self, day):
+        """A login of another host uses one recipient of this day."""
+        with socket.create_connection((self.address, 7025), timeout=20) as peer:
+            peer.sendall(reserve(1, login=b"past", at=86_400 * day, host=b"past"))
+            peer.shutdown(socket.SHUT_WR)
+            while peer.recv(4_096):
+                pass
 
     def ask(self, command, *words):
         run = call("chroot", ROOT, PROGRAM, command, "--server", f"{self.address}:7025", *words, check=False)

@@ -1,6 +1,6 @@
 #!/bin/bash
 # Two quota servers of which one has the address that two mail hosts ask: real smtpds, real keepalived, the files of contrib. The first server is killed,
-# cut off, stopped for a forget and comes back, while logins send: takeover.py says what has to hold.
+# cut off, restarted, forgets a day and comes back, while logins send: takeover.py says what has to hold.
 #
 # usage: run.sh PROGRAM [ROUNDS [SEED]]
 #

@@ -1,4 +1,4 @@
-"""What mail sees while the first of two quota servers is killed, cut off, stopped for a forget, restarted, and comes back, in a random order.
+"""What mail sees while the first of two quota servers is killed, cut off, restarted, also with a day to forget, and comes back, in a random order.
 
 usage: takeover.py [ROUNDS [SEED]]
 
@@ -21,7 +21,7 @@ from switch import call, make_switch, wait_until
 # How long the first server answers before the address goes back to it: a minute in contrib.
 DELAY = 5
 # For how many seconds recipients may be answered 451, without `pause` in the filter's settings and with contrib's.
-LONGEST = {"kill": (5, 5), "cut": (5, 15), "forget": (2, 2), "restart": (5, 5), "return": (2, 2)}
+LONGEST = {"kill": (5, 5), "cut": (5, 15), "forget": (5, 5), "restart": (5, 5), "return": (2, 2)}
 FIRST_DEFAULT, SECOND_DEFAULT, OWN_LIMIT, WIDE = 1_000, 100, 300, 1_000_000
 # Logins with room, at both servers; with the defaults; and with a limit of its own at the first server alone.
 WITH_ROOM, WITH_DEFAULT, WITH_OWN = ["u01", "u02", "u03", "u04"], ["u05", "u06"], ["u07"]
@@ -131,26 +131,30 @@ class Scene:
             self.back(lambda: call("bridge", "link", "set", "dev", "first", "state", "3"))
 
     def forget(self):
-        """The script of a night: the address moves before the server is stopped."""
-        start = time.monotonic()
-        said, status = self.first.forget()
-        moved = self.is_at_second() and not self.first.has_address()
-        self.checks.holds("a forget, after the address has moved", status == 0 and moved and said.startswith("kept answers="), said.partition("\n")[0])
-        self.note("forget", start)
-        self.back(lambda: None)
+        """It starts again with a day that is overdue, and forgets that while it answers, by contrib's `keep`: the address stays."""
+        past = int(day()) - 9
 
-    def restart(self):
+        def used():
+            return self.first.ask("report", "--day", past, "--login", "past")[0].split()[:2]
+
+        self.first.use(past)
+        before = used()
+        self.restart("forget")
+        is_forgotten = wait_until(lambda: used() == ["0", "0"])
+        self.checks.holds("a day that is overdue is forgotten", before == ["0", "1"] and is_forgotten, f"{before} used before, {used()} after")
+
+    def restart(self, what="restart"):
         """Its unit starts it again after a second: three checks in a row don't fail, unless the start itself takes long."""
         start = time.monotonic()
         os.kill(self.first.pid(), signal.SIGTERM)
         time.sleep(0.5)
         self.wait("the first server answers", self.first.answers)
         took = time.monotonic() - start
-        self.note("restart", start)
+        self.note(what, start)
         if took < 2:
-            self.checks.holds("a restart moves nothing", self.is_at_first(), f"{took:.1f} s without an answer")
+            self.checks.holds(f"a {what} moves nothing", self.is_at_first(), f"{took:.1f} s without an answer")
         else:
-            print(f"--  a restart moves nothing: not tried, it took {took:.1f} s", flush=True)
+            print(f"--  a {what} moves nothing: not tried, it took {took:.1f} s", flush=True)
             self.wait("the address is back at the first server", self.is_at_first)
 
 

@@ -1,4 +1,4 @@
-"""The scripts of contrib but the one of a night, over a real server.
+"""The scripts of contrib, over a real server.
 
 A backup is made while filters send. What takes the place of systemctl says which process the server is.
 """
@@ -42,6 +42,7 @@ def run(world, checks):
     limits_of_a_new_ledger(world, checks)
     a_long_retire(world, checks)
     a_forgetting_by_hand(world, checks)
+    a_timer_of_before(world, checks)
     starting_over(world, checks)
     the_queue_of_a_login(world, checks)
     spellings(world, checks)
@@ -106,15 +107,10 @@ def a_long_wait(world, checks, main):
 
 
 def checked(world, checks):
-    """The check of keepalived: 0 only where the server answers and nobody sends the address away."""
-    away = f"{world.folder}/away"
+    """The check of keepalived: 0 only where the server answers."""
     with Server(world) as server:
-        path = script(world, "keepalived-check", [("127.0.0.1:7025", server.address), ("/run/mailquota-away", away)])
+        path = script(world, "keepalived-check", [("127.0.0.1:7025", server.address)])
         checks.equal("keepalived-check, the server answers", subprocess.run(["sh", path]).returncode, 0)
-        with open(away, "w", encoding="ascii"):
-            pass
-        checks.equal("keepalived-check, the address is sent away", subprocess.run(["sh", path]).returncode, 1)
-        os.remove(away)
     checks.equal("keepalived-check, the server is gone", subprocess.run(["sh", path]).returncode, 1)
 
 
@@ -275,7 +271,7 @@ def a_backup_by_its_recipe(world, checks):
         checks.equal("a backup put back by its recipe: the server that was stopped", server.status(), -signal.SIGTERM)
     with open(f"{folder}/calls", encoding="ascii") as file:
         called = file.read().splitlines()
-    wanted = ["show --property=MainPID --value mailquota", "daemon-reload", "stop mailquota mailquota-forget.timer", "enable --now mailquota mailquota-forget.timer"]
+    wanted = ["show --property=MainPID --value mailquota", "daemon-reload", "stop mailquota", "enable --now mailquota"]
     checks.equal("a backup by its recipe, and put back: what is asked of systemd", called, [f"systemctl {it}" for it in wanted])
     checks.equal("a backup put back by its recipe: its rows", rows_in(ledger, rows), rows)
     with Server(world, store=ledger, **settings) as server:
@@ -424,7 +420,7 @@ class Machine:
     def here(self, text):
         """A text with these folders in place of the machine's."""
         for old, new in (("/usr/sbin/mailquota", self.world.program), ("/usr/share/doc/mailquota/examples", CONTRIB), ("/var/lib/", f"{self.folder}/lib/"),
-                         ("/etc/", f"{self.folder}/etc/"), ("/root/", f"{self.folder}/root/")):
+                         ("/etc/", f"{self.folder}/etc/"), ("/root/", f"{self.folder}/root/"), ("/usr/local/", f"{self.folder}/local/")):
             text = re.sub(rf"(?<![\w/]){re.escape(old)}", lambda _, new=new: new, text)
         return text
 
@@ -552,6 +548,21 @@ def a_forgetting_by_hand(world, checks):
         used = server.ask(b"".join(wire.usage(b"%d" % n, today - 5 + n) for n in range(1, 6)))
     checks.equal("a forgetting by hand: what logins used then", used, b"".join(
         wire.frame(b"\x8b" + wire.text(b"%d" % n) + wire.number(today - 5 + n) + wire.number(0) + wire.number(n > 2) + wire.number(1_000)) for n in range(1, 6)))
+
+
+def a_timer_of_before(world, checks):
+    """OPERATING's commands for an installation that has a timer: it is disabled, its files go, and the server starts again with `keep`."""
+    machine = Machine(world, "timer", systemctl="")
+    goes = ["local/sbin/mailquota-forget", *(f"local/lib/systemd/system/mailquota-forget.{it}" for it in ("service", "timer")), "etc/systemd/system/mailquota-forget.timer.d/hour.conf"]
+    stays = ["etc/systemd/system/mailquota.service.d/addresses.conf", "local/lib/systemd/system/mailquota.service", "local/sbin/mailquota"]
+    for it in (*goes, *stays):
+        os.makedirs(os.path.dirname(f"{machine.folder}/{it}"), exist_ok=True)
+        machine.write(it, "")
+    came = machine.run(block_with("OPERATING.md", "Forgetting days that are over", "disable"))
+    asked = ["systemctl disable --now mailquota-forget.timer", "systemctl daemon-reload", "systemctl restart mailquota"]
+    checks.equal("a timer of before: status, what it says, and what is asked of systemd", (came, machine.read("calls").splitlines()), ((0, "", ""), asked))
+    left = [os.path.relpath(f"{at}/{it}", machine.folder) for at, _, names in os.walk(machine.folder) for it in names]
+    checks.equal("a timer of before: files that stay", sorted(it for it in left if it.startswith(("etc/", "local/"))), stays)
 
 
 def starting_over(world, checks):

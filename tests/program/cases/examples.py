@@ -38,8 +38,6 @@ all as it is to be
 # what the program is in turn: a command that does nothing, with a status of its own
 OTHERWISE = {"report": "exit 0", "stop": "echo 'stopped: bob used 1 on day 1'", "filter": "exit 1", "server": "exit 1", "replay": "echo 00"}
 INSTALLED = {
-    "lib/systemd/system/mailquota-forget.service": 0o644,
-    "lib/systemd/system/mailquota-forget.timer": 0o644,
     "lib/systemd/system/mailquota.service": 0o644,
     "libexec/mailquota/await-server": 0o755,
     "libexec/mailquota/keepalived-check": 0o755,
@@ -47,7 +45,6 @@ INSTALLED = {
     "libexec/opensmtpd/filter-one-spelling": 0o755,
     "sbin/mailquota": 0o755,
     "sbin/mailquota-backup": 0o755,
-    "sbin/mailquota-forget": 0o755,
     "share/doc/mailquota/CHANGELOG": 0o644,
     "share/doc/mailquota/INSTALL.md": 0o644,
     "share/doc/mailquota/LICENSE": 0o644,

@@ -1,12 +1,11 @@
-"""`forget`: the new file that it makes, what it refuses, and what both files hold where it is killed or the disk is full; filters that go on
-over a forgetting; the script of a night.
+"""`forget`: the new file that it makes, what it refuses, and what both files hold where it is killed or the disk is full; filters that go on over a
+forgetting.
 
 What is kept is said by the ledger of tests/model, by the rule of docs/LEDGER.md; the rows are read by Python's own SQLite.
 """
 import os
 import random
 import shutil
-import signal
 import stat
 import subprocess
 import time
@@ -19,7 +18,7 @@ from cases.damage import sound
 from cases.filters import PROCEED, REGISTRATION, SERVICE
 from cases.filters import LIMIT as REFUSED
 from ends import (
-    LOCKED, NO_FILE, SECONDS, TOP, Server, apart, copied, fault, ledger_settings, of_settings, of_store, refusal, wait_past_midnight, wait_until,
+    LOCKED, NO_FILE, Server, apart, copied, fault, ledger_settings, of_settings, of_store, refusal, wait_past_midnight,
 )
 from ledger import decode
 from random_inputs import Times, TimesOfRule, connections_of
@@ -37,7 +36,6 @@ ROOMS = [0, 1, 4_095, 4_096, 100_000, 266_295, 266_296, 300_000, 400_000, 4_000_
 # the head of a log that has no answer
 EMPTY_LOG = 41
 NOT_OPENED = "store can't be opened"
-SCRIPT = f"{TOP}/contrib/mailquota-forget"
 
 
 def run(world, checks):
@@ -48,9 +46,6 @@ def run(world, checks):
     a_log_that_was_left(world, checks)
     files_of_many(world, checks)
     filters_go_on(world, checks)
-    a_night(world, checks)
-    an_interrupted_night(world, checks)
-    days_of_a_night(world, checks)
 
 
 def forget(world, path, day, into, config=None, **more):
@@ -555,326 +550,3 @@ def filters_go_on(world, checks):
     for name, play in (("a restart", plain), ("a forgetting", forgets)):
         came = audit(world, play.path, default=Play.DEFAULT)
         checks.equal(f"audit after {name}", (came[0], came[2]), (0, ""))
-
-
-# What takes the place of the programs that the script calls: each does what it is for, in the test's own folder, and after so many calls of
-# them the script is killed.
-STUB = """#!/bin/sh
-name=${{0##*/}}
-echo "$name${{*:+ $*}}" >>{folder}/calls
-PATH={path}
-export PATH
-{does}
-status=$?
-if [ "$(wc -l <{folder}/calls)" = "$(cat {folder}/stop_at)" ]; then kill -"$(cat {folder}/by_signal)" "$(cat {folder}/pid)"; fi
-exit $status
-"""
-DOES = {
-    # (the options end where the program's path is; as a unit does, what it runs goes on where the script is killed; where that is killed too, a sleep of
-    # its may go on, and has the script's output no longer)
-    "systemd-run": """while [ "$1" != {program} ]; do shift; done
-    if [ -e {folder}/unit ]; then echo "the unit is there already" >&2; exit 1; fi
-    if [ -e {folder}/no_room ]; then exit 1; fi
-    wait=$(cat {folder}/slow 2>/dev/null || echo 0)
-    setsid sh -c 'sleep "$0" >/dev/null 2>&1; exec "$@"' "$wait" "$@" & pid=$!; echo $pid >{folder}/unit; wait $pid
-    status=$?; if [ "$(cat {folder}/unit 2>/dev/null)" = $pid ]; then rm {folder}/unit; fi; (exit $status)""",
-    "systemctl": """case "$1 $2" in
-    "start mailquota") if [ -e {folder}/no_start ]; then exit 1; fi; touch {folder}/server; if [ -e {folder}/slow_start ]; then rm {folder}/slow_start; exec sleep 4; fi ;;
-    "stop mailquota") rm -f {folder}/server ;;
-    stop*) if [ -e {folder}/unit ]; then kill "$(cat {folder}/unit)"; rm {folder}/unit; fi ;;
-    show*) if [ -e {folder}/stays ]; then echo loaded; else echo not-found; fi ;;
-    esac""",
-    # the address is here until keepalived has seen the script's file so many times, or where that doesn't run
-    "ip": """if [ -e {folder}/away ] && [ ! -e {folder}/no_keepalived ] && [ "$(grep -c ^ip {folder}/calls)" -gt 3 ]; then rm -f {folder}/address; fi
-    if [ -e {folder}/address ]; then echo "2: eth0 inet 192.0.2.7/24"; fi""",
-    "flock": """flock "$@" """,
-    "rm": """rm "$@" """,
-    "mv": """mv "$@" """,
-    "sleep": """sleep 0.05""",
-    "sync": ":",
-}
-# The calls of a whole run over a ledger, with the folder, the program, the settings and the day in their places.
-CALLS = """flock --wait 2 9
-systemctl stop mailquota-forgetting.service
-systemctl show --property=LoadState --value mailquota-forgetting.service
-systemctl stop mailquota
-rm -f FOLDER/ledger.new FOLDER/ledger.new-wal
-systemd-run --quiet --collect --pipe --wait --unit=mailquota-forgetting.service --property=DynamicUser=yes --property=User=mailquota \
---property=StateDirectory=mailquota --property=UMask=0077 PROGRAM forget --config CONFIG --before DAY --into FOLDER/ledger.new
-rm -f FOLDER/ledger.new-wal FOLDER/ledger.old FOLDER/ledger.old-wal
-sync
-mv FOLDER/ledger FOLDER/ledger.old
-mv FOLDER/ledger-wal FOLDER/ledger.old-wal
-mv FOLDER/ledger.new FOLDER/ledger
-sync
-systemctl stop mailquota-forgetting.service
-systemctl show --property=LoadState --value mailquota-forgetting.service
-rm -f FOLDER/ledger.new FOLDER/ledger.new-wal
-systemctl start mailquota
-rm -f FOLDER/away"""
-
-
-class Night:
-    """The script of contrib in a folder of its own, over a ledger there."""
-
-    def __init__(self, world, name, source, **settings):
-        self.folder = f"{world.folder}/{name}"
-        os.makedirs(f"{self.folder}/bin")
-        self.ledger = copied(source, f"{self.folder}/ledger")
-        self.config = ledger_settings(world, self.ledger, default=50, **settings)
-        self.words = [self.config, self.ledger, "2"]
-        with open(SCRIPT, encoding="ascii") as file:
-            text = file.read()
-        # (what it takes where it is given no words)
-        for path, its in (
-            ("/usr/sbin/mailquota\n", f"{world.program}\n"), ("/run/mailquota-away\n", f"{self.folder}/away\n"),
-            (":-/etc/mailquota/server.toml}", f":-{self.config}}}"), (":-/var/lib/mailquota/ledger}", f":-{self.ledger}}}"),
-        ):
-            assert text.count(path) == 1
-            text = text.replace(path, its)
-        with open(f"{self.folder}/script", "w", encoding="ascii") as file:
-            file.write(text)
-        for name, does in DOES.items():
-            with open(f"{self.folder}/bin/{name}", "w", encoding="ascii") as file:
-                file.write(STUB.format(folder=self.folder, path=os.environ["PATH"], does=does.format(folder=self.folder, program=world.program)))
-            os.chmod(f"{self.folder}/bin/{name}", 0o755)
-        self.touch("server")
-
-    def touch(self, name):
-        with open(f"{self.folder}/{name}", "w", encoding="ascii"):
-            pass
-
-    def has(self, name):
-        return os.path.exists(f"{self.folder}/{name}")
-
-    def start(self, stop_at=0, number=signal.SIGKILL):
-        """The script, which is sent this signal after so many calls."""
-        self.touch("calls")
-        with open(f"{self.folder}/by_signal", "w", encoding="ascii") as file:
-            file.write(str(int(number)))
-        with open(f"{self.folder}/stop_at", "w", encoding="ascii") as file:
-            file.write(str(stop_at))
-        path = f"{self.folder}/bin{os.pathsep}{os.environ['PATH']}"
-        # (its number is there before it calls anything)
-        words = ["sh", "-c", 'echo $$ >"$0"; exec sh "$@"', f"{self.folder}/pid", f"{self.folder}/script", *self.words]
-        return subprocess.Popen(words, env={**os.environ, "PATH": path}, stdin=subprocess.DEVNULL, stdout=subprocess.PIPE, stderr=subprocess.PIPE, text=True)
-
-    def end(self, process):
-        """Its status, what it called, and what it said."""
-        errors = process.communicate(timeout=SECONDS)[1]
-        with open(f"{self.folder}/calls", encoding="ascii") as calls:
-            return process.returncode, calls.read().splitlines(), errors
-
-    def run(self, stop_at=0, number=signal.SIGKILL):
-        return self.end(self.start(stop_at, number))
-
-    def calls(self, world, day):
-        """What a whole run calls that forgets the days before this one."""
-        text = CALLS
-        for name, its in (("FOLDER", self.folder), ("PROGRAM", world.program), ("CONFIG", self.config), ("DAY", str(day))):
-            text = text.replace(name, its)
-        return text.splitlines()
-
-
-def days_of_a_night(world, checks):
-    """Today is kept and so many days before it, by the ledger's offset, and with them a message that is open since the first of them."""
-    # (at one of these offsets the day is another than at offset 0)
-    for offset, words, kept_days in [(0, [], 2), (0, ["1"], 1), (720, ["2"], 2), (-720, ["0"], 0)]:
-        wait_past_midnight(offset)
-        today = (int(time.time()) + 60 * offset) // DAY
-        # of each day a message that is open and one that is settled, by its login
-        of_days = {b"u%d" % back: {"login": b"u%d" % back, "at": (today - back) * DAY - 60 * offset + 5} for back in range(5)}
-        frames = []
-        for n, its in enumerate(of_days.values()):
-            frames += [wire.reserve(10 * n + 1, txn=10 * n + 1, count=2, **its), wire.reserve(10 * n + 2, txn=10 * n + 2, **its)]
-            frames += [wire.settle(10 * n + 3, txn=10 * n + 2, **its)]
-        name, settings = f"night-{offset}-{kept_days}-days", {"default": 50, "offset": offset}
-        source, books = left_by_a_server(world, f"{name}-source", b"".join(frames), **settings)
-        night = Night(world, name, source, offset=offset)
-        night.words = [*night.words[:2], *words] if words else []
-        what = f"a night at offset {offset} that keeps {kept_days} days{'' if words else ', as it does by itself'}"
-        status, calls, errors = night.run()
-        checks.equal(f"{what}: status, and what it says", (status, errors), (0, ""))
-        checks.equal(f"{what}: what it calls", calls, night.calls(world, today - kept_days))
-        again = books.remembered(today - kept_days)
-        found = rows_in(night.ledger, again.rows())
-        checks.equal(f"{what}: the ledger", found, again.rows())
-        wanted = sorted((login, today - back, 1, 2) for back, login in enumerate(of_days) if back <= kept_days)
-        checks.equal(f"{what}: logins and days, with what is settled and what is open", found["usage"], wanted)
-        if not words:
-            its = of_days[b"u2"]
-            with Server(world, store=night.ledger, **settings) as server:
-                came = server.ask(wire.settle(24, txn=21, count=2, **its) + wire.usage(b"u2", today - 2))
-            wanted = wire.settled(24, 2) + wire.frame(b"\x8b" + wire.text(b"u2") + b"".join(map(wire.number, (today - 2, 3, 0, 50))))
-            checks.equal(f"{what}: the message that is open since two days ends after it", came, wanted)
-
-
-def a_night(world, checks):
-    """The script, at once; stopped after each command and run again; and where `forget` fails."""
-    wait_past_midnight()
-    now = this_day()
-    source, books = left_by_a_server(world, "night", b"".join(of_a_week(now)), default=50)
-    again = books.remembered(now - 2)
-
-    def rows_of(path):
-        return rows_in(path, books.rows()) if os.path.exists(path) else None
-
-    def rows_that_stand(night):
-        """Those of the ledger, or where it is out of the way those of the old one, whose log may not have been moved yet."""
-        if os.path.exists(night.ledger):
-            return rows_of(night.ledger)
-        shutil.copy(f"{night.ledger}.old", f"{night.folder}/stands")
-        logs = [it for it in (f"{night.ledger}-wal", f"{night.ledger}.old-wal") if os.path.exists(it)]
-        shutil.copy(logs[0], f"{night.folder}/stands-wal")
-        return rows_of(f"{night.folder}/stands")
-
-    night = Night(world, "night-whole", source)
-    status, calls, errors = night.run()
-    checks.equal("the script of a night: status, and the server runs", (status, night.has("server")), (0, True))
-    checks.equal("the script of a night: the ledger", rows_of(night.ledger), again.rows())
-    checks.equal("the script of a night: the old one", rows_of(f"{night.ledger}.old"), books.rows())
-    left = sorted(it for it in os.listdir(night.folder) if it.startswith("ledger") and not it.endswith(("read", "read-wal")))
-    checks.equal("the script of a night: what is there", left, ["ledger", "ledger.old", "ledger.old-wal"])
-    checks.equal("the script of a night: what it calls", calls, night.calls(world, now - 2))
-    wrong = []
-    for stop_at in range(1, len(calls) + 1):
-        night = Night(world, f"night{stop_at}", source)
-        status, _, _ = night.run(stop_at)
-        stopped = status == -signal.SIGKILL and rows_that_stand(night) in (books.rows(), again.rows())
-        status, _, errors = night.run()
-        if not stopped or status or not night.has("server") or rows_of(night.ledger) != again.rows() or audit(world, night.ledger, default=50) != sound(again):
-            wrong.append((stop_at, calls[stop_at - 1], status, errors))
-        elif rows_of(f"{night.ledger}.old") not in (books.rows(), again.rows()):
-            wrong.append((stop_at, "the old one"))
-    checks.equal(f"the script, stopped after each of {len(calls)} commands and run again: ledgers that are wrong", wrong, [])
-    wrong, moves = [], [place for place, it in enumerate(calls, 1) if it.startswith(("rm -f", "mv")) and ".old" in it]
-    for stop_at in moves:
-        night = Night(world, f"night-ended{stop_at}", source)
-        status, came, errors = night.run(stop_at, signal.SIGTERM)
-        if status or came != night.calls(world, now - 2) or not night.has("server") or rows_of(night.ledger) != again.rows():
-            wrong.append((calls[stop_at - 1], status, errors, came))
-    checks.equal(f"the script, ended by SIGTERM while the files move: it is done to the end, at each of {len(moves)} commands", (len(moves), wrong), (3, []))
-    night = Night(world, "night-full", source)
-    night.touch("no_room")
-    status, _, _ = night.run()
-    checks.equal("the script where forget fails: status, and the server runs", (status, night.has("server")), (1, True))
-    checks.equal("the script where forget fails: the ledger, and no new one", (rows_of(night.ledger), night.has("ledger.new")), (books.rows(), False))
-    night = Night(world, "night-nowhere", source)
-    night.words[1] = f"{night.folder}/nothing"
-    came = night.run()
-    wanted = 1, [], f"mailquota-forget: there is no {night.folder}/nothing\n"
-    checks.equal("the script with a path where no ledger is: nothing is called, and the server runs", (came, night.has("server")), (wanted, True))
-    night = Night(world, "night-of-two", source)
-    night.words[2:] = ["two"]
-    wanted = 2, [], "mailquota-forget: DAYS is no number: two\n"
-    checks.equal("the script with days that are no number: nothing is called, and the server runs", (night.run(), night.has("server")), (wanted, True))
-    night = Night(world, "night-not-started", source)
-    night.touch("no_start")
-    checks.equal("the script where the server doesn't start: status, and the ledger", (night.run()[0], rows_of(night.ledger)), (1, again.rows()))
-    killed_while_the_server_starts(world, checks, source)
-    a_night_of_two_servers(world, checks, source, again)
-
-
-def an_interrupted_night(world, checks):
-    """A script that ends while `forget` runs, and one that meets another."""
-    wait_past_midnight()
-    now = this_day()
-    source, books = left_by_a_server(world, "night-interrupted", b"".join(of_a_week(now)), default=50)
-    again = books.remembered(now - 2)
-
-    def while_forgetting(name):
-        night = Night(world, name, source)
-        with open(f"{night.folder}/slow", "w", encoding="ascii") as file:
-            file.write("60")
-        process = night.start()
-        wait_until(lambda: night.has("unit") and os.path.getsize(f"{night.folder}/unit"))
-        with open(f"{night.folder}/unit", encoding="ascii") as unit:
-            return night, process, int(unit.read())
-
-    def runs(pid):
-        return os.path.exists(f"/proc/{pid}") and state_of_number(pid) != "Z"
-
-    for number in (signal.SIGTERM, signal.SIGINT, signal.SIGHUP):
-        what = f"the script of a night, ended by {signal.Signals(number).name}"
-        night, process, unit = while_forgetting(f"night-{number}")
-        process.send_signal(number)
-        status, _, _ = night.end(process)
-        checks.equal(f"{what}: status, the server runs, forget doesn't", (status, night.has("server"), runs(unit)), (128 + number, True, False))
-        checks.equal(f"{what}: the ledger, and no new one", (rows_in(night.ledger, books.rows()), night.has("ledger.new")), (books.rows(), False))
-    night, process, unit = while_forgetting("night-killed")
-    os.remove(f"{night.folder}/slow")
-    # (also by a copy of the settings in another folder)
-    words, other = night.words, f"{world.folder}/other-settings"
-    os.mkdir(other)
-    night.words = [shutil.copy(night.config, other), *words[1:]]
-    came = night.end(night.start())
-    night.words = words
-    checks.equal("a second script while one runs: status and what it says", (came[0], came[2]), (1, "mailquota-forget: another one runs\n"))
-    process.kill()
-    process.wait()
-    checks.equal("a script that was killed: forget runs on, and the server doesn't", (runs(unit), night.has("server")), (True, False))
-    status, _, errors = night.run()
-    checks.equal("and run again at once: status, the server runs, the first forget doesn't", (status, night.has("server"), runs(unit), errors), (0, True, False, ""))
-    checks.equal("and run again at once: the ledger", rows_in(night.ledger, again.rows()), again.rows())
-    night = Night(world, "night-of-a-unit-that-stays", source)
-    night.touch("stays")
-    status, calls, errors = night.run()
-    looked = sum(it.startswith("systemctl show ") for it in calls), calls.count("sleep 0.1")
-    checks.equal("a unit that doesn't go: status, what it says, how often it looks, and for how many tenths of a second", (status, errors, *looked), (0, "", 102, 100))
-    checks.equal("a unit that doesn't go: the ledger", rows_in(night.ledger, again.rows()), again.rows())
-
-
-def killed_while_the_server_starts(world, checks, source):
-    """What starts the server, which may take long, goes on; it doesn't keep another script from running at once."""
-    night = Night(world, "night-starting", source)
-    night.touch("slow_start")
-    process = night.start()
-    begun = wait_until(lambda: not night.has("slow_start"))
-    process.kill()
-    process.wait(timeout=SECONDS)
-    status, _, errors = night.run()
-    checks.equal("a script that is killed while the server starts, and run again at once: status, and what it says", (begun, status, errors), (True, 0, ""))
-
-
-def a_night_of_two_servers(world, checks, source, again):
-    """The address moves before the server is stopped; where it is at the other server already, nothing waits."""
-    night = Night(world, "night-moves", source)
-    night.words.append("192.0.2.7")
-    night.touch("address")
-    status, calls, errors = night.run()
-    stops = calls.index("systemctl stop mailquota")
-    asked = [place for place, line in enumerate(calls) if line.startswith("ip ")]
-    checks.equal("a night with a second server: status, and what it says", (status, errors), (0, ""))
-    checks.holds("a night with a second server: it waits for the address before it stops its server", len(asked) > 3 and asked[-1] < stops, "so", calls)
-    checks.equal("a night with a second server: nothing keeps the address away then", (night.has("away"), night.has("server")), (False, True))
-    checks.equal("a night with a second server: the ledger", rows_in(night.ledger, again.rows()), again.rows())
-    night = Night(world, "night-elsewhere", source)
-    night.words.append("192.0.2.7")
-    status, calls, _ = night.run()
-    checks.equal("a night with the address elsewhere: status, and how often it is asked for", (status, sum(line.startswith("ip ") for line in calls)), (0, 1))
-    night = Night(world, "night-stays", source)
-    night.words.append("192.0.2.7")
-    night.touch("address")
-    night.touch("no_keepalived")
-    status, calls, errors = night.run()
-    checks.equal("a night with an address that stays: status, and what it says", (status, errors), (0, "mailquota-forget: 192.0.2.7 doesn't leave: is keepalived running?\n"))
-    checks.equal("a night with an address that stays: for how many seconds it waits", calls.count("sleep 1"), 30)
-    checks.equal("a night with an address that stays: the ledger, and the server runs", (rows_in(night.ledger, again.rows()), night.has("away"), night.has("server")), (again.rows(), False, True))
-
-
-def state_of_number(pid):
-    """A process's state by its number, by proc(5)."""
-    with open(f"/proc/{pid}/stat", encoding="ascii") as stat:
-        return stat.read().rpartition(") ")[2].split()[0]
-
-
-def of_a_week(now):
-    """Mails of today and of the days before, of which some are sent, some are given back and some are under way.
-
-    There is none of two days ago: so the same is kept where the day turns before the script asks for it.
-    """
-    for n in range(1, 71):
-        its = {"txn": n, "login": b"u%d" % (n % 5), "at": DAY * (now - (0, 1, 3, 4, 5, 6)[n % 6]) + n}
-        yield from [wire.reserve(3 * n, count=2, **its), wire.settle(3 * n + 1, **its) if n % 3 else wire.release(3 * n + 1, **its)][: 1 + n % 2]
-    yield wire.limit(500, now - 6, 30, login=b"u1")
-    yield wire.retire(1, run=2)

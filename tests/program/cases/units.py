@@ -50,13 +50,6 @@ UNITS = {
     "mailquota.service": SERVER,
     "addresses.conf": {"Service": {"IPAddressAllow": ["192.0.2.0/24"]}},
     "smtpd-restart.conf": RESTARTS,
-    "mailquota-forget.service": {
-        "Service": {"Type": ["oneshot"], "ExecStart": ["/usr/sbin/mailquota-forget /etc/mailquota/server.toml /var/lib/mailquota/ledger 2"]},
-    },
-    "mailquota-forget.timer": {
-        # (a night that was missed is made up for)
-        "Timer": {"OnCalendar": ["*-*-* 03:30"], "Persistent": ["yes"]}, "Install": {"WantedBy": ["timers.target"]},
-    },
 }
 OF_KEEPALIVED = [
     "enable_script_security", "script_user nobody nogroup", 'script "/usr/libexec/mailquota/keepalived-check"', "interval 1", "timeout 1", "fall 3",
@@ -160,7 +153,7 @@ def settings_of_both(checks):
     """OPERATING counts with these: a recipient waits for three seconds at most, and a peer of the server for a third of one."""
     for name, wanted in (
         ("filter.toml", ['host = "mx1.example.org"', 'server = "192.0.2.7:7025"', "tries = 3", "timeout = 1000", "pause = 10", "hold = 5", 'log = "warn"']),
-        ("server.toml", ['listen = "192.0.2.7:7025"', 'store = "/var/lib/mailquota/ledger"', "default = 1000", "offset = 0", "timeout = 300", 'log = "info"']),
+        ("server.toml", ['listen = "192.0.2.7:7025"', 'store = "/var/lib/mailquota/ledger"', "default = 1000", "offset = 0", "keep = 2", "timeout = 300", 'log = "info"']),
     ):
         checks.equal(f"contrib/{name}: its settings", [line for line in text_of(name).splitlines() if line[0] != "#"], wanted)
 
@@ -207,9 +200,9 @@ def verified(world, checks):
     checks.equal("units by systemd-analyze verify: what it says of them", said_of(folder, units_in(folder)), [])
     # (it looks into each of them: a key that isn't one is told)
     folder = f"{world.folder}/units-with-a-fault"
-    units = units_in(folder, lambda name, text: text.replace("[Service]\n", "[Service]\nRestrat=no\n").replace("[Timer]\n", "[Timer]\nRestrat=no\n"))
+    units = units_in(folder, lambda name, text: text.replace("[Service]\n", "[Service]\nRestrat=no\n"))
     told = " ".join(said_of(folder, units))
-    names = ["mailquota.service", "mailquota-forget.service", "mailquota-forget.timer", "opensmtpd.service", "smtpd-restart.conf", "addresses.conf"]
+    names = ["mailquota.service", "opensmtpd.service", "smtpd-restart.conf", "addresses.conf"]
     checks.equal("units with a fault each: those of which it says nothing", [it for it in names if f"/{it}:" not in told], [])
 
 
