@@ -3,6 +3,7 @@ import collections
 import os
 import sqlite3
 import sys
+from typing import NamedTuple
 
 sys.path.insert(0, os.path.join(os.path.dirname(os.path.realpath(__file__)), "..", "tests", "program"))
 
@@ -51,6 +52,49 @@ def answer_row(place, login, day, used):
 
 def trans_row(place, login, day):
     return HOST, place + 1, login, day * DAY, day
+
+
+class Message(NamedTuple):
+    """A message of one recipient, which is settled or still open."""
+    host: bytes
+    login: bytes
+    day: int
+    is_settled: bool = True
+
+
+def write_messages(path, messages):
+    """A file of these messages, each in a transaction of its own: its reserve, and then its settle.
+    The numbers of all hosts are the places of the answers."""
+    used, places = collections.Counter(), []
+    with sqlite3.connect(path) as base:
+        base.executescript(TABLES)
+        rows = rows_of_messages(messages, used, places)
+        base.executemany("INSERT INTO answer VALUES (?, ?, 1, ?, ?, ?)", rows)
+        rows = ((it.host, n, it.login, it.day * DAY, it.day, not it.is_settled, it.is_settled,
+                 it.is_settled) for n, it in places)
+        base.executemany("INSERT INTO trans VALUES (?, 1, ?, ?, ?, ?, ?, ?, ?)", rows)
+        settled = collections.Counter((it.login, it.day) for _, it in places if it.is_settled)
+        rows = ((*pair, settled[pair], count - settled[pair]) for pair, count in used.items())
+        base.executemany("INSERT INTO usage VALUES (?, ?, ?, ?)", rows)
+        answers = base.execute("SELECT count(*) FROM answer").fetchone()[0]
+        base.execute("INSERT INTO setting VALUES (1, 1, 0, ?, ?)", (DEFAULT, answers))
+    base.close()
+
+
+def rows_of_messages(messages, used, places):
+    """The rows of `answer`; notes each message with its first place, and what each login used on
+    each day."""
+    n = 0
+    for it in messages:
+        n += 1
+        used[it.login, it.day] += 1
+        places.append((n, it))
+        its = {"txn": n, "login": it.login, "at": it.day * DAY, "host": it.host}
+        granted = wire.granted(n, used[it.login, it.day], host=it.host)
+        yield n, it.host, n, wire.reserve(n, **its)[2:], granted[2:]
+        if it.is_settled:
+            n += 1
+            yield n, it.host, n, wire.settle(n, **its)[2:], wire.settled(n, 1, host=it.host)[2:]
 
 
 def settings(folder, path, port):
