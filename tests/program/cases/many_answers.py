@@ -15,7 +15,7 @@ from cases.forgetting import forget, kept
 from cases.limits import limits, printed
 from cases.setting_up import of_file
 from ends import (
-    SECONDS, Server, begun, ledger_settings, nobody_there, processor_time, read_to_end, send_no_more, time_of_start, wait_for_listener, wait_until, without_time,
+    SECONDS, Server, begun, ledger_settings, nobody_there, processor_time, read_to_end, send_no_more, time_of_start, wait_until, without_time,
 )
 from rows import same_rows
 
@@ -129,24 +129,32 @@ def many_limits(world, checks):
 
 
 def a_start_that_is_held_up(world, checks, path):
-    """Once it has opened its file it is stopped for a while: its line has that time too. Mostly it isn't at that line yet, and five times are enough."""
+    """Once it has opened its file it is stopped for a while: its line has that time too, and whatever it takes until that line is there. Mostly it isn't at
+    that line yet, and five times are enough."""
     config, came = ledger_settings(world, path, default=DEFAULT, log="info", listen="127.0.0.1:0"), []
     for _ in range(5):
         log, start = world.new_file(""), time.monotonic()
         with open(log, "wb") as file, subprocess.Popen([world.program, "server", "--config", config], stdin=subprocess.DEVNULL, stdout=file, stderr=file) as process:
             wait_until(lambda process=process: has_open(process, path) or process.poll() is not None)
             process.send_signal(signal.SIGSTOP)
+            stopped = time.monotonic()
             time.sleep(HELD_UP / 1_000)
             process.send_signal(signal.SIGCONT)
-            wait_for_listener(process)
-            waited = 1_000 * (time.monotonic() - start)
+            wait_until(lambda process=process, log=log: said_in(log) or process.poll() is not None)
+            seen = time.monotonic()
             process.terminate()
-        with open(log, encoding="ascii") as lines:
-            came.append((time_of_start(lines.read().splitlines() or [""]), waited))
-        if HELD_UP <= came[-1][0] <= waited:
+        # (that the line is there may be seen a little later)
+        came.append((900 * (seen - stopped), said_in(log), 1_000 * (seen - start)))
+        if came[-1][0] <= came[-1][1] <= came[-1][2]:
             break
-    good = HELD_UP <= came[-1][0] <= came[-1][1]
-    checks.holds(f"{LIMITS:,} limits, and a start that is held up: how long it took", good, f"{HELD_UP} to {came[-1][1]:.0f} ms", came)
+    least, said, most = came[-1]
+    checks.holds(f"{LIMITS:,} limits, and a start that is held up: how long it took", least <= said <= most, f"{least:.0f} to {most:.0f} ms", came)
+
+
+def said_in(log):
+    """How many milliseconds a start took by this log; 0 where that isn't there yet."""
+    with open(log, encoding="ascii") as lines:
+        return time_of_start(lines.read().splitlines() or [""])
 
 
 def has_open(process, path):
