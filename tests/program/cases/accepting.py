@@ -58,11 +58,12 @@ def the_last_connection_stays_open(world, checks):
 
 def its_address_alone(world, checks):
     """It listens at the address of its settings, and at no other one of the machine's."""
-    for host, other in (("127.0.0.1", "127.0.0.2"), ("127.0.0.2", "127.0.0.1")):
-        with Server(world, host=host) as server, socket.socket() as peer:
-            checks.equal(f"a server at {host}, asked there", server.ask(usage()), NOTHING_USED)
+    by_night = {"words": ["--create"], "store": f"{world.folder}/by-night", "keep": 2}
+    for what, host, other, more in (("", "127.0.0.1", "127.0.0.2", {}), ("", "127.0.0.2", "127.0.0.1", {}), (", with keep", "127.0.0.1", "127.0.0.2", by_night)):
+        with Server(world, host=host, **more) as server, socket.socket() as peer:
+            checks.equal(f"a server at {host}{what}, asked there", server.ask(usage()), NOTHING_USED)
             peer.settimeout(5)
-            checks.equal(f"a server at {host}, asked at {other}", peer.connect_ex((other, server.port)), errno.ECONNREFUSED)
+            checks.equal(f"a server at {host}{what}, asked at {other}", peer.connect_ex((other, server.port)), errno.ECONNREFUSED)
 
 
 def no_files_left(world, checks):

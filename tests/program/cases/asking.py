@@ -227,6 +227,7 @@ def headings(world, checks):
             checks.equal(f"a report on a terminal {' '.join(more)}".strip(), on_terminal(world, *words, *more), (0, heading + line))
         checks.equal("a report of nobody on a terminal", on_terminal(world, "report", "--server", server.address, "--day", "9"), (0, heading))
         checks.equal("a report in a pipe", world.run(*words), (0, line.encode(), ""))
+        checks.equal("a report in a pipe, with its errors on a terminal", in_a_pipe(world, *words), (0, line.encode()))
         checks.equal("a limit on a terminal", on_terminal(world, "limit", "--server", server.address, "--host", "admin", "--login", "u", "--from", "1", "--cap", "9"), (0, "set\n"))
 
 
@@ -246,6 +247,15 @@ def on_terminal(world, *words):
             shown += more
     os.close(ours)
     return process.returncode, shown.decode().replace("\r\n", "\n")
+
+
+def in_a_pipe(world, *words):
+    """The status of the program, and what it writes in a pipe, where standard input and standard error are a terminal."""
+    ours, theirs = pty.openpty()
+    run = subprocess.run([world.program, *words], stdin=theirs, stdout=subprocess.PIPE, stderr=theirs)
+    os.close(theirs)
+    os.close(ours)
+    return run.returncode, run.stdout
 
 
 def device_that_is_full(world, checks):

@@ -4,7 +4,7 @@ import subprocess
 import time
 
 from cases.stopping import LAST_DAY, caps
-from ends import NO_FILE, SECONDS, Server, fault, of_settings, toml, wait_past_midnight
+from ends import NO_FILE, SECONDS, Server, fault, loopback_of_6, of_settings, toml, wait_past_midnight
 from smtpd import clock
 from wire import granted, limit, old, reserve
 
@@ -24,6 +24,7 @@ def run(world, checks):
     by_the_filters_settings(world, checks)
     which_goes_first(world, checks)
     days_by_the_zone(world, checks)
+    over_ipv6(world, checks)
     without_settings(world, checks)
     wrong_settings(world, checks)
     retires(world, checks)
@@ -131,10 +132,22 @@ def days_by_the_zone(world, checks):
         checks.equal("a stop of that day by its number, of a login that sent nothing", came, fault(f"nothing sent on day {theirs} or the two before; check the login, or use --force"))
         came = with_settings(world, "stop", "later", "--day", str(theirs - 1), *named, **in_place)
         checks.equal("a stop of the day before by its number", came, (2, b"", f"mailquota: day {theirs - 1} is not today, which is day {theirs}; use --force\n"))
+        came = with_settings(world, "stop", "later", "--ago", "0", *named, **in_place)
+        checks.equal("a stop of no days ago by settings that the words name", came, fault(f"nothing sent on day {theirs} or the two before; check the login, or use --force"))
         came = with_settings(world, "report", "--ago", str(theirs), "--config", config)
         checks.equal("a report of day 0, by how many days ago it was", came, (0, b"", ""))
         came = with_settings(world, "report", "--ago", str(LAST_DAY), "--config", config)
         checks.equal("a report of a day before day 0", came, fault("day unavailable"))
+
+
+def over_ipv6(world, checks):
+    """Settings may have an address of IPv6."""
+    if loopback_of_6() != "::1":
+        checks.skip("a report by settings with an address of IPv6", "there is none")
+        return
+    with Server(world, default=9, host="::1") as server:
+        words = ["report", "--day", "1", "--login", "u", "--config", world.new_file(server_settings(server.address))]
+        checks.equal("a report by settings with an address of IPv6", world.run(*words), (0, b"      0       0       9 u\n", ""))
 
 
 def without_settings(world, checks):
@@ -158,6 +171,10 @@ def wrong_settings(world, checks):
             came = with_settings(world, "report", "--day", "1", **found)
             cause = of_settings(f"{PLACE}/{name}.toml", "Is a directory (os error 21)")
             checks.equal(f"a report by settings of the {name} that can't be read", came, fault("settings can't be read", log=cause))
+        too_large = "#" * 65_537
+        for name, found in (("server", {"server": too_large, "filter_": filter_settings(server.address)}), ("filter", {"filter_": too_large})):
+            came = with_settings(world, "report", "--day", "1", **found)
+            checks.equal(f"a report by settings of the {name} that are too large", came, fault("settings too large", log=of_settings(f"{PLACE}/{name}.toml", "settings too large")))
     nothing = f"{world.folder}/nothing"
     came = with_settings(world, "report", "--day", "1", "--config", nothing, server=server_settings("127.0.0.1:1"))
     checks.equal("settings that the words name and aren't there", came, fault("settings can't be read", log=of_settings(nothing, NO_FILE)))

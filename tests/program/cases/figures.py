@@ -27,6 +27,7 @@ RUNS, OPEN = 8, 2_550
 # answers before a limit whose reply a retire clears
 BEFORE = 1_200
 PEERS, ASKED = 60, 2_000
+KEEPING = "server with keep"
 # A server holds of a connection a piece of what came, of 4,096 bytes, a request that isn't whole yet, and eight replies, and may have twice the room
 # for each; and so much more is for what it needs besides.
 OF_A_PEER, BESIDES = 2 * (4_096 + 512 + 8 * 275), 2_000_000
@@ -200,10 +201,14 @@ def timeouts(world, checks):
     found = {}
 
     def wait(which, timeout, enough):
-        ask = of_a_server if which == "server" else of_a_filter
-        found[which, timeout] = soon(lambda: ask(world, timeout), enough)
+        if which == "filter":
+            found[which, timeout] = soon(lambda: of_a_filter(world, timeout), enough)
+            return
+        more = {"words": ["--create"], "store": f"{world.folder}/keeping", "keep": 2} if which == KEEPING else {}
+        with Server(world, timeout=timeout, **more) as server:
+            found[which, timeout] = soon(lambda: of_a_server(server), enough)
 
-    rows = [(which, timeout, enough) for timeout, enough in ((300, 0.9), (30_000, 50)) for which in ("server", "filter")]
+    rows = [(which, timeout, enough) for timeout, enough in ((300, 0.9), (30_000, 50)) for which in ("server", "filter")] + [(KEEPING, 300, 0.9)]
     waiting = [threading.Thread(target=wait, args=row, daemon=True) for row in rows]
     for it in waiting:
         it.start()
@@ -211,19 +216,19 @@ def timeouts(world, checks):
         it.join()
     for which, timeout, enough in rows:
         came, took = found[which, timeout]
-        if which == "server":
-            checks.equal(f"a server's timeout of {timeout:,} ms: what a silent peer is sent, and its line", came, (b"", ["read failed"]))
+        if which != "filter":
+            checks.equal(f"a {which}'s timeout of {timeout:,} ms: what a silent peer is sent, and its line", came, (b"", ["read failed"]))
         else:
             checks.equal(f"a filter's timeout of {timeout:,} ms: a silent server", came, (0, REGISTRATION + answer(SERVICE)))
         checks.holds(f"a {which}'s timeout of {timeout:,} ms: how long it waits", timeout / 1_000 <= took < enough, f"{timeout / 1_000} s", f"{took:.2f} s")
 
 
-def of_a_server(world, timeout):
+def of_a_server(server):
     """What a peer gets that sends nothing, and what is logged of it."""
-    with Server(world, timeout=timeout) as server:
-        with server.connect() as peer:
-            came = read_all(peer)
-        return came, [line.rpartition(": ")[2] for line in server.log_lines()]
+    before = len(server.log_lines())
+    with server.connect() as peer:
+        came = read_all(peer)
+    return came, [line.rpartition(": ")[2] for line in server.log_lines()[before:]]
 
 
 def of_a_filter(world, timeout):

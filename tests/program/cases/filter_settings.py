@@ -55,6 +55,7 @@ def files(world, checks):
         expect(world, checks, what, content, NOT_TOML)
     for what, content, place in [
         ("no TOML in line 3", "# first\n\n= 1\n", "line 3, column 1: "),
+        ("a key twice, in line 3", 'host = "mx1"\n\nhost = "mx2"\n', "line 3, column 1: "),
         ("a string that is open behind two characters of two bytes", 'host = "\u00e9\u00e9\n', "line 1, column 11: "),
         ("bytes that are no text, in line 2", b'\nhost = "\xff"\n', "line 2, column 9: "),
     ]:

@@ -15,7 +15,7 @@ from cases.crowds import long_logins
 from cases.edges import answers
 from cases.filters import AUTH, BEGIN, COMMIT, CONFIG, GRANTED, PROCEED, RCPT, REGISTRATION, RESERVE, SETTLE, SETTLED, answer
 from cases.many_numbers import ALICE, Filter
-from ends import LONG, Script, Server, fault, of_settings, read_to_end, send_no_more, toml
+from ends import LONG, Script, Server, fault, ledger_settings, of_settings, read_to_end, send_no_more, toml
 
 LONGEST_LINE = 65_536
 LONGEST_SETTINGS = 65_536
@@ -142,8 +142,10 @@ def paths(world, checks):
         path += "/" + "f" * (length - len(path) - 1)
         with Server(world, words=["--create"], store=path) as server:
             checks.equal(f"a path of {len(path)} bytes: a new file", answers(server, wire.reserve(1)), wire.granted(1, 1))
-        with Server(world, store=path) as server:
-            checks.equal(f"a path of {len(path)} bytes: opened again", answers(server, wire.reserve(1) + wire.reserve(2)), wire.granted(1, 1) + wire.granted(2, 2))
+        with Server(world, store=path, keep=2) as server:
+            checks.equal(f"a path of {len(path)} bytes: opened again, with keep", answers(server, wire.reserve(1) + wire.reserve(2)), wire.granted(1, 1) + wire.granted(2, 2))
+        came = world.run("forget", "--config", ledger_settings(world, path), "--before", "1", "--into", f"{path}.new")
+        checks.equal(f"a path of {len(path)} bytes: forget into one beside it", came, (0, b"kept answers=2 of 2, limits=0\n", ""))
         parts.append(len(path))
     checks.equal("the lengths of these paths", parts, tried)
 

@@ -4,7 +4,10 @@ import os
 import re
 import subprocess
 
-from ends import Server, listening_port, toml, wait_until
+import wire
+from cases.figures import taken
+from cases.retiring import of_version, written
+from ends import listening_port, toml, wait_until
 
 LINE = re.compile(r"\[WARN  mq_program::memory\] (.*)")
 # in a name space of its own: this file for that of the process's group, this folder for the system's groups, and then the words
@@ -15,9 +18,8 @@ def run(world, checks):
     if os.geteuid():
         print("    (left out: it wants root)", flush=True)
         return
-    path = f"{world.folder}/fits"
-    with Server(world, words=["--create"], store=path):
-        pass
+    # (of so many limits that half of the file would take less)
+    path = written(world, "fits", *of_version(3, taken(3, (wire.limit(n, 1, 5, login=b"%05d" % n) for n in range(1, 6_001)))))
     bytes_of = os.path.getsize(path)
     most = bytes_of // 333_333 + 14
     warned = f"{path}: a start takes up to about {most} MB, and this process may have %d bytes; if it is killed, set MemoryMax={most}M"

@@ -46,6 +46,7 @@ CHANGES, KILLS = (18, 296, 77, 82, 87), 8
 def run(world, checks):
     wait_past_midnight()
     forgets_at_a_start(world, checks)
+    keeps_as_long_as_may_be(world, checks)
     repairs(world, checks)
     leaves_what_is_locked(world, checks)
     counts_on(world, checks)
@@ -64,9 +65,9 @@ def today():
     return int(time.time()) // DAY
 
 
-def first_day():
+def first_day(keep=KEEP):
     """The first day that is kept where something was reserved today: a night begins at 03:00."""
-    return min((int(time.time()) - 10_800) // DAY, today()) - KEEP
+    return min((int(time.time()) - 10_800) // DAY, today()) - keep
 
 
 def days_of(number):
@@ -197,6 +198,19 @@ def is_noted(world, checks, path, day):
     os.rename(f"{path}.kept", f"{path}.night")
 
 
+def keeps_as_long_as_may_be(world, checks):
+    """With keep = 366 the day that is so many days back stays, and the one before it goes."""
+    what, path, day = "keep = 366", f"{world.folder}/year", first_day(366)
+    books, frames = Books(0, DEFAULT), [request(number, of) for number, of in enumerate((day - 1, day, day + 200, today()), start=1)]
+    with Server(world, words=["--create"], store=path, default=DEFAULT) as server:
+        assert asked(server, frames) == [books.serve(it) for it in frames]
+    with nightly(world, path, keep=366) as server:
+        good = wait_until(lambda: is_through(server))
+        lines = [line.partition(": ")[2].partition(", in ")[0] for line in server.log_lines() if "are forgotten" in line]
+        checks.equal(f"{what}: what is forgotten", (good, lines), (True, [f"the days before {day} are forgotten"]))
+    same_rows(checks, what, path, books.remembered(day))
+
+
 # ---- what a kill leaves
 
 def two_files(world):
@@ -316,6 +330,15 @@ def counts_on(world, checks):
         good = wait_until(lambda: is_through(server))
         came += [it for number in range(901, 905) for it in asked(server, [request(number, today())])]
         checks.equal("five connections: days were forgotten, and the status", (good, server.status()), (True, 0))
+        lines, day = [re.sub(r"[0-9]+ ms", "N ms", line) for line in server.log_lines()], first_day()
+        wanted = [
+            f"[INFO  mq_program::nights] ledger {path}: has days from {today() - 5} on, keeps {KEEP} before today",
+            f"[INFO  mq_program::nights] listening on {server.listen} for 5 connections",
+            f"[INFO  mq_nights::evening] forgetting the days before {day}",
+            f"[INFO  mq_program::nights] ledger {path}: the days before {day} are forgotten, in N ms, the last N ms without an answer",
+            "[INFO  mq_program::nights] ending after 5 connections",
+        ]
+        checks.equal("five connections: the log behind its first line", lines[1:], wanted)
     checks.equal("five connections: replies", came, [books.serve(request(number, today())) for number in range(900, 905)])
     with nightly(world, path) as server:
         checks.equal("five connections, then a start without days to be forgotten: files", (len(asked(server, [wire.page()])), names(path)), (1, NOTED))
@@ -345,8 +368,13 @@ def no_new_file(world, checks):
         frames = [request(number, today(), host=b"mx2") for number in range(1, 30)]
         checks.equal("no new file: replies", asked(server, frames), [books.serve(it) for it in frames])
         lines = [line for line in server.log_lines() if line.startswith(("[WARN", "[ERROR"))]
-        good = any(f"{path}.part: " in line for line in lines) and any("next attempt in an hour" in line for line in lines)
-        checks.holds("no new file: what is logged", good and len(lines) == 4, "why, at each step, and the next attempt", lines)
+        is_folder = "Is a directory (os error 21)"
+        left = f"[WARN  mq_program::switching] {path}.part, which a renewal left: {is_folder}"
+        wanted = [
+            left, of_store(f"{path}.part", is_folder).rstrip(), left,
+            f"[WARN  mq_nights::evening] days before {first_day()} stay: no new store; next attempt in an hour",
+        ]
+        checks.equal("no new file: what is logged", lines, wanted)
     os.rmdir(f"{path}.part")
     same_rows(checks, "no new file", path, books)
     checks.equal("no new file: files", names(path), ["", "-wal"])

@@ -265,6 +265,7 @@ def run(world, checks):
     largest_text(world, checks)
     enough(world, checks)
     outputs(world, checks)
+    an_input_that_fails(world, checks)
     for example in EXAMPLES:
         # (a text that is no hexadecimal gets no ledger)
         if example.printed:
@@ -306,6 +307,13 @@ def outputs(world, checks):
         came = world.run_with_room(room, "replay", "--default", "3", text=ONE_RESERVE.encode())
         wanted = (1, ITS_REPLY[:room].encode(), "mailquota: write failed\n")
         checks.equal(f"replay over an output with room for {room} bytes", came, wanted)
+
+
+def an_input_that_fails(world, checks):
+    folder = os.open(world.folder, os.O_RDONLY)
+    run = subprocess.run([world.program, "replay"], stdin=folder, capture_output=True)
+    os.close(folder)
+    checks.equal("replay of a folder", (run.returncode, run.stdout, run.stderr), (1, b"", b"mailquota: read failed\n"))
 
 
 def over_tables(world, checks, what, text):

@@ -3,7 +3,7 @@ import re
 import time
 
 from cases.stopping import SET, caps, no_limit, orders_of, run_of, said, usage_reply, wait_past_midnight
-from ends import NO_PORT, Script, Server, bad_address, nobody_there, unavailable
+from ends import NO_PORT, Script, Server, bad_address, loopback_of_6, nobody_there, unavailable
 from smtpd import clock
 from wire import frame, limit, number, page_reply, reserve, row, text, usage
 
@@ -19,6 +19,7 @@ def run(world, checks):
     wrong_words(world, checks)
     notes(world, checks)
     a_device_that_is_full(world, checks)
+    as_many_and_as_long_as_may_be(world, checks)
 
 
 def at(*addresses):
@@ -155,9 +156,17 @@ def one_number_for_all(world, checks):
     runs = [run_of(heard) for heard in first.heard + second.heard]
     checks.equal("a number that the first has already: the runs", [it - runs[0] for it in runs], [0, 1, 0])
     with Script([usage_reply(2, 3), is_set, is_set], otherwise=no_limit) as first, Script([usage_reply(1, 0), is_set, is_set], otherwise=no_limit) as second:
+        before = clock()
         world.run("stop", *at(first.address, second.address), "--host", "admin", "--login", "u", "--day", "1", "--force")
     checks.equal("stop at two: the limits", (orders_of(first), orders_of(second)), ([(1, 0, 1, 5), (19, 0, 2, 0)], [(1, 0, 1, 1), (19, 0, 2, 0)]))
     checks.equal("stop at two: one run", run_of(first.heard[1]), run_of(second.heard[1]))
+    checks.holds("stop at two: its run is the clock's", before <= run_of(first.heard[1]) <= clock(), f"from {before} on, and not later", first.heard)
+    with Script([usage_reply(2, 3), is_set, is_set]) as first, Script([usage_reply(1, 0), is_set, is_set]) as second:
+        before = clock()
+        world.run("resume", *at(first.address, second.address), "--host", "admin", "--login", "u", "--day", "1", "--cap", "4")
+    checks.equal("resume at two: the limits", (orders_of(first), orders_of(second)), ([(1, 0, 1, 9), (19, 0, 2, 4)], [(1, 0, 1, 5), (19, 0, 2, 4)]))
+    checks.equal("resume at two: one run", run_of(first.heard[1]), run_of(second.heard[1]))
+    checks.holds("resume at two: its run is the clock's", before <= run_of(first.heard[1]) <= clock(), f"from {before} on, and not later", first.heard)
     with Server(world, default=3) as server:
         came = world.run(*limiting, *at(server.address, server.address))
         checks.equal("one server twice", came, (0, (heading(server.address) + b"set\n") * 2, ""))
@@ -222,3 +231,23 @@ def a_device_that_is_full(world, checks):
         status, _, errors = world.run("report", *at(first.address, second.address), "--day", "9", output=device)
         failed = "mailquota: write failed\n"
         checks.equal("a report of nothing at two to a full device", (status, errors), (1, failed + undone(first.address) + failed + undone(second.address)))
+
+
+def as_many_and_as_long_as_may_be(world, checks):
+    """Six servers, one whose address is as long as any, and a host of 64 bytes that asks."""
+    with Server(world) as first, Server(world) as second:
+        six = [first.address, second.address] * 3
+        came = world.run("status", *at(*six))
+        checks.equal("status at six", came, (0, b"".join(heading(it) + f"quota server {it} answers\n".encode() for it in six), ""))
+        both, longest = at(first.address, second.address), "mx-1." + "a" * 59
+        for name, more, done in [("stop", ["--force"], b"stopped: u used 0 on day 1\nlimit before: 3\n"), ("resume", ["--cap", "5"], b"resumed: u may use 5 on day 1\n")]:
+            came = world.run(name, *both, "--host", longest, "--login", "u", "--day", "1", *more)
+            checks.equal(f"{name} at two, under a host of 64 bytes", came, (0, b"".join(heading(it.address) + done for it in (first, second)), ""))
+    if loopback_of_6() != "::1":
+        checks.skip("status of two, of which one has a long address", "there is no IPv6")
+        return
+    with Server(world) as first, Server(world, host="::1") as second:
+        long = f"[0000:0000:0000:0000:0000:0000:0000:0001]:{second.port}"
+        came = world.run("status", *at(first.address, long))
+        told = heading(first.address) + f"quota server {first.address} answers\n".encode() + heading(long) + f"quota server {second.address} answers\n".encode()
+        checks.equal("status of two, of which one has a long address", came, (0, told, ""))

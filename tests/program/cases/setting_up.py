@@ -149,6 +149,9 @@ def statuses(world, checks):
         for words in (["--server", address], ["--config", config]):
             checks.equal(f"status {words[0]}", world.run("status", *words), answers(address))
         checks.equal("status: the server's log has nothing of it", server.log_lines(), lines)
+        with Server(world, host="127.0.0.2") as other:
+            config = world.new_file(toml({"listen": other.address, "store": "memory", "default": 3, "offset": 0}))
+            checks.equal("status --config of a server at another address", world.run("status", "--config", config), answers(other.address))
         server.ask(reserve(1))
         checks.equal("status changes nothing", world.run("report", "--server", address, "--day", "1"), (0, b"      0       1       3 u\n", ""))
         checks.equal("status: nothing on the day that it asks of", world.run("report", "--server", address, "--day", "0"), (0, b"", ""))

@@ -595,6 +595,12 @@ def days(world, checks):
     before = int(time.time()) // 86_400
     came = day(files[0])
     checks.holds("day now", came in [said_of(it) for it in range(before, int(time.time()) // 86_400 + 1)], f"{before}", came)
+    for what, minutes in [("half past 23", 1_410), ("half past 0", 30)]:
+        now = int(time.time())
+        # (at this offset it is so late)
+        offset = minutes - now % 86_400 // 60
+        came = day(ledger_settings(world, f"{world.folder}/nowhere/ledger", offset=offset))
+        checks.equal(f"day at {what}", came, said_of((now + 60 * offset) // 86_400))
     with open("/dev/full", "wb") as device:
         came = world.run("day", "--config", files[0], "--at", "86400", output=device)
     checks.equal("day to a full device", (came[0], came[2]), (1, "mailquota: write failed\n"))

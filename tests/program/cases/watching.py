@@ -30,6 +30,7 @@ def run(world, checks):
     two_lines_of_a_host(world, checks)
     by_the_zone(world, checks)
     two_peers_by_turns(world, checks)
+    names_as_long_as_any(world, checks)
     random_requests(world, checks)
 
 
@@ -284,6 +285,20 @@ def two_peers_by_turns(world, checks):
             level, said = near_line(login, 4, 5, day)
             wanted.append((level, name_of(peer), said))
         checks.equal("two peers by turns: each line's peer and login", it.new_lines(), wanted)
+
+
+def names_as_long_as_any(world, checks):
+    """A login of 255 bytes, a host of 64 and a run by the clock stand whole in each line."""
+    day, login, host, run = today(), b"l" * 255, b"mx-1." + b"h" * 59, int(time.time() * 1_000)
+    with Watched(world, default=5, log="info") as it:
+        what = "a login of 255 bytes"
+        checks.equal(f"{what}: that it nears its limit", it.lines(reserve(1, day, login, 4)), [near_line(login, 4, 5, day)])
+        checks.equal(f"{what}: that its limit is lowered", it.lines(wire.limit(2, day, 4, login=login)), [lowered_line(4, 5, login, day)])
+        what, named = "a host of 64 bytes", host.decode()
+        checks.equal(f"{what}: that its clock is wrong", it.lines(reserve(3, day - 3, host=host)), [clock_line(named, day - 3, day)])
+        lines = it.lines(wire.retire(4, host=host, run=run), reserve(5, day, host=host, run=run - 1))
+        wanted = [(INFO, f"runs of host {named} below {run}: retired"), (WARN, f"host {named} asks under run {run - 1}, which is retired: its recipients get 451")]
+        checks.equal(f"{what}: that its run is retired", lines, wanted)
 
 
 def random_requests(world, checks):
