@@ -2,7 +2,7 @@
 """Times what a server with `keep` answers while it forgets days: how long any request waits, and
 what it takes of a processor.
 
-usage: nights.py PROGRAM [--logins LOGINS] [--file FILE] [requests|retire|renewal]..
+usage: nights.py PROGRAM [--logins LOGINS] [--file FILE] [requests|retire|renewal|retired]..
 
 Over a file of so many logins (1,000,000 by default), each with a message on one of three days;
 three tenths are of one host and settled. The server keeps these days, by a clock of the tests.
@@ -10,6 +10,7 @@ three tenths are of one host and settled. The server keeps these days, by a cloc
     requests    the look for days that are due, at a start and at 03:00, and each kind of request
     retire      the run of that host, six tenths of an answer a login, and that of the other one
     renewal     a night: all kinds of requests while one of the days leaves, and the switch
+    retired     the same after a retire of that host's run, which the new file takes over too
 
 The files lie in a folder of TMPDIR; FILE is the one to begin with, and is made where there is none.
 The machine's load stands first.
@@ -208,23 +209,29 @@ def retire(world, source, logins):
                   flush=True)
 
 
-def renewal(world, source, logins):
+def retired(world, source, logins):
+    renewal(world, source, logins, [wire.retire(1, host=HOST, run=2)])
+
+
+def renewal(world, source, logins, before=()):
     """The clock passes to the next day's 03:00 once something was reserved on it."""
     with Night(world, source) as night:
         peer = Peer(night.server, b"adm3", [TODAY - 1, TODAY, TODAY + 1], logins)
-        peer.ask(peer.frame("reserve"))
+        for frame in [*before, peer.frame("reserve")]:
+            peer.ask(frame)
         # (as time passes, a connection that is open is late)
         peer.hang_up()
         night.clock.pass_to((TODAY + 1) * filled.DAY + AFTER)
         times, cut, began = {kind: Times() for kind in KINDS}, Times(), time.monotonic()
-        before = processor_time(night.server.process)
+        worked = processor_time(night.server.process)
         for kind in itertools.cycle(KINDS):
             frame, closed = peer.frame(kind), peer.closed
-            taken = peer.timed(frame, times[kind])
-            if peer.closed > closed:
+            peer.timed(frame, times[kind])
+            # (a connection is closed when it is two minutes old, too)
+            if peer.closed > closed and night.forgotten():
                 cut.add(times[kind].taken.pop(), times[kind].worked.pop())
                 break
-        worked = processor_time(night.server.process) - before
+        worked = processor_time(night.server.process) - worked
         print(f"  a night {time.monotonic() - began:.0f} s, of a processor {worked:.0f} s")
         for kind in KINDS:
             print(f"  {kind} meanwhile: {times[kind]}")
@@ -236,7 +243,7 @@ def renewal(world, source, logins):
         print(f"  the file, and the former one: {' and '.join(sizes)}; memory {memory} MB")
 
 
-PARTS = {"requests": requests, "retire": retire, "renewal": renewal}
+PARTS = {"requests": requests, "retire": retire, "renewal": renewal, "retired": retired}
 
 
 def main():

@@ -59,6 +59,7 @@ def run(world, checks):
     ten_nights(world, checks)
     random_histories(world, checks)
     on_full_disks(world, checks)
+    a_slow_host(world, checks)
 
 
 def today():
@@ -549,23 +550,24 @@ def warnings(server):
 
 
 def wrong_clocks(world, checks):
-    """The server's clock jumps ten years ahead and back, and ten years back: nothing is forgotten,
-    and each request answered as before. By a right clock days are forgotten as ever."""
+    """Before a night the server's clock jumps ten years ahead, back, ten years back, and back again:
+    nothing is forgotten, and each request answered as before. Then the night is as ever."""
     what, path, day = "a clock that jumps", f"{world.folder}/jumps", today()
     books, sent = Books(0, DEFAULT), itertools.count(1)
 
     def ask(of, clock_shows):
-        frames = [request(next(sent), of, host=b"mx5"), wire.usage(b"u1", day), wire.page(b"", day - 2)]
+        new, day_asked = request(next(sent), of, host=b"mx5"), day - KEEP - 1
+        frames = [new, wire.usage(b"u1", day_asked), wire.page(b"", day_asked)]
         wanted = [books.serve(it) for it in frames]
         checks.equal(f"{what}: replies as it shows {clock_shows}", asked(server, frames), wanted)
 
     with Server(world, words=["--create"], store=path, default=DEFAULT) as server:
-        frames = [request(number, day - number % (KEEP + 1)) for number in range(1, 80)]
+        frames = [request(number, day - number % (KEEP + 2)) for number in range(1, 80)]
         assert asked(server, frames) == [books.serve(it) for it in frames]
-    server, clock = by_clock(world, path, DAY * day + 43_200)
+    server, clock = by_clock(world, path, DAY * day + 3_600)
     with server:
         ask(day, "the right day")
-        for years in (10, -10):
+        for years, warned in ((10, 1), (-10, 0)):
             before = len(warnings(server))
             for hour in range(1, 4):
                 clock.jump_to(DAY * (day + 365 * years) + 43_200)
@@ -573,21 +575,19 @@ def wrong_clocks(world, checks):
                 ask(day, f"{years} years more")
             lines = warnings(server)[before:]
             words = "nothing is forgotten", f" {day}", f" {day + 365 * years}"
-            good = len(lines) == 1 and all(it in lines[0] for it in words)
-            checks.holds(f"{what} by {years} years: what is logged", good, "one line, both days", lines)
-            clock.jump_to(DAY * day + 60_000)
+            good = len(lines) == warned and all(it in line for it in words for line in lines)
+            wanted = f"{warned} line, with both days"
+            checks.holds(f"{what} by {years} years: what is logged", good, wanted, lines)
+            clock.jump_to(DAY * day + 7_200)
             ask(day, "the right day again")
         came = forgotten_from(server), names(path)
         checks.equal(f"{what}: what was forgotten meanwhile, and files", came, ([], ["", "-wal"]))
-        clock.pass_to(DAY * (day + 1) + 3_600)
-        ask(day + 1, "the next day")
-        clock.pass_to(DAY * (day + 1) + 10_860)
-        first = due(books, day + 1)
-        ask(day + 1, "03:01")
+        clock.pass_to(DAY * day + 10_860)
+        ask(day, "03:01")
         came = wait_until(lambda: is_through(server)), forgotten_from(server)
-        checks.equal(f"{what}: then a day is forgotten", came, (True, [first]))
-        books = books.remembered(first)
-        ask(day + 1, "03:01, and a day is forgotten")
+        checks.equal(f"{what}: then days are forgotten", came, (True, [day - KEEP]))
+        books = books.remembered(day - KEEP)
+        ask(day, "03:01, and days are forgotten")
         server.process.kill()
         server.status()
     same_rows(checks, what, path, books)
@@ -738,50 +738,55 @@ def pass_night(server, clock, moment, frame, books, nights, dice):
     """Lets time pass to a night. Where days are due it asks until the switch closes the connection,
     and asks again what that cut off. Gives the books then, and what differs from them, and notes
     the days from which on was kept."""
-    differs, it = [], wire.usage()
-    with server.connect() as peer, peer.makefile("rb") as back:
-        # (so the connection is one of the former ledger's)
-        peer.sendall(it)
-        whole_reply(back)
-        clock.pass_to(moment)
-        first = due(books, moment // DAY)
-        while True:
-            peer.sendall(it)
-            if not (reply := whole_reply(back)):
-                break
-            if reply != books.serve(it):
-                differs.append(it)
-            if not first:
-                return books, differs
-            time.sleep(dice.choice([0, 0, 0, 0.02 * dice.random()]))
-            it = frame()
-    # (with what was reserved meanwhile more days may be due at once)
-    while first:
-        nights.append(first)
-        if not wait_until(lambda: len(forgotten_from(server)) >= len(nights)):
-            differs.append(first)
-        books = books.remembered(first)
-        first = due(books, moment // DAY)
-    # (by the second it has looked)
-    for again in (wire.usage(), it):
-        if asked(server, [again]) != [books.serve(again)]:
-            differs.append(again)
+    differs, it, first, is_night = [], wire.usage(), None, False
+    while len(forgotten_from(server)) == len(nights):
+        with server.connect() as peer, peer.makefile("rb") as back:
+            # (once this is answered, it is one of the former ledger's, or the night is over)
+            reply = exchanged(peer, back, wire.usage())
+            if not is_night:
+                clock.pass_to(moment)
+                first, is_night = due(books, moment // DAY), True
+            while reply and len(forgotten_from(server)) == len(nights):
+                if not (reply := exchanged(peer, back, it)):
+                    break
+                if reply != books.serve(it):
+                    differs.append(it)
+                if not first:
+                    return books, differs
+                time.sleep(dice.choice([0, 0, 0, 0.02 * dice.random()]))
+                it = frame()
+    nights.append(first)
+    books = books.remembered(first)
+    if asked(server, [it]) != [books.serve(it)]:
+        differs.append(it)
     return books, differs
+
+
+def exchanged(peer, back, frame):
+    """The reply to a frame, where the whole of it comes."""
+    try:
+        peer.sendall(frame)
+    except OSError:
+        return b""
+    return whole_reply(back)
 
 
 # ---- full disks
 
-# bytes that a disk has beyond a ledger and its log, where days are to be forgotten
-ROOMS = [100_000 * it for it in (3, 4, 5, 7, 9, 12, 15, 18, 60, 120)]
+# bytes that a disk has beyond a ledger and its log, where days are to be forgotten: too few to make
+# a new file, too few for all of it, and enough
+ROOMS = [10_000, 100_000, 200_000, 270_000, 300_000, 350_000, 400_000, 450_000, 2 * 10**6, 6 * 10**6]
+# reserves of a ledger whose log has the size that it keeps
+FILLING = 300
 
 
 def on_full_disks(world, checks):
-    """The disk has no room for all of a new file: days stay, and the server goes on."""
+    """The disk has no room for a new file, or for a part: days stay, and the server goes on."""
     if not can_mount(world, checks, "a night on full disks"):
         return
-    # (so many requests give its log the size that it keeps: those that come meanwhile need no room)
+    # (so the requests that come meanwhile need no room)
     source = f"{world.folder}/roomy"
-    filled(world, source, MANY)
+    filled(world, source, FILLING)
     ends = [on_a_full_disk(world, checks, source, room) for room in ROOMS]
     good = 0 < sum(ends) < len(ends)
     checks.holds("nights on full disks: which forgot days", good, "some, and not all", ends)
@@ -791,7 +796,7 @@ def on_a_full_disk(world, checks, source, room):
     """Whether days are forgotten where a disk has so many bytes beyond the ledger."""
     size = os.path.getsize(source) + os.path.getsize(f"{source}-wal")
     what, books = f"a disk with room for {room:,} bytes", Books(0, DEFAULT)
-    for frame in requests(MANY):
+    for frame in requests(FILLING):
         books.serve(frame)
     with Disk(world, size + room) as disk:
         path = copied(source, f"{disk.folder}/ledger")
@@ -815,3 +820,39 @@ def on_a_full_disk(world, checks, source, room):
         kept = copied(path, f"{world.folder}/of-disk{room}")
     same_rows(checks, what, kept, books.remembered(first_day()) if is_forgotten else books)
     return is_forgotten
+
+
+# ---- a host whose clock is slow
+
+def a_slow_host(world, checks):
+    """A host whose clock is five days slow asks all the time: days are forgotten once a night."""
+    what, path = "a host that is five days slow", f"{world.folder}/slow"
+    filled(world, path)
+    with nightly(world, path) as server:
+        clients = [SlowClient(server, name) for name in (b"mx7", b"mx8")]
+        for it in clients:
+            it.start()
+        good = wait_until(lambda: is_through(server))
+        for it in clients:
+            before = it.read
+            good = good and wait_until(lambda: it.read > before + 50)
+        nights = forgotten_from(server)
+        for it in clients:
+            it.is_over = True
+            it.join(timeout=SECONDS)
+    came, wanted = (good, nights), (True, [first_day()])
+    checks.equal(f"{what}: it is answered, and what is forgotten", came, wanted)
+
+
+class SlowClient(threading.Thread):
+    """Reserves for a day that is over, one request after the other, each on a connection."""
+
+    def __init__(self, server, host):
+        super().__init__(daemon=True)
+        self.server, self.host, self.read, self.is_over = server, host, 0, False
+
+    def run(self):
+        for number in itertools.count(1):
+            if self.is_over:
+                return
+            self.read += len(asked(self.server, [request(number, today() - 5, host=self.host)]))
