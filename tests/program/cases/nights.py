@@ -168,7 +168,6 @@ def forgets_at_a_start(world, checks):
         server.process.kill()
         server.status()
     checks.equal("a start: files", names(path), NOTED)
-    is_noted(world, checks, path, day)
     same_rows(checks, "a start", path, books)
     checks.equal("a start: audit", audit(world, path, default=DEFAULT), sound(books))
     checks.equal("a start: audit of the former file", audit(world, f"{path}.old", default=DEFAULT)[0], 0)
@@ -343,6 +342,7 @@ def counts_on(world, checks):
     checks.equal("five connections: replies", came, [books.serve(request(number, today())) for number in range(900, 905)])
     with nightly(world, path) as server:
         checks.equal("five connections, then a start without days to be forgotten: files", (len(asked(server, [wire.page()])), names(path)), (1, NOTED))
+    is_noted(world, checks, path, first_day())
 
 
 def clocks_that_differ(world, checks):
