@@ -14,13 +14,12 @@ import time
 CODE = bytes.fromhex("b8e4000000 0f05 89ff 83ff01 770e 488d150b000000 488b0cfa 48010e 31c0 c3 90")
 # Runs a program whose realtime clock is ahead: "clock", the seconds that it is, and the words. A
 # process that nobody waits for traces it until its code is in memory, and puts in the other.
-TICKING = f"""import ctypes, os, sys, time
+TICKING = f"""import ctypes, os, sys
 sys.path.insert(0, {os.path.dirname(os.path.abspath(__file__))!r})
 import clocks
-SEIZE, GO_ON, DETACH, TRACED_BY, OF_EXECUTIONS, EXECUTES = 0x4206, 7, 17, 0x59616d61, 16, 4
-libc, traced = ctypes.CDLL(None), os.getpid()
-def ptrace(what, data):
-    return libc.ptrace(ctypes.c_long(what), ctypes.c_long(traced), None, ctypes.c_void_p(data))
+from tracing import let_begin, libc, ptrace, seize
+GO_ON, DETACH, TRACED_BY, OF_EXECUTIONS, EXECUTES = 7, 17, 0x59616d61, 16, 4
+traced = os.getpid()
 ready, is_ready = os.pipe()
 child = os.fork()
 if child:
@@ -31,25 +30,17 @@ if child:
     os.execv(sys.argv[3], sys.argv[3:])
 if os.fork():
     os._exit(0)
-os.setsid()
-for _ in range(1_000):
-    if ptrace(SEIZE, OF_EXECUTIONS) == 0:
-        break
-    time.sleep(0.001)
-else:
-    os._exit(1)
-os.write(is_ready, b"1")
-os.closerange(0, 3)
-os.close(is_ready)
+seize(traced, OF_EXECUTIONS)
+let_begin(is_ready)
 while True:
     status = os.waitpid(traced, 0x40000000)[1]
     if not os.WIFSTOPPED(status):
         break
     if status >> 16 == EXECUTES:
         clocks.replace(traced, int(sys.argv[2]))
-        ptrace(DETACH, 0)
+        ptrace(traced, DETACH, 0, 0)
         break
-    ptrace(GO_ON, 0 if status >> 16 else os.WSTOPSIG(status))
+    ptrace(traced, GO_ON, 0, 0 if status >> 16 else os.WSTOPSIG(status))
 os._exit(0)"""
 
 

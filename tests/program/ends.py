@@ -43,10 +43,12 @@ os.execv(sys.argv[3], sys.argv[3:])"""
 # the number, the first argument, the third, and the result, before the program goes on, and "end" once that has ended. "failing", a call's number, the
 # error and how many such calls are made before, as "17,5,0", and the words: that call isn't made, and fails so. "killed", the numbers of some calls and how
 # many of all these are made before, as "18,82,0", and the words: the program is killed at the next one, which isn't made.
-TRACED = """import ctypes, os, struct, sys
-SEIZE, INTERRUPT, LISTEN, GO_ON, INFO, POKE, TRACED_BY = 0x4206, 0x4207, 0x4208, 24, 0x420e, 6, 0x59616d61
+TRACED = f"""import ctypes, os, struct, sys
+sys.path.insert(0, {os.path.dirname(os.path.abspath(__file__))!r})
+from tracing import let_begin, libc, ptrace, seize
+INTERRUPT, LISTEN, GO_ON, INFO, POKE, TRACED_BY = 0x4207, 0x4208, 24, 0x420e, 6, 0x59616d61
 CALL_PLACE, RESULT_PLACE = 8 * 15, 8 * 10
-libc, traced, info = ctypes.CDLL(None), os.getpid(), ctypes.create_string_buffer(88)
+traced, info = os.getpid(), ctypes.create_string_buffer(88)
 ready, is_ready = os.pipe()
 tracer = os.fork()
 if tracer:
@@ -54,8 +56,6 @@ if tracer:
     os.close(is_ready)
     assert os.read(ready, 1), "it can't be traced"
     os.execv(sys.argv[3], sys.argv[3:])
-def ptrace(what, argument, data):
-    return libc.ptrace(ctypes.c_long(what), ctypes.c_long(traced), ctypes.c_void_p(argument), ctypes.c_void_p(data))
 notes, failing, killed, before, begun = None, -1, [], 0, (0,) * 7
 if sys.argv[1] == "noted":
     notes = open(sys.argv[2], "w", buffering=1)
@@ -63,29 +63,22 @@ elif sys.argv[1] == "killed":
     *killed, before = map(int, sys.argv[2].split(","))
 else:
     failing, error, before = map(int, sys.argv[2].split(","))
-os.setsid()
-for _ in range(1_000):
-    if ptrace(SEIZE, 0, 1) == 0:
-        break
-else:
-    sys.exit(1)
-ptrace(INTERRUPT, 0, 0)
-os.write(is_ready, b"1")
-os.closerange(0, 3)
-os.close(is_ready)
+seize(traced, 1)
+ptrace(traced, INTERRUPT, 0, 0)
+let_begin(is_ready)
 while True:
     status = os.waitpid(traced, 0x40000000)[1]
     if not os.WIFSTOPPED(status):
         break
     signal, event, goes_on, handed = os.WSTOPSIG(status), status >> 16, GO_ON, 0
     if signal == 0x85:
-        ptrace(INFO, 88, ctypes.addressof(info))
+        ptrace(traced, INFO, 88, ctypes.addressof(info))
         if info.raw[0] == 1:
             begun = struct.unpack_from("<7Q", info.raw, 24)
             if not notes and begun[0] == failing:
                 before -= 1
                 if before == -1:
-                    ptrace(POKE, CALL_PLACE, -1)
+                    ptrace(traced, POKE, CALL_PLACE, -1)
             elif begun[0] in killed:
                 before -= 1
                 if before == -1:
@@ -93,12 +86,12 @@ while True:
         elif info.raw[0] == 2 and notes:
             print(begun[0], begun[1], begun[3], *struct.unpack_from("<q", info.raw, 24), file=notes)
         elif info.raw[0] == 2 and begun[0] == failing and before == -1:
-            ptrace(POKE, RESULT_PLACE, -error)
+            ptrace(traced, POKE, RESULT_PLACE, -error)
     elif not event:
         handed = signal
     elif signal in (19, 20, 21, 22):
         goes_on = LISTEN
-    ptrace(goes_on, 0, handed)
+    ptrace(traced, goes_on, 0, handed)
 if notes:
     print("end", file=notes)"""
 SCRIPTS = {**dict.fromkeys(CALLS, WITHOUT_CALLS), **dict.fromkeys(("noted", "failing", "killed"), TRACED), "clock": clocks.TICKING}
