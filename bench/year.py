@@ -24,6 +24,7 @@ import filled
 import clocks
 from audit import kilobytes
 from cases.filters import SERVICE
+from nights import seconds_of_processor
 from ends import Server, World, processor_time, wait_until
 from smtpd import Smtpd
 
@@ -36,7 +37,8 @@ WEEK = 7
 
 
 class Day(NamedTuple):
-    """Of a day: sizes in bytes, memory in kilobytes, milliseconds of a recipient, and seconds."""
+    """Of a day: sizes in bytes, memory in kilobytes, milliseconds of a recipient by the clock and of
+    the server's processor, and seconds."""
     file: int
     all_files: int
     memory: int
@@ -44,14 +46,19 @@ class Day(NamedTuple):
     of_999: float
     slowest: float
     slowest_at_night: float
+    worked: float
+    most_worked: float
+    most_worked_at_night: float
     night: float
     processor: float
 
     def __str__(self):
         return (f"file {self.file / 1e6:.1f} MB, all files {self.all_files / 1e6:.1f} MB, memory "
                 f"{self.memory:,} KiB; a recipient {self.median:.2f} ms, 99.9% {self.of_999:.1f}, "
-                f"slowest {self.slowest:.1f}, at night {self.slowest_at_night:.1f}; the night "
-                f"{self.night:.1f} s, of a processor {self.processor:.1f} s the day")
+                f"slowest {self.slowest:.1f}, at night {self.slowest_at_night:.1f}; of a processor "
+                f"{self.worked:.2f}, at most {self.most_worked:.1f}, at night "
+                f"{self.most_worked_at_night:.1f}; the night {self.night:.1f} s, of a processor "
+                f"{self.processor:.1f} s the day")
 
 
 class Provider:
@@ -75,7 +82,8 @@ class Provider:
         return sum("are forgotten" in it for it in self.server.all_log_lines()) > self.nights
 
     def send(self, count):
-        """So many messages of this day; gives the seconds of each recipient."""
+        """So many messages of this day; gives the seconds of each recipient, by the clock and of the
+        server's processor."""
         taken = []
         for _ in range(count):
             self.sent += 1
@@ -86,9 +94,10 @@ class Provider:
             host.login(at, session, login)
             host.begin(at, session, message)
             for _ in range(OF_A_MESSAGE):
-                began = time.monotonic()
+                worked, began = seconds_of_processor(self.server.process), time.monotonic()
                 answer = host.recipient(at, session)
-                taken.append(time.monotonic() - began)
+                took = time.monotonic() - began
+                taken.append((took, seconds_of_processor(self.server.process) - worked))
                 self.answers[answer.rstrip().split(b"|", 3)[3]] += 1
             host.commit(at, session, message)
             host.report(at, b"link-disconnect", session, b"")
@@ -107,7 +116,7 @@ class Provider:
         return taken, messages
 
     def pass_day(self):
-        worked = processor_time(self.server.process)
+        before = processor_time(self.server.process)
         self.clock.pass_to(self.day * filled.DAY + MORNING)
         left = self.messages - self.messages // FIRST_PART
         taken = self.send(self.messages // FIRST_PART)
@@ -118,13 +127,16 @@ class Provider:
         night = time.monotonic() - began
         taken += self.send(left)
         self.day += 1
-        order = sorted(1e3 * it for it in taken)
+        order, worked = (sorted(1e3 * it for it in part) for part in zip(*taken))
+        slowest_at_night, most_at_night = (
+            1e3 * max(part, default=0) for part in zip(*at_night or [(0, 0)]))
         files = filter(os.path.exists, (self.path + end for end in ("", "-wal", ".old")))
         return Day(
             os.path.getsize(self.path), sum(map(os.path.getsize, files)),
             kilobytes(self.server.process, "VmRSS"), statistics.median(order),
-            order[len(order) * 999 // 1_000], order[-1], 1e3 * max(at_night, default=0), night,
-            processor_time(self.server.process) - worked,
+            order[len(order) * 999 // 1_000], order[-1], slowest_at_night,
+            statistics.median(worked), worked[-1], most_at_night, night,
+            processor_time(self.server.process) - before,
         )
 
     def end(self):

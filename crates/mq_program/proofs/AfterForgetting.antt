@@ -17,7 +17,7 @@ use Rattle.mq_ledger.specs.History.{requests}
 use Rattle.mq_ledger.specs.Legal.{Book, IsLegal}
 use Rattle.mq_forget.specs.Remembered.{AreLaterOrLate, is_about, is_of_no_forgotten, remembered}
 use Rattle.mq_server.specs.Delivery.{Delivery, answer_to, answers_after, arrivals, asked, history_after}
-use Rattle.mq_server.specs.Life.{AreAnswered, Exchange, deliveries, replies_of}
+use Rattle.mq_server.specs.Life.{Exchange, deliveries, replies_of}
 use Rattle.mq_connections.specs.Sessions.{Outside, HaveServed, Placed, all_of, those_of}
 use Rattle.mq_program.specs.AfterForgetting.{AnswersAsWhole, grown}
 

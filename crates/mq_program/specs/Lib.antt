@@ -9,3 +9,4 @@ pub mod Listing
 pub mod Refusals
 pub mod Serving
 pub mod AfterForgetting
+pub mod Nights

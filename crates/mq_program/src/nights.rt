@@ -1,18 +1,20 @@
 //! `server` with `keep`: a ledger is served night after night, and days leave it meanwhile.
-ghost use Rattle.std.specs.Prelude.{◌≡◌, IfOk, IfSome, IsSomeAnd};
+ghost use Rattle.std.specs.Prelude.{◌≡◌, IfErr, IfOk, IfSome, IsSomeAnd};
 ghost use Rattle.sqlite.specs.Held.{state};
 ghost use Rattle.mq_process.specs.Settings.{AreInRange};
 ghost use Rattle.mq_server.specs.Delivery.{HasGrown};
 ghost use Rattle.mq_store.specs.Forgetting.{IsRemembered};
 ghost use Rattle.mq_store.specs.Soundness.{book_in, HasKept, IsSound};
+ghost use Rattle.mq_program.specs.Nights.{AreKept, AreServed, HasDawned, HasPassed};
 
 use crate::fault::ProgramFault;
 use crate::last_night::{last_night, note_night};
-use crate::serving::{Crowd, Took, bind, log_ledger};
+use crate::serving::{Crowd, Served, Took, bind, log_ledger};
 use crate::store::{ledger_of_settings, log_cause, path_of};
 use crate::switching::{Names, PartStore, discard_part, make_part, switch};
 use log::{Log, info};
 use mq_connections::Connections;
+use mq_connections::laws::nothing_is_served;
 use mq_ledger::{Ledger, LedgerFault, Zone};
 use mq_nights::{NoPart, Parts, Renewed, pass_night};
 use mq_process::elapsed;
@@ -41,17 +43,24 @@ struct Nights<'a, G> {
     connections: Connections,
 }
 
-/// Lets a ledger that a renewal made take the place of the former one, to which there is a connection `C`.
+/// Lets ledgers that renewals made take the place of former ones, to which there are connections `C`.
 trait Switch<C> {
+    ghost use Rattle.std.specs.Prelude.{List, Option, None};
+    ghost use Rattle.mq_program.specs.Nights.{Closes};
+
+    /// The connections that it has closed, where it can tell: of a file that is closed nothing is known any more.
+    ghost closed: { Self → Option (List C) } = { λ _. None };
+
     /// Closes the former ledger's file once it has another name, gives that of it to the new one, and logs and notes which
     /// days were forgotten. `zone` is the ledger's, and `began` when the renewal began.
     fn take_place(
-        &self,
+        &mut self,
         former: C,
         zone: Zone,
         day: u32,
         began: Option<Instant>,
-    ) -> Result<(), ProgramFault>;
+    ) -> Result<(), ProgramFault>
+        ensures { Closes (closed self.old) former (closed self.new) };
 }
 
 /// The ledger's file, and those beside it that renewals fill.
@@ -88,7 +97,7 @@ impl<G: Log> Parts<PartStore> for NightFiles<'_, G> {
 
 impl<G: Log> Switch<Connection<PartStore>> for NightFiles<'_, G> {
     fn take_place(
-        &self,
+        &mut self,
         former: Connection<PartStore>,
         zone: Zone,
         day: u32,
@@ -189,6 +198,10 @@ fn pass<'a, G: Log, S: Alter + Drop, N: Alter + Drop, P: Parts<N> + Drop>(
         → IsSound serving.entry.zone serving.entry.default (state S.Store serving.entry.connection)
         → HasGrown (book_in serving.entry.zone serving.entry.default (state S.Store serving.entry.connection).now)
         (book_in result.ledger.zone result.ledger.default (state S.Store result.ledger.connection).now) }
+    ensures serves { HasKept (state S.Store result.ledger.connection)
+        → IsSound serving.entry.zone serving.entry.default (state S.Store serving.entry.connection)
+        → AreServed (book_in serving.entry.zone serving.entry.default (state S.Store serving.entry.connection).now)
+        (book_in result.ledger.zone result.ledger.default (state S.Store result.ledger.connection).now) }
 
     // The next one has exactly what is remembered of it.
     ensures next_lent { HasKept (state S.Store result.ledger.connection)
@@ -228,31 +241,97 @@ fn pass<'a, G: Log, S: Alter + Drop, N: Alter + Drop, P: Parts<N> + Drop>(
     }
 }
 
+/// Serves a ledger until a renewal of it is through, and the new one has taken its place. Where the server ends before, it gives
+/// the ledger that was served last.
+fn serve_to_dawn<'a, G: Log, N: Alter + Drop, F: Parts<N> + Switch<Connection<N>> + Copy + Drop>(
+    nights: &Nights<'a, G>,
+    listener: &TcpListener,
+    done: Option<u32>,
+    files: &mut F,
+    serving: Serving<'a, N, G>,
+    left: &mut Connections,
+) -> Result<Dawn<'a, N, G>, Served<N>>
+    ensures closed { AreKept (λ c. HasKept (state N.Store c)) (F.closed files.new)
+        → AreKept (λ c. HasKept (state N.Store c)) (F.closed files.old) }
+    ensures kept { AreKept (λ c. HasKept (state N.Store c)) (F.closed files.new)
+        → IfErr result (λ s. HasKept (state N.Store s.ledger.connection))
+        → HasKept (state N.Store serving.entry.connection) }
+    ensures dawn { AreKept (λ c. HasKept (state N.Store c)) (F.closed files.new) → F.is_fresh
+        → IsSound serving.entry.zone serving.entry.default (state N.Store serving.entry.connection)
+        → IfOk result (λ d. HasKept (state N.Store d.serving.connection)
+        → (d.serving.zone ≡ serving.entry.zone) × (d.serving.default ≡ serving.entry.default)
+        × HasDawned serving.entry.zone serving.entry.default
+        (book_in serving.entry.zone serving.entry.default (state N.Store serving.entry.connection).now)
+        (state N.Store d.serving.connection)) }
+    ensures end { AreKept (λ c. HasKept (state N.Store c)) (F.closed files.new) → F.is_fresh
+        → IsSound serving.entry.zone serving.entry.default (state N.Store serving.entry.connection)
+        → IfErr result (λ s. HasKept (state N.Store s.ledger.connection)
+        → HasPassed serving.entry.zone serving.entry.default
+        (book_in serving.entry.zone serving.entry.default (state N.Store serving.entry.connection).now)
+        (state N.Store s.ledger.connection)) }
+{
+    nothing_is_served();
+    let Passed { ledger, outcome } = pass(nights, listener, done, *files, serving, left);
+    match outcome {
+        Ok(Some(dawn)) => {
+            let zone = *ledger.zone();
+            match files.take_place(ledger.into_connection(), zone, dawn.day, dawn.began) {
+                Ok(()) => Ok(dawn),
+                Err(fault) => Err(Served {
+                    ledger: dawn.serving.into_inner(),
+                    outcome: Err(fault),
+                }),
+            }
+        }
+        Ok(None) => Err(Served {
+            ledger,
+            outcome: Ok(0),
+        }),
+        Err(fault) => Err(Served {
+            ledger,
+            outcome: Err(fault),
+        }),
+    }
+}
+
 /// Serves a ledger, and each that a renewal makes of the one before.
 fn pass_nights<G: Log, N: Alter + Drop, F: Parts<N> + Switch<Connection<N>> + Copy + Drop>(
     nights: &Nights<'_, G>,
     listener: &TcpListener,
-    files: F,
+    files: &mut F,
     ledger: SqlLedger<N>,
-) -> Result<u8, ProgramFault> {
+) -> Served<N>
+    ensures kept { AreKept (λ c. HasKept (state N.Store c)) (F.closed files.new)
+        → HasKept (state N.Store result.ledger.connection) → HasKept (state N.Store ledger.connection) }
+
+    // Where each ledger that was closed had kept its premise, and so has the last one: night after night connections were
+    // served, and what isn't remembered was forgotten, and nothing else came to what the ledger means.
+    ensures nights { AreKept (λ c. HasKept (state N.Store c)) (F.closed files.new) → F.is_fresh
+        → IsSound ledger.zone ledger.default (state N.Store ledger.connection)
+        → HasKept (state N.Store result.ledger.connection)
+        → HasPassed ledger.zone ledger.default
+        (book_in ledger.zone ledger.default (state N.Store ledger.connection).now)
+        (state N.Store result.ledger.connection) }
+{
+    nothing_is_served();
     let rt = nights.rt;
     let mut left = nights.connections;
     let mut serving = Watched::new(rt, nights.log, rt.alloc(), ledger);
     let mut done = None;
     // (there are fewer nights than that)
     for _night in 0..u64::MAX {
-        let Passed { ledger, outcome } = pass(nights, listener, done, files, serving, &mut left);
-        match outcome? {
-            Some(dawn) => {
-                let zone = *ledger.zone();
-                files.take_place(ledger.into_connection(), zone, dawn.day, dawn.began)?;
+        match serve_to_dawn(nights, listener, done, files, serving, &mut left) {
+            Ok(dawn) => {
                 done = dawn.night;
                 serving = dawn.serving;
             }
-            None => return Ok(0),
+            Err(served) => return served,
         }
     }
-    Ok(0)
+    Served {
+        ledger: serving.into_inner(),
+        outcome: Ok(0),
+    }
 }
 
 /// Logs from which day on a ledger has reserves, and how many before today are kept.
@@ -261,7 +340,15 @@ fn log_keep<G: Log, S: Alter>(
     path: &str,
     ledger: &mut SqlLedger<S>,
     keep: u32,
-) -> Result<(), LedgerFault> {
+) -> Result<(), LedgerFault>
+    ensures lent { (ledger.new.zone ≡ ledger.old.zone) × (ledger.new.default ≡ ledger.old.default) }
+    ensures kept { HasKept (state S.Store ledger.new.connection) → HasKept (state S.Store ledger.old.connection) }
+    ensures sound { HasKept (state S.Store ledger.new.connection)
+        → IsSound ledger.old.zone ledger.old.default (state S.Store ledger.old.connection)
+        → IsSound ledger.new.zone ledger.new.default (state S.Store ledger.new.connection) }
+    ensures same { HasKept (state S.Store ledger.new.connection)
+        → (state S.Store ledger.new.connection).now ≡ (state S.Store ledger.old.connection).now }
+{
     match ledger.days()? {
         Some(days) => {
             let oldest = days.oldest;
@@ -272,41 +359,78 @@ fn log_keep<G: Log, S: Alter>(
     Ok(())
 }
 
-/// Logs what a ledger holds as a server begins with it, and listens at the address of the settings.
+/// Logs what a ledger holds as a server begins with it, and what is kept of it.
+fn log_start<G: Log, S: Alter>(
+    nights: &Nights<'_, G>,
+    ledger: &mut SqlLedger<S>,
+    took: Took,
+) -> Result<(), LedgerFault>
+    ensures lent { (ledger.new.zone ≡ ledger.old.zone) × (ledger.new.default ≡ ledger.old.default) }
+    ensures kept { HasKept (state S.Store ledger.new.connection) → HasKept (state S.Store ledger.old.connection) }
+    ensures sound { HasKept (state S.Store ledger.new.connection)
+        → IsSound ledger.old.zone ledger.old.default (state S.Store ledger.old.connection)
+        → IsSound ledger.new.zone ledger.new.default (state S.Store ledger.new.connection) }
+    ensures same { HasKept (state S.Store ledger.new.connection)
+        → (state S.Store ledger.new.connection).now ≡ (state S.Store ledger.old.connection).now }
+{
+    log_ledger(nights.log, nights.settings, ledger, took)?;
+    log_keep(nights.log, nights.path, ledger, nights.keep)
+}
+
+/// Logs the start over a ledger, with what its last night did, and listens at the address of the settings.
 fn prepare<G: Log, S: Alter>(
     nights: &Nights<'_, G>,
     ledger: &mut SqlLedger<S>,
     took: Took,
-) -> Result<TcpListener, ProgramFault> {
-    let (log, settings, path) = (nights.log, nights.settings, nights.path);
-    let mut logged = log_ledger(log, settings, ledger, took);
-    if logged.is_ok() {
-        logged = log_keep(log, path, ledger, nights.keep);
-    }
-    if let Err(fault) = logged {
+) -> Result<TcpListener, ProgramFault>
+    ensures lent { (ledger.new.zone ≡ ledger.old.zone) × (ledger.new.default ≡ ledger.old.default) }
+    ensures kept { HasKept (state S.Store ledger.new.connection) → HasKept (state S.Store ledger.old.connection) }
+    ensures sound { HasKept (state S.Store ledger.new.connection)
+        → IsSound ledger.old.zone ledger.old.default (state S.Store ledger.old.connection)
+        → IsSound ledger.new.zone ledger.new.default (state S.Store ledger.new.connection) }
+    ensures same { HasKept (state S.Store ledger.new.connection)
+        → (state S.Store ledger.new.connection).now ≡ (state S.Store ledger.old.connection).now }
+{
+    let (log, path) = (nights.log, nights.path);
+    if let Err(fault) = log_start(nights, ledger, took) {
         log_cause(log, path, ledger);
         return Err(ProgramFault::Audit(fault));
     }
     if let Some(night) = last_night(nights.rt, path) {
         info!(log; "ledger {path}: {night}");
     }
-    bind(nights.rt, log, settings.listen)
+    bind(nights.rt, log, nights.settings.listen)
 }
 
 /// Serves a ledger, and each that a renewal makes of it. The start, the end and what prevents it are logged. It goes over any
 /// store, as all above does: each way out of a function that owns a ledger over the file's own store takes long to prove.
 fn begin_nights<G: Log, N: Alter + Drop, F: Parts<N> + Switch<Connection<N>> + Copy + Drop>(
     nights: &Nights<'_, G>,
-    files: F,
+    files: &mut F,
     ledger: SqlLedger<N>,
     took: Took,
-) -> Result<u8, ProgramFault> {
+) -> Served<N>
+    ensures { AreKept (λ c. HasKept (state N.Store c)) (F.closed files.new) → F.is_fresh
+        → IsSound ledger.zone ledger.default (state N.Store ledger.connection)
+        → HasKept (state N.Store result.ledger.connection)
+        → HasPassed ledger.zone ledger.default
+        (book_in ledger.zone ledger.default (state N.Store ledger.connection).now)
+        (state N.Store result.ledger.connection) }
+{
+    nothing_is_served();
     let mut ledger = ledger;
-    let listener = prepare(nights, &mut ledger, took)?;
-    let address = nights.settings.listen;
-    let crowd = Crowd(nights.connections);
-    info!(nights.log; "listening on {address} for {crowd}");
-    pass_nights(nights, &listener, files, ledger)
+    match prepare(nights, &mut ledger, took) {
+        Ok(listener) => {
+            let address = nights.settings.listen;
+            let crowd = Crowd(nights.connections);
+            info!(nights.log; "listening on {address} for {crowd}");
+            pass_nights(nights, &listener, files, ledger)
+        }
+        Err(fault) => Served {
+            ledger,
+            outcome: Err(fault),
+        },
+    }
 }
 
 /// Serves so many connections over the ledger in the file of the settings, with `create` over a new one. Meanwhile days leave
@@ -331,12 +455,14 @@ pub fn listen_by_night<G: Log>(
         path: names.ledger.as_str(),
         connections,
     };
-    let files = NightFiles {
+    let mut files = NightFiles {
         rt,
         log,
         names: &names,
     };
     // (the files of nights have one type, and of one that a renewal makes nothing is known before)
     let ledger = ledger_of_settings(rt, log, settings, create, Unknown)?;
-    begin_nights(&nights, files, ledger, Took(elapsed(rt, since)))
+    let took = Took(elapsed(rt, since));
+    let Served { ledger: _, outcome } = begin_nights(&nights, &mut files, ledger, took);
+    outcome
 }

@@ -92,6 +92,14 @@ fn rename(rt: &HostRuntime, from: &str, to: &str) -> io::Result<()> {
     sync_folder(rt, to)
 }
 
+/// The same; why it can't be renamed is logged.
+fn move_file<G: Log>(rt: &HostRuntime, log: &G, from: &str, to: &str) -> Result<(), ProgramFault> {
+    match rename(rt, from, to) {
+        Ok(()) => Ok(()),
+        Err(cause) => Err(unopened(log, from, cause)),
+    }
+}
+
 /// Removes a file, if it is there, and syncs its folder.
 fn remove(rt: &HostRuntime, path: &str) -> io::Result<()> {
     if is_missing(rt, path) {
@@ -99,14 +107,6 @@ fn remove(rt: &HostRuntime, path: &str) -> io::Result<()> {
     }
     fs::remove_file(rt, path)?;
     sync_folder(rt, path)
-}
-
-/// The same; why it can't be renamed is logged.
-fn move_file<G: Log>(rt: &HostRuntime, log: &G, from: &str, to: &str) -> Result<(), ProgramFault> {
-    match rename(rt, from, to) {
-        Ok(()) => Ok(()),
-        Err(cause) => Err(unopened(log, from, cause)),
-    }
 }
 
 /// Takes the lock that a process has of a database file that it has open, for as long as the file is held. There is none
@@ -168,37 +168,39 @@ fn undo<G: Log>(rt: &HostRuntime, log: &G, names: &Names) -> Result<(), ProgramF
     move_file(rt, log, names.old.as_str(), names.ledger.as_str())
 }
 
-/// Finishes or undoes a switch that was interrupted. It is refused while the process lives that switches. The cause of
+/// Holds the new file of a switch that was interrupted, which is refused while the process lives that switches. The cause of
 /// `ProgramFault::Store` is logged.
-fn repair<G: Log>(rt: &HostRuntime, log: &G, names: &Names) -> Result<(), ProgramFault> {
-    let left = find_left(rt, names);
-    let new = match left {
-        Left::Nothing => return Ok(()),
-        Left::Part => names.part.as_str(),
-        Left::Next => names.next.as_str(),
-    };
-    let _held = match hold(rt, new) {
-        Ok(Some(file)) => file,
-        Ok(None) => return Err(unopened(log, new, "database is locked")),
-        Err(cause) => return Err(unopened(log, new, cause)),
-    };
-    // (another process may have been quicker)
-    if find_left(rt, names) != left {
-        return Ok(());
+fn hold_new<G: Log>(rt: &HostRuntime, log: &G, new: &str) -> Result<File, ProgramFault> {
+    match hold(rt, new) {
+        Ok(Some(file)) => Ok(file),
+        Ok(None) => Err(unopened(log, new, "database is locked")),
+        Err(cause) => Err(unopened(log, new, cause)),
     }
+}
+
+/// Finishes or undoes a switch that was interrupted, unless another process was quicker. The cause of `ProgramFault::Store` is
+/// logged.
+fn repair<G: Log>(rt: &HostRuntime, log: &G, names: &Names) -> Result<(), ProgramFault> {
     let ledger = names.ledger.as_str();
-    match left {
-        Left::Nothing => Ok(()),
+    match find_left(rt, names) {
+        Left::Nothing => {}
         Left::Part => {
-            info!(log; "{ledger}: an interrupted switch to a new file is undone");
-            undo(rt, log, names)
+            let _held = hold_new(rt, log, names.part.as_str())?;
+            if find_left(rt, names) == Left::Part {
+                info!(log; "{ledger}: an interrupted switch to a new file is undone");
+                undo(rt, log, names)?;
+            }
         }
         Left::Next => {
-            info!(log; "{ledger}: an interrupted switch to a new file is finished");
-            drop_note(rt, ledger);
-            finish(rt, log, names)
+            let _held = hold_new(rt, log, names.next.as_str())?;
+            if find_left(rt, names) == Left::Next {
+                info!(log; "{ledger}: an interrupted switch to a new file is finished");
+                drop_note(rt, ledger);
+                finish(rt, log, names)?;
+            }
         }
     }
+    Ok(())
 }
 
 /// Finishes or undoes what is left of a switch to another ledger at this path, before that is opened. The cause of

@@ -1,0 +1,75 @@
+use Rattle.std.proofs.Common.{sym, subst}
+use Rattle.sqlite.specs.Held.{state}
+use Rattle.mq_store.specs.Soundness.{book_in, HasKept}
+use Rattle.mq_program.specs.Nights.{HasPassed}
+use Rattle.mq_program.proofs.NightSteps.{dawn_of, kept_before, one_night, passed_at_once, passed_still}
+use Rattle.mq_program.proofs.nights.serve_to_dawn.Goals as goal
+
+-- the former ledger was closed last
+pub returns-in-Ok-clause-closed : goal.returns-in-Ok-clause-closed
+returns-in-Ok-clause-closed g c = λ kept. (kept_before _ _ _ _ c.take_place.ensures kept).0
+
+pub returns-in-Err-take_place-clause-closed : goal.returns-in-Err-take_place-clause-closed
+returns-in-Err-take_place-clause-closed g c = λ kept. (kept_before _ _ _ _ c.take_place.ensures kept).0
+
+-- it had kept its premise to the end, and so at first
+pub returns-in-Ok-clause-kept : goal.returns-in-Ok-clause-kept
+returns-in-Ok-clause-kept g c = λ kept _.
+    c.pass-ledger.ensures.kept (subst (λ x. HasKept (state g.N.Store x)) c.into_connection.ensures.same (kept_before _ _ _ _ c.take_place.ensures kept).1)
+
+pub returns-in-Err-take_place-clause-kept : goal.returns-in-Err-take_place-clause-kept
+returns-in-Err-take_place-clause-kept g c = λ kept _.
+    c.pass-ledger.ensures.kept (subst (λ x. HasKept (state g.N.Store x)) c.into_connection.ensures.same (kept_before _ _ _ _ c.take_place.ensures kept).1)
+
+-- it had kept its premise, so the renewed one has what is remembered of it
+pub returns-in-Ok-clause-dawn : goal.returns-in-Ok-clause-dawn
+returns-in-Ok-clause-dawn g c = λ kept fresh sound k.
+    let old = c.args.serving in
+    let former = c.pass-ledger.result.ledger in
+    let e = c.pass-ledger.ensures in
+    let dawn = c.in-Ok-Some.dawn in
+    let served = subst (λ x. HasKept (state g.N.Store x)) c.into_connection.ensures.same (kept_before _ _ _ _ c.take_place.ensures kept).1 in
+    let lent = dawn_of _ _ dawn _ c.in-Ok-Some.is c.in-Ok-Some.field-0-is (e.next_lent served sound) in
+    let has = dawn_of _ _ dawn _ c.in-Ok-Some.is c.in-Ok-Some.field-0-is (e.remembered served sound) fresh k in (
+      lent.0,
+      lent.1,
+      (
+        has.sound,
+        one_night old.zone former.zone old.default former.default e.lent.0 e.lent.1 (book_in old.zone old.default (state g.N.Store old.connection).now) dawn.day
+            (state g.N.Store former.connection).now (state g.N.Store dawn.serving.connection) (e.serves served sound) has,
+      ),
+    )
+
+-- the switch failed, and nothing was served since
+pub returns-in-Err-take_place-clause-end : goal.returns-in-Err-take_place-clause-end
+returns-in-Err-take_place-clause-end g c = λ kept fresh sound.
+    let old = c.args.serving in
+    let former = c.pass-ledger.result.ledger in
+    let e = c.pass-ledger.ensures in
+    let dawn = c.in-Ok-Some.dawn in
+    let start = book_in old.zone old.default (state g.N.Store old.connection).now in
+    let served = subst (λ x. HasKept (state g.N.Store x)) c.into_connection.ensures.same (kept_before _ _ _ _ c.take_place.ensures kept).1 in
+    subst (λ x. HasKept (state g.N.Store x.connection) → HasPassed old.zone old.default start (state g.N.Store x.connection)) (sym c.into_inner.ensures) (λ k.
+    let has = dawn_of _ _ dawn _ c.in-Ok-Some.is c.in-Ok-Some.field-0-is (e.remembered served sound) fresh k in
+    passed_still old.zone old.default start (state g.N.Store dawn.serving.connection) c.nothing_is_served.ensures (
+      has.sound,
+      one_night old.zone former.zone old.default former.default e.lent.0 e.lent.1 start dawn.day
+          (state g.N.Store former.connection).now (state g.N.Store dawn.serving.connection) (e.serves served sound) has,
+    ))
+
+-- the serving was over, or failed
+pub returns-in-Ok-None-clause-end : goal.returns-in-Ok-None-clause-end
+returns-in-Ok-None-clause-end g c = λ _ _ sound k.
+    let old = c.args.serving in
+    let last = c.pass-ledger.result.ledger in
+    let e = c.pass-ledger.ensures in
+    passed_at_once old.zone last.zone old.default last.default e.lent.0 e.lent.1 (book_in old.zone old.default (state g.N.Store old.connection).now)
+    (state g.N.Store last.connection) (e.sound k sound) (e.serves k sound)
+
+pub returns-in-Err-clause-end : goal.returns-in-Err-clause-end
+returns-in-Err-clause-end g c = λ _ _ sound k.
+    let old = c.args.serving in
+    let last = c.pass-ledger.result.ledger in
+    let e = c.pass-ledger.ensures in
+    passed_at_once old.zone last.zone old.default last.default e.lent.0 e.lent.1 (book_in old.zone old.default (state g.N.Store old.connection).now)
+    (state g.N.Store last.connection) (e.sound k sound) (e.serves k sound)

@@ -1,0 +1,55 @@
+-- What the ledgers of a server mean, night after night.
+use Rattle.std.specs.Prelude.{◌≡◌, ℕ, List, [], ◌∷◌, ◌++◌, Option, None, Some}
+use Rattle.std.specs.List.{AllByRecursion}
+use Rattle.sqlite.specs.State.{State}
+use Rattle.mq_request.specs.declared.message.Request.{Request}
+use Rattle.mq_ledger.specs.declared.zone.Zone.{Zone}
+use Rattle.mq_ledger.specs.Day.{day_of}
+use Rattle.mq_ledger.specs.Legal.{Book}
+use Rattle.mq_forget.specs.Remembered.{remembered}
+use Rattle.mq_connections.specs.Sessions.{HaveServed, Outside}
+use Rattle.mq_connections.specs.Wires.{unknown}
+use Rattle.mq_store.specs.Soundness.{book_in, IsSound}
+
+-- this one was closed last, where it is known which were
+abbrev pub Closes : {C : Type 0} → Option (List C) → C → Option (List C) → Type 0
+Closes (Some before) last now = now ≡ Some (before ++ last ∷ [])
+Closes None last now = now ≡ None
+
+-- it is known which were closed, and it holds of each
+abbrev pub AreKept : {C : Type 0} → (C → Type 0) → Option (List C) → Type 0
+AreKept Is (Some closed) = AllByRecursion Is closed
+AreKept Is None = ⊥
+
+-- the outside of a ledger that means this book; nothing is known here of its calls and of the wires
+abbrev pub around : Book → Outside
+around b = record { book = b; told = None; wires = unknown }
+
+-- Connections were served: each is a session, whose answers are those of a ledger of the first book over what came to it
+-- before on any of them, and nothing else came to it.
+abbrev pub AreServed : Book → Book → Type 0
+AreServed old new = (failed : Option Request) × HaveServed (around old) (around new) failed
+
+-- what is remembered of it from a day on
+abbrev pub remembering : ℕ → Book → Book
+remembering day b = record { zone = b.zone; default = b.default; history = remembered (day_of b.zone) day b.history }
+
+-- From the first book on, night after night: connections were served, and then what isn't remembered from a day on was
+-- forgotten.
+pub data AfterNights (start : Book) : Book → Type 0 where
+  Begun : AfterNights start start
+  Night : (b grown : Book) (day : ℕ) → AfterNights start b → AreServed b grown → AfterNights start (remembering day grown)
+
+-- the same, and then connections were served
+pub record ServesNights (start now : Book) : Type 0 where
+  pub dawn : Book
+  pub nights : AfterNights start dawn
+  pub served : AreServed dawn now
+
+-- the sound store means what a ledger of this book means after a night
+abbrev pub HasDawned : Zone → ℕ → Book → State → Type 0
+HasDawned zone default old new = IsSound zone default new × AfterNights old (book_in zone default new.now)
+
+-- the sound store means what a ledger of this book means after nights, and what was served since
+abbrev pub HasPassed : Zone → ℕ → Book → State → Type 0
+HasPassed zone default old new = IsSound zone default new × ServesNights old (book_in zone default new.now)
