@@ -53,7 +53,7 @@ def sittings(mails, recipients, open_sessions=0):
 def built_bench(here, folder):
     """The program of filter_bench, built with a copy of the crates: were it a crate of the repository, the gate would prove it."""
     top, room = here.parent, Path(folder) / "repository"
-    shutil.copytree(top / "crates", room / "crates", ignore=shutil.ignore_patterns("incremental", "must-fail"))
+    shutil.copytree(top / "crates", room / "crates", ignore=shutil.ignore_patterns("incremental", "must-fail", "further"))
     shutil.copy(top / "HANDLES", room)
     (room / ".git").mkdir()
     (room / "crates.txt").write_text((top / "crates.txt").read_text() + "filter_bench: mq_link mq_client mq_line mq_track mq_request mq_stream log\n")

@@ -39,6 +39,7 @@ FILES = {
     "crates/low/src/lib.rt": SOURCE.format(name="low"),
     "crates/low/specs/Lib.antt": "is_one\n",
     "crates/low/must-fail/low.edit": EDIT.format(name="low"),
+    "crates/low/further/witness.edit": EDIT.format(name="low_witness"),
     "crates/high/src/lib.rt": SOURCE.format(name="high"),
     "crates/high/proofs/high.antt": "by one\n",
     "crates/high/must-fail/high.edit": "case: peers: one\n" + EDIT.format(name="high"),
@@ -64,6 +65,10 @@ COMMANDS = {"rt": '''\
 import hashlib, os, re, sys
 if sys.argv[1] == "help":
     print("--anew")
+    sys.exit()
+if sys.argv[1] == "check":
+    for it in re.findall(r"fn (\\w+)", open("src/lib.rt").read()):
+        print(f"fn {os.path.basename(os.getcwd())}::{it}: proved")
     sys.exit()
 kit = os.path.dirname(os.path.dirname(os.path.abspath(__file__)))
 kept, whole = f"{kit}/kept", "".join(open(it).read() for it in ("HANDLES", f"{kit}/KIT-ID", f"{kit}/bin/rattle"))
@@ -116,6 +121,7 @@ CHANGES = [
     ("a spec", "crates/low/specs/Lib.antt", "is_one", "is_two", ["low", *EDITS, *OTHERS]),
     ("a proof", "crates/high/proofs/high.antt", "by one", "by two", EDITS),
     ("an edit", "crates/low/must-fail/low.edit", "{ 2 }", "{ 3 }", ["low"]),
+    ("a further edit", "crates/low/further/witness.edit", "{ 2 }", "{ 3 }", []),
     ("an edit's case", "crates/high/must-fail/high.edit", "peers: one", "peers: two", ["high"]),
     ("a row of crates.txt", "crates.txt", "low:\n", "low: hex\n", ["low", "near the end", "tests"]),
     ("the handles", "HANDLES", "none", "Net", ["low", *EDITS, "near the end", "tests"]),
@@ -212,6 +218,8 @@ class KeepingTest:
         self.tries("where nothing can be kept", ALL, "gate", "--from-nothing", XDG_CACHE_HOME="/dev/null")
         tried, said = self.gate("must-fail")
         self.look("the edits alone", (tried, said.split("\n")[-2]), ([], "3 passed, 0 failed"), said)
+        tried, said = self.gate("further")
+        self.look("the further edits", (tried, said.split("\n")[-2]), (["low_witness"], "1 passed, 0 failed"), said)
 
     def not_whole(self):
         """What is cut off, changed or no file counts as none; then rt has proved a crate, and a check has to tell its functions."""

@@ -6,7 +6,7 @@ usage: run.py gate [CRATE ..]        tests/prose; rt ci over a copy of the tree 
                                      each compiler built it, and the worked examples with each allocation refused. With names: these crates and
                                      those below
        run.py must-fail [CRATE ..]   the gate's edits alone, over libraries that `rt lib` builds where they stand
-       run.py further [CRATE ..]     the same for the edits of tests/edits/CRATE, which the gate leaves out
+       run.py further [CRATE ..]     the same for the edits of crates/CRATE/further, which the gate leaves out
        run.py look [CRATE ..]        the gate's edits, each looked at once more, where the gate does so with a few
 
 What the first finds as it must be is kept on this machine, by the sums of all that it was made from, and isn't tried again; with
@@ -27,7 +27,6 @@ import traceback
 sys.dont_write_bytecode = True
 HERE = os.path.dirname(os.path.realpath(__file__))
 TOP = os.path.dirname(HERE)
-FURTHER = f"{TOP}/tests/edits"
 sys.path.insert(0, HERE)
 
 import minutes
@@ -52,7 +51,7 @@ REFUSED = re.compile(r"rt: (\w+)(: its tests are)? NOT PROVED")
 # The last line of a check of some functions: how many they are, and how many are proved.
 ONLY = re.compile(r"only=(\d+) proved=(\d+)\Z")
 # What no case of tests/program reads: the cases run where there is none of it.
-READ_BY_NO_CASE = re.compile(r"crates/|crates\.txt\Z|HANDLES\Z|bench/|gate/.*\.py\Z|tests/(edits|near_the_end|prose|smtpd|refusals|takeover|bodies)/"
+READ_BY_NO_CASE = re.compile(r"crates/|crates\.txt\Z|HANDLES\Z|bench/|gate/.*\.py\Z|tests/(near_the_end|prose|smtpd|refusals|takeover|bodies)/"
                              r"|docs/(?!INSTALL\.md\Z|OPERATING\.md\Z)|\.ci/|\.git(/|\Z|ignore\Z)|README\.md\Z|CONTRIBUTING\.md\Z")
 # The crates of tests, which are run without their proofs, and what of each is proved all the same: that there are sources, sinks, links, ledgers and
 # networks of which contracts say all that they carried, and that a caller may know nothing but the trait.
@@ -111,14 +110,16 @@ def files_of(tree):
 
 
 def copy_tree(wanted, tree, edits):
-    """Copies the repository with the wanted crates, but for its must-fail edits, which go into a folder of their own."""
+    """Copies the repository with the wanted crates without their further edits. Their must-fail edits go into a folder of their own."""
     rows = rows_of(TOP)
     for file in files_of(TOP):
         parts = file.split("/")
         if parts[0] == "crates" and parts[1] in rows and parts[1] not in wanted:
             continue
-        is_edit = parts[0] == "crates" and parts[2:3] == ["must-fail"]
-        to = "/".join([edits, parts[1], *parts[3:]]) if is_edit else f"{tree}/{file}"
+        part = parts[2] if parts[0] == "crates" and len(parts) > 3 else None
+        if part == "further":
+            continue
+        to = "/".join([edits, parts[1], *parts[3:]]) if part == "must-fail" else f"{tree}/{file}"
         os.makedirs(os.path.dirname(to), exist_ok=True)
         shutil.copy2(f"{TOP}/{file}", to, follow_symlinks=False)
     with open(f"{TOP}/crates.txt", encoding="utf-8") as old, open(f"{tree}/crates.txt", "w", encoding="utf-8") as new:
@@ -309,7 +310,7 @@ def run_near_the_end(tree, sums, kept, sum_):
 def run_tests(names, tree, kept, sum_):
     """Runs the tests of these crates, which are built without proofs, and proves the modules of them that are to be proved."""
     for it in names:
-        shutil.copytree(f"{TOP}/crates/{it}", f"{tree}/crates/{it}", ignore=shutil.ignore_patterns("out", "must-fail"))
+        shutil.copytree(f"{TOP}/crates/{it}", f"{tree}/crates/{it}", ignore=shutil.ignore_patterns("out", "must-fail", "further"))
     shutil.copy2(f"{TOP}/crates.txt", f"{tree}/crates.txt")
     sums = Sums(tree)
     for it in names:
@@ -371,14 +372,17 @@ def add_cases(name, ran, sum_):
     return passed + failed
 
 
-def alone(names, place_of, sum_, kept=None, cases=None, looks_at_all=False):
-    """Tries edits over the libraries where they stand. `cases` are the names of what has cases, where an edit is to name one."""
+def alone(names, part, sum_, kept=None, cases=None, looks_at_all=False):
+    """Tries the edits in this folder of crates, over the libraries where they stand. `cases` are the names of what has cases, where an edit is to
+    name one."""
     rows, sums = rows_of(TOP), Sums(TOP, is_built=False)
+    place_of = lambda it: f"{TOP}/crates/{it}/{part}"
+    names = names or sorted(it for it in os.listdir(f"{TOP}/crates") if os.path.isdir(place_of(it)))
     for it in {*names} - {*rows}:
         sum_.fail(it, "it is no crate of crates.txt")
     proved = lambda it: proved_in(run([RT, "check"], it.folder, LONGEST_CI).said.split("\n"))[it.name]
     every = []
-    for it in (it for it in names or rows if it in rows and os.path.isdir(place_of(it))):
+    for it in (it for it in names if it in rows and os.path.isdir(place_of(it))):
         edits = Edits(kept, sums, it, place_of(it), cases) if kept else None
         every.append(Rounds(Crate(TOP, it), place_of(it), proved, cases, edits, looks_at_all))
     for library in dict.fromkeys(it for rounds in every if rounds.is_left() for it in rounds.crate.below):
@@ -386,10 +390,6 @@ def alone(names, place_of, sum_, kept=None, cases=None, looks_at_all=False):
         if ran.status:
             print(ran.said)
     try_edits(every, sum_)
-
-
-def further():
-    return sorted(it for it in os.listdir(FURTHER) if os.path.isdir(f"{FURTHER}/{it}") and it != "__pycache__")
 
 
 def main(words):
@@ -409,11 +409,11 @@ def main(words):
         if verb == "gate":
             gate(names, sum_, takes)
         elif verb == "further":
-            alone(names or further(), lambda it: f"{FURTHER}/{it}", sum_)
+            alone(names, "further", sum_)
         elif verb == "must-fail":
-            alone(names, lambda it: f"{TOP}/crates/{it}/must-fail", sum_, Kept(takes, keeps=False), groups())
+            alone(names, "must-fail", sum_, Kept(takes, keeps=False), groups())
         elif verb == "look":
-            alone(names, lambda it: f"{TOP}/crates/{it}/must-fail", sum_, looks_at_all=True)
+            alone(names, "must-fail", sum_, looks_at_all=True)
         else:
             print(__doc__)
             sum_.fail("run.py", "it was called wrongly")

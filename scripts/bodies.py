@@ -139,7 +139,7 @@ def functions_of(body):
 
 def copy_sources(root):
     shutil.copy(f"{TOP}/crates.txt", root)
-    shutil.copytree(f"{TOP}/crates", f"{root}/crates", ignore=shutil.ignore_patterns("out", "must-fail", "proofs", "specs"))
+    shutil.copytree(f"{TOP}/crates", f"{root}/crates", ignore=shutil.ignore_patterns("out", "must-fail", "further", "proofs", "specs"))
 
 
 def plant(root, planted):

@@ -34,7 +34,7 @@ def built_twin(folder):
 def built_ledger(folder):
     """The program of main.rattle, built with a copy of the crates: were it a crate of the repository, the gate would prove it."""
     top, room = HERE.parent.parent, Path(folder) / "repository"
-    shutil.copytree(top / "crates", room / "crates", ignore=shutil.ignore_patterns("must-fail"))
+    shutil.copytree(top / "crates", room / "crates", ignore=shutil.ignore_patterns("must-fail", "further"))
     shutil.copy(top / "HANDLES", room)
     (room / ".git").mkdir()
     (room / "crates.txt").write_text((top / "crates.txt").read_text() + f"store_bench: {DEPENDENCIES}\n")

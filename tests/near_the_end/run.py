@@ -33,7 +33,7 @@ def tried(crate):
     with tempfile.TemporaryDirectory(prefix="near-") as root:
         os.mkdir(f"{root}/.git")
         shutil.copy(f"{TOP}/crates.txt", root)
-        shutil.copytree(f"{TOP}/crates", f"{root}/crates", ignore=shutil.ignore_patterns("out", "must-fail", "proofs"))
+        shutil.copytree(f"{TOP}/crates", f"{root}/crates", ignore=shutil.ignore_patterns("out", "must-fail", "further", "proofs"))
         for file in os.listdir(f"{HERE}/{crate}"):
             module = f"{root}/crates/{crate}/src/{file[:-len('.rt.in')]}"
             os.makedirs(module, exist_ok=True)
