@@ -1,12 +1,11 @@
 #!/usr/bin/env python3
-"""Runs the program as an administrator, smtpd and a peer would, over loopback, and prints what was expected and what came.
+"""Runs the program as an administrator, smtpd and a peer would, over loopback, and prints what was
+expected and what came.
 
-usage: run.py PROGRAM [WORD..]     with words: the groups of cases whose names have one of them
-       run.py --gate PROGRAM       the groups that the gate runs
-       run.py --group GROUP PROGRAM [FUNCTION]     one group in this process, or what one function of it has of it
-
-Groups run side by side, each in a process of its own. The last line is 'N passed, M failed', and the status 1 where any failed.
+Groups of cases run side by side, each in a process of its own. The last line is
+'N passed, M failed', and the status 1 where any failed.
 """
+import argparse
 import importlib
 import inspect
 import os
@@ -18,6 +17,7 @@ import tempfile
 import time
 import traceback
 from concurrent.futures import ThreadPoolExecutor
+from pathlib import Path
 
 sys.dont_write_bytecode = True
 # (the ledger that expected replies are taken from)
@@ -26,12 +26,9 @@ sys.path.append(os.path.join(os.path.dirname(os.path.abspath(__file__)), os.pard
 from checks import Checks
 from ends import World
 
-# (those that take longest stand first)
-GATE_GROUPS = [
-    "figures", "many_answers", "many_numbers", "many_sessions", "forgetting", "nights", "causes", "edges", "full_pages", "lengths", "crowds", "bodies", "full_disks", "asking", "filters", "questions", "peers", "restarts", "filter_settings", "holding_back", "server_settings", "replays", "audits", "damage", "words", "links",
-    "stores", "refusals", "recordings", "two_hosts", "signals", "as_used", "edges_of_clients",
-    "oracles", "zones", "costs", "failing_calls", "retiring", "stopping", "servers", "defaults", "setting_up", "limits", "watching", "naming", "storms", "accepting", "contrib", "examples", "units", "spelling",
-]
+CASES = Path(__file__).parent / "cases"
+# those of them that take longest, and so begin first
+FIRST_GROUPS = ["figures", "many_answers", "many_numbers", "many_sessions", "forgetting", "nights", "causes", "edges", "full_pages", "lengths", "crowds", "bodies", "full_disks"]
 # what these do to a server, its files and the machine takes longer, and some of it wants root
 OTHER_GROUPS = ["kills", "failures", "many_limits", "memory_limits"]
 # these run only where they are named
@@ -49,36 +46,39 @@ def main():
     # (what runs in the background may ignore these, and the program would inherit it; one that is caught it doesn't)
     for it in (signal.SIGINT, signal.SIGHUP, signal.SIGTERM):
         signal.signal(it, lambda number, _: sys.exit(128 + number))
-    words = sys.argv[1:]
-    if not words:
-        print(__doc__, end="", file=sys.stderr)
-        return 2
-    if words[0] == "--group":
-        return run_group(*words[1:])
-    if words[0] == "--gate":
-        return run_groups(words[1], GATE_GROUPS)
-    return run_groups(words[0], groups_of(words[1:]))
+    asked = parsed()
+    if asked.group:
+        return run_group(asked.group, asked.program, *asked.words)
+    return run_groups(asked.program, gate_groups() if asked.gate else groups_of(asked.words))
+
+
+def parsed():
+    parser = argparse.ArgumentParser(description=__doc__, formatter_class=argparse.RawDescriptionHelpFormatter)
+    parser.add_argument("program", metavar="PROGRAM")
+    parser.add_argument("words", metavar="WORD", nargs="*", help="only the groups whose names have one of these words")
+    alone = parser.add_mutually_exclusive_group()
+    alone.add_argument("--gate", action="store_true", help="the groups that the gate runs")
+    alone.add_argument("--group", metavar="GROUP", help="this group, in this process; a WORD is one function of it, and all others do nothing")
+    asked = parser.parse_args()
+    if asked.gate and asked.words or asked.group and len(asked.words) > 1:
+        parser.error(f"too many words: {' '.join(asked.words)}")
+    return asked
+
+
+def gate_groups():
+    """Each file of cases is a group of the gate, but for those named above."""
+    found = sorted(it.stem for it in CASES.glob("*.py"))
+    return FIRST_GROUPS + [it for it in found if it not in FIRST_GROUPS + OTHER_GROUPS + LONG_GROUPS + NO_GROUPS]
 
 
 def groups_of(words):
-    if not words:
-        return GATE_GROUPS + OTHER_GROUPS
-    return [group for group in GATE_GROUPS + OTHER_GROUPS + LONG_GROUPS if any(word in group for word in words)]
-
-
-def unlisted():
-    """The files of cases that no list above names, which so would never run."""
-    files = os.listdir(os.path.join(os.path.dirname(os.path.abspath(__file__)), "cases"))
-    listed = {*GATE_GROUPS, *OTHER_GROUPS, *LONG_GROUPS, *NO_GROUPS}
-    return sorted({os.path.splitext(it)[0] for it in files if it.endswith(".py")} - listed)
+    groups = gate_groups() + OTHER_GROUPS
+    return [it for it in groups + LONG_GROUPS if any(word in it for word in words)] if words else groups
 
 
 def run_groups(program, groups):
     """Runs these groups, each as it is ready, and prints of them in this order."""
     passed, failed, running = 0, 0, []
-    for group in unlisted():
-        print(f"NOT {group}: no list names it")
-        failed += 1
     pool = ThreadPoolExecutor(AT_ONCE)
     try:
         for group, (told, status) in zip(groups, pool.map(lambda group: told_by(group, program, running), groups)):
