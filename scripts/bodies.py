@@ -1,16 +1,20 @@
 #!/usr/bin/env python3
-"""Runs the planted bodies: wrong bodies of functions that no contract refuses, each with the case or the test that is to fail over it.
+"""Runs the planted bodies: wrong bodies of functions that no contract refuses, each with the case or
+the test that is to fail over it.
 
-usage: bodies.py [NAME ..]     all, or those of these crates and names
+A body is a file tests/bodies/CRATE/NAME.edit, written as a must-fail edit, or a must-fail edit
+itself, with a line 'case: GROUP: NAME' for a case of tests/program that begins so, or
+'case: CRATE: TEST' for a test of mq_ends_tests or mq_store_tests. With several such lines each is to
+fail.
 
-A body is a file tests/bodies/CRATE/NAME.edit, written as a must-fail edit, or a must-fail edit itself, with a line 'case: GROUP: NAME' for a case of
-tests/program that begins so, or 'case: CRATE: TEST' for a test of mq_ends_tests or mq_store_tests. With several such lines each is to fail.
-
-All bodies stand in one program, which is built without proofs, each with a number: a function runs the body whose number PLANTED in the environment
-is, and else its own. So one build serves all, and each is tried alone. A body that changes more than functions has a build of its own. What is to
-fail has to pass in the same build without a body. RT_JOBS in the environment says how many builds and runs there are at once, by default two.
-The last line is 'N passed, M failed', and the status 1 where any failed.
+All bodies stand in one program, which is built without proofs, each with a number: a function runs
+the body whose number PLANTED in the environment is, and else its own. So one build serves all, and
+each is tried alone. A body that changes more than functions has a build of its own. What is to fail
+has to pass in the same build without a body. RT_JOBS in the environment says how many builds and
+runs there are at once, by default two. The last line is 'N passed, M failed', and the status 1 where
+any failed.
 """
+import argparse
 import collections
 import contextlib
 import hashlib
@@ -323,13 +327,14 @@ def runs_without(bodies, programs, pool):
     return {case: runs[it] for case, it in wanted.items()}
 
 
-def main(words):
-    everything = all_bodies()
-    asked = [it for it in everything if not words or it.crate in words or it.name in words]
-    unknown = [it for it in words if it not in {name for body in everything for name in (body.crate, body.name)}]
+def main():
+    parser = argparse.ArgumentParser(description=__doc__, formatter_class=argparse.RawDescriptionHelpFormatter)
+    parser.add_argument("names", metavar="NAME", nargs="*", help="only the bodies of these names, or of these crates")
+    names, everything = parser.parse_args().names, all_bodies()
+    asked = [it for it in everything if not names or it.crate in names or it.name in names]
+    unknown = [it for it in names if it not in {name for body in everything for name in (body.crate, body.name)}]
     if unknown:
-        print(f"no crate and no body has this name: {', '.join(unknown)}", file=sys.stderr)
-        return 2
+        parser.error(f"no crate and no body has this name: {', '.join(unknown)}")
     with ThreadPoolExecutor(int(os.environ.get("RT_JOBS", 2))) as pool:
         targets = sorted({it for body in asked for it in body.targets()})
         # (all stand in the builds, so that these serve the next run too)
@@ -351,4 +356,4 @@ def main(words):
 
 
 if __name__ == "__main__":
-    sys.exit(main(sys.argv[1:]))
+    sys.exit(main())

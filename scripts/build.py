@@ -1,20 +1,22 @@
 #!/usr/bin/env python3
 """Proves and compiles the crates that the program stands on.
 
-usage: build.py            builds the program
-       build.py --plan     runs nothing: says what that costs, by gate/minutes.txt
+It says with which crate it begins, which is done, of how many, and how long that took; what rattle
+says of a crate stands in crates/NAME/out/build.log. A crate is proved again where its files, those
+of a crate below it, or the kit have changed; where nothing has, it does nothing. RT in the
+environment is the command rt, whose kit proves.
 
-It says with which crate it begins, which is done, of how many, and how long that took; what rattle says of a crate stands in crates/NAME/out/build.log.
-A crate is proved again where its files, those of a crate below it, or the kit have changed; where nothing has, it does nothing. RT in the environment
-is the command rt, whose kit proves.
+A crate is proved over the statements of those below it, without their proofs, as rt ci has it: a
+check then loads a fraction of them, and any two crates can be proved at once. These libraries stand
+in crates/NAME/out/build, apart from what rt keeps there for checks of a single crate. Which crate
+waits for which stands in a makefile, crates/mailquota/out/mailquota.mk, by which make runs this
+script for each crate, with '--prove' and how many jobs it has.
 
-A crate is proved over the statements of those below it, without their proofs, as rt ci has it: a check then loads a fraction of them, and any two crates
-can be proved at once. These libraries stand in crates/NAME/out/build, apart from what rt keeps there for checks of a single crate. Which crate waits for
-which stands in a makefile, crates/mailquota/out/mailquota.mk, by which make runs this script for each crate, with '--prove' and how many jobs it has.
-
-The program prints its version with the commit that it is built of. So its own crate, and no other, is proved and compiled from a copy, in
-crates/mailquota/out/build/source, in which the version has that commit; no source is written.
+The program prints its version with the commit that it is built of. So its own crate, and no other,
+is proved and compiled from a copy, in crates/mailquota/out/build/source, in which the version has
+that commit; no source is written.
 """
+import argparse
 import hashlib
 import os
 import re
@@ -258,16 +260,22 @@ def plan(below):
     return 0
 
 
-def main(words):
-    rows = rows_of(TOP)
+def parsed():
+    parser = argparse.ArgumentParser(description=__doc__, formatter_class=argparse.RawDescriptionHelpFormatter)
+    way = parser.add_mutually_exclusive_group()
+    way.add_argument("--plan", action="store_true", help="run nothing: say what a build costs, by gate/minutes.txt")
+    way.add_argument("--prove", nargs=2, metavar=("CRATE", "JOBS"), help="one crate alone, as the makefile has it")
+    return parser.parse_args()
+
+
+def main():
+    asked, rows = parsed(), rows_of(TOP)
     known = crates(rows)
-    if words == ["--plan"]:
+    if asked.plan:
         return plan(known)
-    if words[:1] == ["--prove"]:
-        return prove(words[1], int(words[2]))
-    if words:
-        print(__doc__, end="", file=sys.stderr)
-        return 2
+    if asked.prove:
+        name, jobs = asked.prove
+        return prove(name, int(jobs))
     # (so that what runs is ended)
     signal.signal(signal.SIGTERM, lambda number, _: sys.exit(128 + number))
     if build(rows, known):
@@ -277,4 +285,4 @@ def main(words):
 
 
 if __name__ == "__main__":
-    sys.exit(main(sys.argv[1:]))
+    sys.exit(main())

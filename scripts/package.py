@@ -1,12 +1,11 @@
 #!/usr/bin/env python3
 """Makes what is handed out, in dist/, and the file SHA256SUMS there.
 
-usage: package.py deb     the Debian package of the program that `make build` proved
-       package.py dist    an archive of the source of this commit
-
-Two runs over one commit make the same bytes, wherever its tree lies. The package has the times of debian/changelog, or those that SOURCE_DATE_EPOCH
-in the environment says; the archive has the commit's. In the archive the file COMMIT tells builds which commit it is.
+Two runs over one commit make the same bytes, wherever its tree lies. The package has the times of
+debian/changelog, or those that SOURCE_DATE_EPOCH in the environment says; the archive has the
+commit's. In the archive the file COMMIT tells builds which commit it is.
 """
+import argparse
 import glob
 import hashlib
 import io
@@ -79,14 +78,15 @@ def write_sums():
                 sums.write(f"{hashlib.sha256(file.read()).hexdigest()}  {it}\n")
 
 
-def main(words):
-    making = {"deb": make_package, "dist": make_archive}
-    if len(words) != 1 or words[0] not in making:
-        print(__doc__, end="", file=sys.stderr)
-        return 2
+def main():
+    parser = argparse.ArgumentParser(description=__doc__, formatter_class=argparse.RawDescriptionHelpFormatter)
+    kinds = parser.add_subparsers(required=True, metavar="deb|dist")
+    kinds.add_parser("deb", help="the Debian package of the program that `make build` proved").set_defaults(make=make_package)
+    kinds.add_parser("dist", help="an archive of the source of this commit").set_defaults(make=make_archive)
+    make = parser.parse_args().make
     os.makedirs(DIST, exist_ok=True)
     try:
-        made = making[words[0]]()
+        made = make()
     except Wrong as why:
         print(why, file=sys.stderr)
         return 1
@@ -96,4 +96,4 @@ def main(words):
 
 
 if __name__ == "__main__":
-    sys.exit(main(sys.argv[1:]))
+    sys.exit(main())

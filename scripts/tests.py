@@ -1,11 +1,12 @@
 #!/usr/bin/env python3
-"""Builds the tests of crates without their proofs, and runs them: minutes, where to prove them takes a quarter of an hour for each crate.
+"""Builds the tests of crates without their proofs, and runs them: minutes, where to prove them takes a
+quarter of an hour for each crate.
 
-usage: tests.py CRATE ..
-
-What a test shows it shows as it runs; `rt test` in the crate's folder proves it too. The kit runs each in a process of its own. The last line is
-'N passed, M failed', and the status is 1 where any failed.
+What a test shows it shows as it runs; `rt test` in the crate's folder proves it too. The kit runs
+each in a process of its own. The last line is 'N passed, M failed', and the status is 1 where any
+failed.
 """
+import argparse
 import os
 import re
 import resource
@@ -44,10 +45,10 @@ def run(crate, folder):
     return passed, failed
 
 
-def main(crates):
-    if not crates or not {*crates} <= {*rows_of(TOP)}:
-        print(__doc__, end="", file=sys.stderr)
-        return 2
+def main():
+    parser = argparse.ArgumentParser(description=__doc__, formatter_class=argparse.RawDescriptionHelpFormatter)
+    parser.add_argument("crates", metavar="CRATE", nargs="+", choices=rows_of(TOP), help="a crate of crates.txt")
+    crates = parser.parse_args().crates
     # (a failed assertion ends the test's process, which is to leave no core file)
     resource.setrlimit(resource.RLIMIT_CORE, (0, 0))
     passed = failed = 0
@@ -60,4 +61,4 @@ def main(crates):
 
 
 if __name__ == "__main__":
-    sys.exit(main(sys.argv[1:]))
+    sys.exit(main())

@@ -1,9 +1,6 @@
 #!/usr/bin/env python3
-"""Builds the program without proofs, and plays the demo over it.
-
-usage: try.py            builds it where a source changed since, and plays the demo
-       try.py --build    builds it alone
-"""
+"""Builds the program without proofs, where a source changed since, and plays the demo over it."""
+import argparse
 import os
 import subprocess
 import sys
@@ -44,17 +41,17 @@ def build():
     return True
 
 
-def main(words):
-    if words not in ([], ["--build"]):
-        print(__doc__, end="", file=sys.stderr)
-        return 2
+def main():
+    parser = argparse.ArgumentParser(description=__doc__)
+    parser.add_argument("--build", action="store_true", help="build it, and play nothing")
+    asked = parser.parse_args()
     print(NOTHING, flush=True)
     status = 0 if is_built() or build() else 1
-    if not status and not words:
+    if not status and not asked.build:
         status = subprocess.run([sys.executable, f"{TOP}/examples/demo.py", BINARY, f"{TOP}/examples/one-reserve.hex"]).returncode
     print(NOTHING)
     return status
 
 
 if __name__ == "__main__":
-    sys.exit(main(sys.argv[1:]))
+    sys.exit(main())
