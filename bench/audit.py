@@ -1,12 +1,13 @@
 #!/usr/bin/env python3
-"""Times `mailquota audit` and the start of a server, which audits too, over database files of many answers, compared with audit_twin.cpp.
+"""Times `mailquota audit` and the start of a server, which audits too, over database files of many
+answers, compared with audit_twin.cpp.
 
-usage: audit.py [--windows N] PROGRAM [ANSWERS..]
-
-Each answer is a reserve of one recipient in a transaction of its own; ten of them share a login and day. Then files in which each has
-a login of its own. All lie in a folder of TMPDIR. The twin does the same work over libsqlite3, once with a check of all rows and indexes
-first, as the library under mailquota makes it, and once without. It wants c++ and libsqlite3's header (Debian: libsqlite3-dev). All four
-run by turns, N times (5 by default), and medians are printed: seconds by the clock, seconds of a processor, and memory at most.
+Each answer is a reserve of one recipient in a transaction of its own; ten of them share a login and
+day. Then files in which each has a login of its own. All lie in a folder of TMPDIR. The twin does
+the same work over libsqlite3, once with a check of all rows and indexes first, as the library under
+mailquota makes it, and once without. It wants c++ and libsqlite3's header (Debian: libsqlite3-dev).
+All four run by turns, and medians are printed: seconds by the clock, seconds of a processor, and
+memory at most.
 """
 import argparse
 import os
@@ -123,17 +124,16 @@ def measure(program, twin, windows, folder, answers, what, login_and_day):
 
 
 def main():
-    parser = argparse.ArgumentParser()
-    parser.add_argument("--windows", type=int, default=5)
-    parser.add_argument("program")
-    parser.add_argument("answers", type=int, nargs="*", default=[10_000, 100_000, 1_000_000])
+    parser = argparse.ArgumentParser(description=__doc__, formatter_class=argparse.RawDescriptionHelpFormatter)
+    parser.add_argument("--windows", metavar="N", type=int, default=5, help="how often each runs, by default %(default)s times")
+    parser.add_argument("program", metavar="PROGRAM", type=os.path.abspath)
+    parser.add_argument("answers", metavar="ANSWERS", type=int, nargs="*", default=[10_000, 100_000, 1_000_000], help="how many answers a file has, by default %(default)s")
     given = parser.parse_args()
-    program = os.path.abspath(given.program)
     with tempfile.TemporaryDirectory() as folder:
         twin = built_twin(folder)
         for what, login_and_day in (("ten of a login and day", shared), ("each of a login of its own", alone)):
             for answers in given.answers:
-                measure(program, twin, given.windows, folder, answers, what, login_and_day)
+                measure(given.program, twin, given.windows, folder, answers, what, login_and_day)
 
 
 if __name__ == "__main__":

@@ -1,17 +1,14 @@
 #!/usr/bin/env python3
 """Memory of one server over many connections, and whether each request of them is answered.
 
-usage: endless.py PROGRAM [CONNECTIONS]
-
-A server over a file, begun with --endless, gets so many connections (3,000,000 by default), one
-after the other from each of two clients: each thousandth reserves, in a transaction of its own, and
-each other one asks what is used. The resident memory stands after each tenth. The file lies in a
-folder of TMPDIR.
+A server over a file, begun with --endless, gets so many connections, one after the other from each
+of two clients: each thousandth reserves, in a transaction of its own, and each other one asks what
+is used. The resident memory stands after each tenth. The file lies in a folder of TMPDIR.
 """
+import argparse
 import multiprocessing
 import os
 import socket
-import sys
 import tempfile
 import time
 
@@ -51,11 +48,14 @@ def unanswered(work):
 
 
 def main():
-    program = os.path.abspath(sys.argv[1])
-    piece = (int(sys.argv[2]) if sys.argv[2:] else 3_000_000) // TENTHS
+    parser = argparse.ArgumentParser(description=__doc__, formatter_class=argparse.RawDescriptionHelpFormatter)
+    parser.add_argument("program", metavar="PROGRAM", type=os.path.abspath)
+    parser.add_argument("connections", metavar="CONNECTIONS", type=int, nargs="?", default=3_000_000, help="by default %(default)s")
+    asked = parser.parse_args()
+    piece = asked.connections // TENTHS
     with tempfile.TemporaryDirectory() as folder, multiprocessing.Pool(CLIENTS) as clients:
         words = ["--create", "--endless"]
-        with Server(World(program, folder), connections=0, words=words, store=f"{folder}/ledger",
+        with Server(World(asked.program, folder), connections=0, words=words, store=f"{folder}/ledger",
                     default=1_000_000) as server:
             assert is_answered(server.port, 1), "the first request isn't answered"
             lost, began = 0, time.monotonic()

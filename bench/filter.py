@@ -1,13 +1,10 @@
 #!/usr/bin/env python3
-"""Filter requests per second through `run_filter` over memory with a link that grants at once, compared with filter_twin.rs (the
-same lines, sessions and numbers in plain Rust), by turns.
-
-usage: filter.py [PROGRAM]
-Without a program it proves and builds bench/filter_bench first, with rt on the PATH.
+"""Filter requests per second through `run_filter` over memory with a link that grants at once,
+compared with filter_twin.rs (the same lines, sessions and numbers in plain Rust), by turns.
 """
+import argparse
 import shutil
 import subprocess
-import sys
 import tempfile
 from pathlib import Path
 
@@ -66,9 +63,11 @@ def built_bench(here, folder):
 
 
 def main():
-    here = Path(__file__).resolve().parent
+    parser = argparse.ArgumentParser(description=__doc__)
+    parser.add_argument("program", metavar="PROGRAM", nargs="?", help="what was built of bench/filter_bench; without it that is proved and built first, with rt on the PATH")
+    asked, here = parser.parse_args(), Path(__file__).resolve().parent
     with tempfile.TemporaryDirectory() as folder:
-        program = sys.argv[1] if sys.argv[1:] else built_bench(here, folder)
+        program = asked.program or built_bench(here, folder)
         twin = built(here / "filter_twin.rs", folder)
         print("median of 15 runs by turns, process start counted")
         for title, mails, recipients, idle in MIXES:

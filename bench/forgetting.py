@@ -1,11 +1,12 @@
 #!/usr/bin/env python3
-"""Times `mailquota forget`, which keeps half of a file's answers, and the start of a server over the old file and over the new one, with their memory.
+"""Times `mailquota forget`, which keeps half of a file's answers, and the start of a server over the
+old file and over the new one, with their memory.
 
-usage: forgetting.py PROGRAM [ANSWERS..]
-
-Each answer is a reserve of one recipient in a transaction of its own; ten of them share a login and day, and each login has ten days. The files lie in
-a folder of TMPDIR. The machine's load stands first.
+Each answer is a reserve of one recipient in a transaction of its own; ten of them share a login and
+day, and each login has ten days. The files lie in a folder of TMPDIR. The machine's load stands
+first.
 """
+import argparse
 import os
 import resource
 import subprocess
@@ -52,11 +53,14 @@ def measure(program, folder, answers):
 
 
 def main():
-    program, counts = os.path.abspath(sys.argv[1]), [int(word) for word in sys.argv[2:]] or [10_000, 100_000, 1_000_000]
+    parser = argparse.ArgumentParser(description=__doc__, formatter_class=argparse.RawDescriptionHelpFormatter)
+    parser.add_argument("program", metavar="PROGRAM", type=os.path.abspath)
+    parser.add_argument("answers", metavar="ANSWERS", type=int, nargs="*", default=[10_000, 100_000, 1_000_000], help="how many answers a file has, by default %(default)s")
+    asked = parser.parse_args()
     print(f"{os.cpu_count()} processors, load of {os.getloadavg()[0]:.1f}")
     with tempfile.TemporaryDirectory() as folder:
-        for answers in counts:
-            measure(program, folder, answers)
+        for answers in asked.answers:
+            measure(asked.program, folder, answers)
 
 
 if __name__ == "__main__":

@@ -1,9 +1,6 @@
 #!/usr/bin/env python3
-"""Time of `mailquota replay` on reserves: one hundred of one login, and 1,000 to 4,000 of 50 logins.
-
-usage: ledger.py PROGRAM
-"""
-import sys
+"""Time of `mailquota replay` on reserves: one hundred of one login, and 1,000 to 4,000 of 50 logins."""
+import argparse
 
 from frames import reserve
 from turns import medians
@@ -14,7 +11,9 @@ def text_of(count, logins):
 
 
 def main():
-    program = sys.argv[1]
+    parser = argparse.ArgumentParser(description=__doc__)
+    parser.add_argument("program", metavar="PROGRAM")
+    program = parser.parse_args().program
     for count, logins in [(100, 1), (1_000, 50), (2_000, 50), (4_000, 50)]:
         (seconds,), _ = medians([[program, "replay", "--default", "1000000"]], text_of(count, logins), rounds=7)
         print(f"{count:5} reserves of {logins:2} logins: {seconds * 1000:9.1f} ms, process start counted")

@@ -1,10 +1,10 @@
 #!/usr/bin/env python3
-"""Reserves per second over loopback, one a connection, over memory and over a file, compared with a peer that only echoes (echo.rs).
-
-usage: link.py PROGRAM [RESERVES]
+"""Reserves per second over loopback, one a connection, over memory and over a file, compared with a
+peer that only echoes (echo.rs).
 
 The server's ledger is empty at each start. asker.rs asks all three, by turns, median of 15 runs.
 """
+import argparse
 import itertools
 import statistics
 import subprocess
@@ -34,8 +34,11 @@ def seconds(asker, words, port, clients, reserves):
 
 
 def main():
-    program = sys.argv[1]
-    counts = [int(word) for word in sys.argv[2:]] or [200, 1_000]
+    parser = argparse.ArgumentParser(description=__doc__, formatter_class=argparse.RawDescriptionHelpFormatter)
+    parser.add_argument("program", metavar="PROGRAM")
+    parser.add_argument("reserves", metavar="RESERVES", type=int, nargs="*", default=[200, 1_000], help="how many each run asks for, by default %(default)s")
+    asked = parser.parse_args()
+    program = asked.program
     with tempfile.TemporaryDirectory() as folder:
         for name in ("echo", "asker"):
             subprocess.run(["rustc", "-O", "--edition", "2021", "-o", f"{folder}/{name}", HERE / f"{name}.rs"], check=True)
@@ -53,7 +56,7 @@ def main():
             return [f"{folder}/echo", str(port), str(count)]
 
         kinds = {"memory": ours("memory"), "file": ours("file"), "echo": floor}
-        for count in counts:
+        for count in asked.reserves:
             for clients in (1, 4):
                 times = {name: [] for name in kinds}
                 for _ in range(ROUNDS):

@@ -1,10 +1,12 @@
 #!/usr/bin/env python3
-"""Resident memory of a filter that is fed lines for a long time, and of a server on one connection of many frames.
+"""Resident memory of a filter that is fed lines for a long time, and of a server on one connection of
+many frames.
 
-usage: memory.py PROGRAM [MEGABYTES]
-The filter is fed so many megabytes of lines (1,000 by default) that ask the server nothing, and the server 9,999 frames that its
-ledger doesn't keep. Of each it prints the resident memory after the first answer and after the last one, and its highest.
+The filter is fed so many megabytes of lines that ask the server nothing, and the server 9,999 frames
+that its ledger doesn't keep. Of each it prints the resident memory after the first answer and after
+the last one, and its highest.
 """
+import argparse
 import re
 import socket
 import subprocess
@@ -87,10 +89,13 @@ def measure_server(program, folder):
 
 
 def main():
-    program, megabytes = sys.argv[1], int(sys.argv[2]) if sys.argv[2:] else 1_000
+    parser = argparse.ArgumentParser(description=__doc__, formatter_class=argparse.RawDescriptionHelpFormatter)
+    parser.add_argument("program", metavar="PROGRAM")
+    parser.add_argument("megabytes", metavar="MEGABYTES", type=int, nargs="?", default=1_000, help="by default %(default)s")
+    asked = parser.parse_args()
     with tempfile.TemporaryDirectory() as folder:
-        measure_filter(program, folder, megabytes)
-        measure_server(program, folder)
+        measure_filter(asked.program, folder, asked.megabytes)
+        measure_server(asked.program, folder)
 
 
 main()

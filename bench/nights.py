@@ -2,18 +2,15 @@
 """Times what a server with `keep` answers while it forgets days: how long any request waits, and
 what it takes of a processor.
 
-usage: nights.py PROGRAM [--logins LOGINS] [--file FILE] [requests|retire|renewal|retired]..
-
-Over a file of so many logins (1,000,000 by default), each with a message on one of three days;
-three tenths are of one host and settled. The server keeps these days, by a clock of the tests.
+Over a file of so many logins, each with a message on one of three days; three tenths are of one host
+and settled. The server keeps these days, by a clock of the tests.
 
     requests    the look for days that are due, at a start and at 03:00, and each kind of request
     retire      the run of that host, six tenths of an answer a login, and that of the other one
     renewal     a night: all kinds of requests while one of the days leaves, and the switch
     retired     the same after a retire of that host's run, which the new file takes over too
 
-The files lie in a folder of TMPDIR; FILE is the one to begin with, and is made where there is none.
-The machine's load stands first.
+The files lie in a folder of TMPDIR. The machine's load stands first.
 """
 import argparse
 import itertools
@@ -247,12 +244,14 @@ PARTS = {"requests": requests, "retire": retire, "renewal": renewal, "retired": 
 
 
 def main():
-    words = argparse.ArgumentParser(usage=__doc__.split("usage: ")[1].split("\n")[0])
-    words.add_argument("program", type=os.path.abspath)
-    words.add_argument("--logins", type=int, default=1_000_000)
-    words.add_argument("--file")
-    words.add_argument("parts", nargs="*", default=list(PARTS))
-    asked = words.parse_intermixed_args()
+    parser = argparse.ArgumentParser(description=__doc__, formatter_class=argparse.RawDescriptionHelpFormatter)
+    parser.add_argument("program", metavar="PROGRAM", type=os.path.abspath)
+    parser.add_argument("--logins", metavar="LOGINS", type=int, default=1_000_000, help="by default %(default)s")
+    parser.add_argument("--file", metavar="FILE", help="the file to begin with, which is made where there is none")
+    parser.add_argument("parts", metavar="PART", nargs="*", default=list(PARTS), help="one of those above, by default each")
+    asked = parser.parse_intermixed_args()
+    if not {*asked.parts} <= {*PARTS}:
+        parser.error(f"a part is one of {', '.join(PARTS)}")
     print(f"{os.cpu_count()} processors, load of {os.getloadavg()[0]:.1f}, {asked.logins:,} logins")
     with tempfile.TemporaryDirectory() as folder:
         world, source = World(asked.program, folder), asked.file or f"{folder}/source"

@@ -1,16 +1,16 @@
 #!/usr/bin/env python3
-"""Times reports over many logins, of the day on which all of them wrote and of one on which nobody did, and reserves meanwhile.
+"""Times reports over many logins, of the day on which all of them wrote and of one on which nobody
+did, and reserves meanwhile.
 
-usage: page.py PROGRAM [LOGINS..]
-
-Each login has one recipient, on day 1; day 2 has none. While `mailquota report` runs, and until the server is done with it, a client asks
-for one reserve after the other on day 3, each on a connection of its own. The files lie in a folder of TMPDIR.
+Each login has one recipient, on day 1; day 2 has none. While `mailquota report` runs, and until the
+server is done with it, a client asks for one reserve after the other on day 3, each on a connection
+of its own. The files lie in a folder of TMPDIR.
 """
+import argparse
 import os
 import socket
 import statistics
 import subprocess
-import sys
 import tempfile
 import threading
 import time
@@ -91,15 +91,18 @@ def shown(times):
 
 
 def main():
-    program, counts = os.path.abspath(sys.argv[1]), [int(word) for word in sys.argv[2:]] or [1_000, 10_000, 100_000]
+    parser = argparse.ArgumentParser(description=__doc__, formatter_class=argparse.RawDescriptionHelpFormatter)
+    parser.add_argument("program", metavar="PROGRAM", type=os.path.abspath)
+    parser.add_argument("logins", metavar="LOGINS", type=int, nargs="*", default=[1_000, 10_000, 100_000], help="by default %(default)s")
+    asked = parser.parse_args()
     with tempfile.TemporaryDirectory() as folder:
-        for logins in counts:
+        for logins in asked.logins:
             path, port = f"{folder}/{logins}", free_port()
             filled.write(path, logins, lambda place: (b"user%d@example.org" % place, 1))
-            server = subprocess.Popen([program, "server", "--config", filled.settings(folder, path, port)])
+            server = subprocess.Popen([asked.program, "server", "--config", filled.settings(folder, path, port)])
             try:
                 wait_for_listener(server)
-                measure(program, port, logins)
+                measure(asked.program, port, logins)
             finally:
                 server.terminate()
                 server.wait()

@@ -1,9 +1,6 @@
 #!/usr/bin/env python3
-"""Frames per second of `mailquota replay`, compared with the same work in plain Rust (twin.rs).
-
-usage: replay.py PROGRAM
-"""
-import sys
+"""Frames per second of `mailquota replay`, compared with the same work in plain Rust (twin.rs)."""
+import argparse
 import tempfile
 from pathlib import Path
 
@@ -14,7 +11,9 @@ CONNECTIONS, FRAMES = 5, 9_999
 
 
 def main():
-    program = sys.argv[1]
+    parser = argparse.ArgumentParser(description=__doc__)
+    parser.add_argument("program", metavar="PROGRAM")
+    program = parser.parse_args().program
     here = Path(__file__).parent
     with tempfile.TemporaryDirectory() as folder:
         twin = built(here / "twin.rs", folder)

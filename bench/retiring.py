@@ -1,8 +1,6 @@
 #!/usr/bin/env python3
-"""Measures what it costs to open a file of version 1 and to retire the run of all its answers.
-
-usage: retiring.py PROGRAM [ANSWERS]
-"""
+"""Measures what it costs to open a file of version 1 and to retire the run of all its answers."""
+import argparse
 import os
 import resource
 import socket
@@ -76,8 +74,11 @@ def asked(address, frame):
 
 
 def main():
-    program = os.path.abspath(sys.argv[1])
-    transactions = int(sys.argv[2] if len(sys.argv) > 2 else 1_000_000) // 2
+    parser = argparse.ArgumentParser(description=__doc__)
+    parser.add_argument("program", metavar="PROGRAM", type=os.path.abspath)
+    parser.add_argument("answers", metavar="ANSWERS", type=int, nargs="?", default=1_000_000, help="by default %(default)s")
+    asked = parser.parse_args()
+    program, transactions = asked.program, asked.answers // 2
     with tempfile.TemporaryDirectory() as folder:
         world = World(program, folder)
         for name in ("audited", "served"):

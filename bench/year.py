@@ -2,12 +2,10 @@
 """A provider's year by simulation: a server with `keep = 2`, by a clock of the tests that goes from
 day to day, and the filters of two hosts.
 
-usage: year.py PROGRAM [--days DAYS] [--recipients RECIPIENTS]
-
-Each day (365 by default) has so many recipients (20,000 by default), in messages of four, each of
-which is settled: an eighth of them after midnight, and the others from 03:00 on, as a day is
-forgotten. What is measured stands after each day, and at last that of the first week beside that of
-the last. The files lie in a folder of TMPDIR.
+Each day has so many recipients, in messages of four, each of which is settled: an eighth of them
+after midnight, and the others from 03:00 on, as a day is forgotten. What is measured stands after
+each day, and at last that of the first week beside that of the last. The files lie in a folder of
+TMPDIR.
 """
 import argparse
 import collections
@@ -156,11 +154,11 @@ def compare(days):
 
 
 def main():
-    words = argparse.ArgumentParser(usage=__doc__.split("usage: ")[1].split("\n")[0])
-    words.add_argument("program", type=os.path.abspath)
-    words.add_argument("--days", type=int, default=365)
-    words.add_argument("--recipients", type=int, default=20_000)
-    asked = words.parse_args()
+    parser = argparse.ArgumentParser(description=__doc__, formatter_class=argparse.RawDescriptionHelpFormatter)
+    parser.add_argument("program", metavar="PROGRAM", type=os.path.abspath)
+    parser.add_argument("--days", metavar="DAYS", type=int, default=365, help="by default %(default)s")
+    parser.add_argument("--recipients", metavar="RECIPIENTS", type=int, default=20_000, help="of each day, by default %(default)s")
+    asked = parser.parse_args()
     print(f"{os.cpu_count()} processors, load of {os.getloadavg()[0]:.1f}")
     began, days = time.monotonic(), []
     with tempfile.TemporaryDirectory() as folder:

@@ -1,9 +1,6 @@
 #!/usr/bin/env python3
-"""Time of requests to the ledger in SQL tables, compared with twin.c, the same tables, statements and pragmas over libsqlite3, by turns.
-
-usage: store.py [--folder FOLDER] [--only WORD] [PROGRAM]
-Without PROGRAM it proves and builds main.rattle first, with rt on the PATH. Files are made in FOLDER, by default with other temporary
-ones. It wants cc, libsqlite3's header and strace. WORD is one of: twin, flat, growth, open, syncs.
+"""Time of requests to the ledger in SQL tables, compared with twin.c, the same tables, statements and
+pragmas over libsqlite3, by turns. It wants cc, libsqlite3's header and strace.
 """
 import argparse
 import contextlib
@@ -171,11 +168,11 @@ KINDS = [("usage row", usages), ("list page", pages), ("limit", limits), ("limit
 
 
 def main():
-    words = argparse.ArgumentParser()
-    words.add_argument("--folder")
-    words.add_argument("--only")
-    words.add_argument("program", nargs="?")
-    given = words.parse_args()
+    parser = argparse.ArgumentParser(description=__doc__)
+    parser.add_argument("--folder", metavar="FOLDER", help="where files are made, by default with other temporary ones")
+    parser.add_argument("--only", choices=["twin", "flat", "growth", "open", "syncs"], help="one part alone")
+    parser.add_argument("program", metavar="PROGRAM", nargs="?", help="what was built of main.rattle; without it that is proved and built first, with rt on the PATH")
+    given = parser.parse_args()
     with tempfile.TemporaryDirectory(dir=given.folder) as folder:
         bench = Bench(given.program or built_ledger(folder), built_twin(folder), folder)
         print(f"median of {WINDOWS} windows by turns; load before: {os.getloadavg()[0]:.1f}", flush=True)
