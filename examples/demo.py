@@ -1,10 +1,11 @@
 #!/usr/bin/env python3
-"""Plays a day of mailquota over loopback: a quota server over a new file, the filters of two mail hosts, and an administrator.
+"""Plays a day of mailquota over loopback: a quota server over a new file, the filters of two mail
+hosts, and an administrator.
 
-usage: demo.py PROGRAM FRAME     FRAME is a file with one request in hexadecimal, as examples/one-reserve.hex
-
-It prints what happens, and ends with status 1 at the first thing that isn't as it is to be. All processes that it starts end with it.
+It prints what happens, and ends with status 1 at the first thing that isn't as it is to be. All
+processes that it starts end with it.
 """
+import argparse
 import os
 import socket
 import subprocess
@@ -151,14 +152,15 @@ def play(day, frame):
     shown("its reply", reply, "001381016100000000000000010000000100000001")
 
 
-def main(words):
-    if len(words) != 2:
-        print(__doc__, end="", file=sys.stderr)
-        return 2
+def main():
+    parser = argparse.ArgumentParser(description=__doc__, formatter_class=argparse.RawDescriptionHelpFormatter)
+    parser.add_argument("program", metavar="PROGRAM", type=os.path.abspath)
+    parser.add_argument("frame", metavar="FRAME", help="a file with one request in hexadecimal, as examples/one-reserve.hex")
+    asked = parser.parse_args()
     with tempfile.TemporaryDirectory() as folder:
-        day = Day(os.path.abspath(words[0]), folder)
+        day = Day(asked.program, folder)
         try:
-            play(day, words[1])
+            play(day, asked.frame)
         except (Wrong, OSError, subprocess.TimeoutExpired) as wrong:
             day.log.flush()
             with open(f"{folder}/log", encoding="utf-8", errors="replace") as log:
@@ -171,4 +173,4 @@ def main(words):
 
 
 if __name__ == "__main__":
-    sys.exit(main(sys.argv[1:]))
+    sys.exit(main())

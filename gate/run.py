@@ -1,18 +1,12 @@
 #!/usr/bin/env python3
 """The gate, and the must-fail edits in rounds.
 
-usage: run.py gate [CRATE ..]        tests/prose; rt ci over a copy of the tree without its must-fail edits, then those edits in rounds over
-                                     the libraries that it built, the tests of the gate itself, the cases of tests/program over the program as
-                                     each compiler built it, and the worked examples with each allocation refused. With names: these crates and
-                                     those below
-       run.py must-fail [CRATE ..]   the gate's edits alone, over libraries that `rt lib` builds where they stand
-       run.py further [CRATE ..]     the same for the edits of crates/CRATE/further, which the gate leaves out
-       run.py look [CRATE ..]        the gate's edits, each looked at once more, where the gate does so with a few
-
-What the first finds as it must be is kept on this machine, by the sums of all that it was made from, and isn't tried again; with
-`--from-nothing` all is. The second takes what the first kept, and keeps nothing: its libraries may stand on what checks left. The last line is
-'N passed, M failed', whatever happens, and the status 1 where anything failed.
+What the gate finds as it must be is kept on this machine, by the sums of all that it was made from,
+and isn't tried again. 'must-fail' takes what the gate kept, and keeps nothing: its libraries may
+stand on what checks left. The last line is 'N passed, M failed', whatever happens, and the status 1
+where anything failed.
 """
+import argparse
 import collections
 import os
 import re
@@ -46,6 +40,14 @@ BUILDS = ("", ".by-rattle")
 # The most memory that a check takes, in bytes, with room to spare.
 MOST_OF_A_CHECK = 5e9
 SIGNALS = (signal.SIGTERM, signal.SIGINT, signal.SIGHUP)
+VERBS = {
+    "gate": "tests/prose; rt ci over a copy of the tree without its edits, then the must-fail edits in rounds over the libraries that it built, the tests of the "
+            "gate itself, the cases of tests/program over the program as each compiler built it, and the worked examples with each allocation refused; with "
+            "names, of these crates and those below",
+    "must-fail": "the gate's edits alone, over libraries that `rt lib` builds where they stand",
+    "further": "the same for the edits of crates/CRATE/further, which the gate leaves out",
+    "look": "the gate's edits, each looked at once more, where the gate does so with a few",
+}
 COUNTS = re.compile(r"(\d+) passed, (\d+) failed\Z")
 REFUSED = re.compile(r"rt: (\w+)(: its tests are)? NOT PROVED")
 # The last line of a check of some functions: how many they are, and how many are proved.
@@ -392,8 +394,26 @@ def alone(names, part, sum_, kept=None, cases=None, looks_at_all=False):
     try_edits(every, sum_)
 
 
-def main(words):
-    sum_ = Sum()
+class Parser(argparse.ArgumentParser):
+    def error(self, message):
+        # (the last line, whatever happens)
+        print("0 passed, 1 failed", flush=True)
+        super().error(message)
+
+
+def parsed():
+    parser = Parser(description=__doc__, formatter_class=argparse.RawDescriptionHelpFormatter)
+    verbs = parser.add_subparsers(dest="verb", metavar="VERB", required=True)
+    for verb, what in VERBS.items():
+        its = verbs.add_parser(verb, help=what, description=what)
+        its.add_argument("crates", metavar="CRATE", nargs="*", help="by default all")
+        if verb in ("gate", "must-fail"):
+            its.add_argument("--from-nothing", action="store_true", help="take nothing that earlier runs kept")
+    return parser.parse_args()
+
+
+def main():
+    asked, sum_ = parsed(), Sum()
 
     def end(number, _):
         for it in SIGNALS:
@@ -404,19 +424,14 @@ def main(words):
     for it in SIGNALS:
         signal.signal(it, end)
     try:
-        verb, names = (words[0], [it for it in words[1:] if it != "--from-nothing"]) if words else ("", [])
-        takes = "--from-nothing" not in words
-        if verb == "gate":
-            gate(names, sum_, takes)
-        elif verb == "further":
-            alone(names, "further", sum_)
-        elif verb == "must-fail":
-            alone(names, "must-fail", sum_, Kept(takes, keeps=False), groups())
-        elif verb == "look":
-            alone(names, "must-fail", sum_, looks_at_all=True)
+        if asked.verb == "gate":
+            gate(asked.crates, sum_, not asked.from_nothing)
+        elif asked.verb == "must-fail":
+            alone(asked.crates, "must-fail", sum_, Kept(not asked.from_nothing, keeps=False), groups())
+        elif asked.verb == "further":
+            alone(asked.crates, "further", sum_)
         else:
-            print(__doc__)
-            sum_.fail("run.py", "it was called wrongly")
+            alone(asked.crates, "must-fail", sum_, looks_at_all=True)
     except BaseException as why:
         traceback.print_exc(file=sys.stdout)
         sum_.fail("run.py", f"it broke off: {why!r}")
@@ -426,4 +441,4 @@ def main(words):
 
 
 if __name__ == "__main__":
-    sys.exit(main(sys.argv[1:]))
+    sys.exit(main())

@@ -1,12 +1,12 @@
 #!/usr/bin/env python3
 """Tries wrong texts of contrib and docs, each over the case of tests/program that is to fail.
 
-usage: texts.py PROGRAM [NAME ..]     all, or those of these names
-
-A text is a file tests/bodies/contrib/NAME.edit or tests/bodies/docs/NAME.edit, written as a must-fail edit over the files of that folder, with a line
-'case: GROUP: NAME' for each case that begins so and is to fail. It is tried in a copy of what the cases read. What is to fail has to pass without it.
-The last line is 'N passed, M failed', and the status 1 where any failed.
+A text is a file tests/bodies/contrib/NAME.edit or tests/bodies/docs/NAME.edit, written as a
+must-fail edit over the files of that folder, with a line 'case: GROUP: NAME' for each case that
+begins so and is to fail. It is tried in a copy of what the cases read. What is to fail has to pass
+without it. The last line is 'N passed, M failed', and the status 1 where any failed.
 """
+import argparse
 import os
 import shutil
 import sys
@@ -68,12 +68,21 @@ def unseen(place, program, cases, without):
             yield f"{group}: {name}"
 
 
-def main(words):
-    if not words:
-        print(__doc__, end="", file=sys.stderr)
-        return 2
-    program, asked = os.path.abspath(words[0]), words[1:]
-    files = [(folder, f"{HERE}/{folder}/{it}") for folder in FOLDERS for it in edits_in(f"{HERE}/{folder}")[0] if not asked or it[:-len(".edit")] in asked]
+def parsed():
+    """The program, and the texts that are asked for, each with the folder that it changes."""
+    parser = argparse.ArgumentParser(description=__doc__, formatter_class=argparse.RawDescriptionHelpFormatter)
+    parser.add_argument("program", metavar="PROGRAM", type=os.path.abspath)
+    parser.add_argument("names", metavar="NAME", nargs="*", default=[], help="only the texts of these names")
+    asked = parser.parse_args()
+    found = [(folder, it[:-len(".edit")]) for folder in FOLDERS for it in edits_in(f"{HERE}/{folder}")[0]]
+    unknown = {*asked.names} - {name for _, name in found}
+    if unknown:
+        parser.error(f"no text has this name: {', '.join(sorted(unknown))}")
+    return asked.program, [(folder, f"{HERE}/{folder}/{it}.edit") for folder, it in found if not asked.names or it in asked.names]
+
+
+def main():
+    program, files = parsed()
     with tempfile.TemporaryDirectory(prefix="texts-") as root:
         place = copied(f"{root}/without")
         groups = dict.fromkeys(group for _, file in files for group, _ in cases_in(file))
@@ -92,4 +101,4 @@ def main(words):
 
 
 if __name__ == "__main__":
-    sys.exit(main(sys.argv[1:]))
+    sys.exit(main())

@@ -1,16 +1,18 @@
 #!/usr/bin/env python3
 """Runs the program on random inputs and compares it with the ledger of ledger.py.
 
-usage: random_inputs.py PROGRAM [list|tables|file] [HOW_MANY] [FIRST_SEED]
+Half of the ledgers have an offset, and half a zone rule, with moments on both sides of its changes
+and midnights.
 
-Half of the ledgers have an offset, and half a zone rule, with moments on both sides of its changes and midnights.
+The ledger is `replay`'s plain list, by default, or the tables of `replay --sql`, or those of a
+server over a database file, which is ended by SIGKILL and started again between connections now and
+then.
 
-The ledger is `replay`'s plain list, by default, or the tables of `replay --sql`, or those of a server over a database file, which is
-ended by SIGKILL and started again between connections now and then.
-
-Inputs repeat numbers with the same and with other content, come in another order, are cut, and hold bytes
-that are no request. The last line counts the inputs; a difference prints its seed and ends the run.
+Inputs repeat numbers with the same and with other content, come in another order, are cut, and hold
+bytes that are no request. The last line counts the inputs; a difference prints its seed and ends the
+run.
 """
+import argparse
 import os
 import random
 import subprocess
@@ -181,18 +183,20 @@ def differs(world, way, seed):
 
 
 def main():
-    program = os.path.abspath(sys.argv[1])
-    way = sys.argv[2] if len(sys.argv) > 2 else "list"
-    how_many = int(sys.argv[3]) if len(sys.argv) > 3 else 1000
-    first = int(sys.argv[4]) if len(sys.argv) > 4 else 1
+    parser = argparse.ArgumentParser(description=__doc__, formatter_class=argparse.RawDescriptionHelpFormatter)
+    parser.add_argument("program", metavar="PROGRAM", type=os.path.abspath)
+    parser.add_argument("way", nargs="?", choices=["list", "tables", "file"], default="list", help="what ledger, by default a %(default)s")
+    parser.add_argument("how_many", metavar="HOW_MANY", nargs="?", type=int, default=1000, help="inputs, by default %(default)s")
+    parser.add_argument("first_seed", metavar="FIRST_SEED", nargs="?", type=int, default=1, help="by default %(default)s")
+    asked = parser.parse_args()
     with tempfile.TemporaryDirectory() as folder:
-        world = World(program, folder)
-        for seed in range(first, first + how_many):
-            difference = differs(world, way, seed)
+        world = World(asked.program, folder)
+        for seed in range(asked.first_seed, asked.first_seed + asked.how_many):
+            difference = differs(world, asked.way, seed)
             if difference:
                 print(difference)
                 sys.exit(1)
-    print(f"{how_many} inputs over {way}, none differs")
+    print(f"{asked.how_many} inputs over {asked.way}, none differs")
 
 
 if __name__ == "__main__":

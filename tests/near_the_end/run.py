@@ -1,11 +1,12 @@
 #!/usr/bin/env python3
-"""Tests of what no run of a program and no public call comes to: a client and a tracker near the ends of their numbers.
+"""Tests of what no run of a program and no public call comes to: a client and a tracker near the ends
+of their numbers.
 
-usage: run.py [CRATE ..]
-
-Each file CRATE/MODULE.rt.in is put into a copy of the crate, below its private module, whose fields it sets. The copy isn't proved, so
-that the crate is proved once, and without tests: `rt try --test` compiles and runs them. The last line is 'N passed, M failed'.
+Each file CRATE/MODULE.rt.in is put into a copy of the crate, below its private module, whose fields
+it sets. The copy isn't proved, so that the crate is proved once, and without tests: `rt try --test`
+compiles and runs them. The last line is 'N passed, M failed'.
 """
+import argparse
 import os
 import re
 import shutil
@@ -45,9 +46,18 @@ def tried(crate):
     return ran.stdout, ran.returncode
 
 
-def main(names):
+def parsed():
+    parser = argparse.ArgumentParser(description=__doc__, formatter_class=argparse.RawDescriptionHelpFormatter)
+    parser.add_argument("crates", metavar="CRATE", nargs="*", help=f"{' or '.join(crates())}, by default each")
+    asked = parser.parse_args()
+    if not {*asked.crates} <= {*crates()}:
+        parser.error(f"there are tests of {' and '.join(crates())}")
+    return asked.crates or crates()
+
+
+def main():
     passed = failed = 0
-    for crate in names or crates():
+    for crate in parsed():
         said, status = tried(crate)
         counts = RESULT.search(said)
         good, bad = map(int, counts.groups()) if counts else (0, 0)
@@ -61,4 +71,4 @@ def main(names):
 
 
 if __name__ == "__main__":
-    sys.exit(main(sys.argv[1:]))
+    sys.exit(main())

@@ -1,7 +1,7 @@
-"""From nothing to the first 550, an upgrade, a removal and what follows, by the words of INSTALL: what is typed there is run as it stands.
-
-usage: installs.py PACKAGE     in namespaces of its own, as run.sh starts it
+"""From nothing to the first 550, an upgrade, a removal and what follows, by the words of INSTALL: what
+is typed there is run as it stands. run.sh starts it, in namespaces of its own.
 """
+import argparse
 import os
 import re
 import sys
@@ -317,8 +317,10 @@ def kind_of_machine():
     return Machine
 
 
-def main(words):
-    package = Path(words[0])
+def main():
+    parser = argparse.ArgumentParser(description=__doc__)
+    parser.add_argument("package", metavar="PACKAGE", type=Path)
+    package = parser.parse_args().package
     version = call("dpkg-deb", "--field", package, "Version").stdout.strip()
     make_switch()
     machines, kind = [], kind_of_machine()
@@ -354,4 +356,4 @@ def main(words):
 
 
 if __name__ == "__main__":
-    sys.exit(main(sys.argv[1:]))
+    sys.exit(main())

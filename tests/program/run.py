@@ -55,7 +55,7 @@ def main():
 def parsed():
     parser = argparse.ArgumentParser(description=__doc__, formatter_class=argparse.RawDescriptionHelpFormatter)
     parser.add_argument("program", metavar="PROGRAM")
-    parser.add_argument("words", metavar="WORD", nargs="*", help="only the groups whose names have one of these words")
+    parser.add_argument("words", metavar="WORD", nargs="*", default=[], help="only the groups whose names have one of these words")
     alone = parser.add_mutually_exclusive_group()
     alone.add_argument("--gate", action="store_true", help="the groups that the gate runs")
     alone.add_argument("--group", metavar="GROUP", help="this group, in this process; a WORD is one function of it, and all others do nothing")

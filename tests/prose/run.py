@@ -1,24 +1,27 @@
 #!/usr/bin/env python3
 """Whether the documents agree with the tree.
 
-usage: run.py [TREE]
-
-- Each crate has a front page at the head of its root: its example stands in the file that it names, and it names the crates of ours that it
-  stands on as crates.txt has them. Each other file of its source begins with a line of what it is.
-- docs/ARCHITECTURE.md lists each crate of crates.txt once, and no other, and docs/crates.svg draws them as they stand there.
+- Each crate has a front page at the head of its root: its example stands in the file that it names,
+  and it names the crates of ours that it stands on as crates.txt has them. Each other file of its
+  source begins with a line of what it is.
+- docs/ARCHITECTURE.md lists each crate of crates.txt once, and no other, and docs/crates.svg draws
+  them as they stand there.
 - Each place that CONTRIBUTING.md sends a reader to is there, with the words that it says of it.
-- What docs/PROOFS.md names under a crate stands in that crate, and the clauses in brackets after a function stand in a contract of such a function.
+- What docs/PROOFS.md names under a crate stands in that crate, and the clauses in brackets after a
+  function stand in a contract of such a function.
 - Each crate that has a contract with clauses is one of docs/PROOFS.md's.
 - The lines of prose of the pages below have at most 100 columns.
-- Each command of the program stands in the synopsis of one manual page, with its options and no others, and that page says what each of them does.
-  man/mailquota.8 lists the commands, and the pages have at most 7,000 words. Each diagnostic of the commands stands in one page, once.
+- Each command of the program stands in the synopsis of one manual page, with its options and no
+  others, and that page says what each of them does. man/mailquota.8 lists the commands, and the
+  pages have at most 7,000 words. Each diagnostic of the commands stands in one page, once.
 - Names of code that were given up stand in no source, definition or proof.
 - The program's version is that of CHANGELOG's first release, and of the package.
 - NOTICE lists the kit's libraries in the program.
 
-A test of these checks comes first: over small trees with one thing wrong, each has to find it. The last line is 'N passed, M failed', and the status
-1 where anything failed.
+A test of these checks comes first: over small trees with one thing wrong, each has to find it. The
+last line is 'N passed, M failed', and the status 1 where anything failed.
 """
+import argparse
 import collections
 import glob
 import os
@@ -421,8 +424,10 @@ def own_test():
         yield f"{new!r} in {file}", [] if old in TREE[file] and found == wanted else [f"it is found by {sorted(found)}, and not by {sorted(wanted)}"]
 
 
-def main(given):
-    tree = given[0] if given else TOP
+def main():
+    parser = argparse.ArgumentParser(description=__doc__, formatter_class=argparse.RawDescriptionHelpFormatter)
+    parser.add_argument("tree", metavar="TREE", nargs="?", default=TOP, help="by default the one that this file is in")
+    tree = parser.parse_args().tree
     passed = failed = 0
     for results in [own_test(), *(it(tree) for it in CHECKS)]:
         for name, wrong in results:
@@ -434,4 +439,4 @@ def main(given):
 
 
 if __name__ == "__main__":
-    sys.exit(main(sys.argv[1:]))
+    sys.exit(main())

@@ -1,12 +1,8 @@
 #!/usr/bin/env python3
-"""Refuses the program's allocations one after the other, a run for each, and prints how the runs ended.
-
-usage: run.py PROGRAM [--whole] [--examples] [WORD..]
-
-With words: the groups of cases whose names have one of them. With --whole each allocation is refused where there are
-thousands, too. With --examples so are those of the worked examples, and of nothing else. JOBS in the environment says
-how many runs are made at once, by default 3.
+"""Refuses the program's allocations one after the other, a run for each, and prints how the runs
+ended. JOBS in the environment says how many runs are made at once, by default 3.
 """
+import argparse
 import importlib
 import os
 import subprocess
@@ -26,16 +22,18 @@ FOLDER = "/dev/shm" if os.access("/dev/shm", os.W_OK) else None
 
 
 def main():
-    program, words = os.path.abspath(sys.argv[1]), sys.argv[2:]
-    whole, examples = "--whole" in words, "--examples" in words
-    wanted = [word for word in words if not word.startswith("--")]
-    checks = Checks()
+    parser = argparse.ArgumentParser(description=__doc__)
+    parser.add_argument("program", metavar="PROGRAM", type=os.path.abspath)
+    parser.add_argument("--whole", action="store_true", help="refuse each allocation where there are thousands, too")
+    parser.add_argument("--examples", action="store_true", help="refuse each of the worked examples, and nothing else")
+    parser.add_argument("words", metavar="WORD", nargs="*", default=[], help="only the groups of cases whose names have one of these words")
+    asked, checks = parser.parse_intermixed_args(), Checks()
     with tempfile.TemporaryDirectory(dir=FOLDER) as folder:
         library = f"{folder}/refuse.so"
         subprocess.run(["cc", "-O2", "-shared", "-fPIC", "-o", library, f"{HERE}/refuse.c"], check=True)
-        refusals = Refusals(program, library, folder, whole, examples)
+        refusals = Refusals(asked.program, library, folder, asked.whole, asked.examples)
         for group in GROUPS:
-            if not wanted or any(word in group for word in wanted):
+            if not asked.words or any(word in group for word in asked.words):
                 print(f"-- {group}", flush=True)
                 importlib.import_module(group).run(refusals, checks)
     print(f"{checks.passed} passed, {checks.failed} failed")

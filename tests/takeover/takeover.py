@@ -1,11 +1,11 @@
-"""What mail sees while the first of two quota servers is killed, cut off, restarted, also with a day to forget, and comes back, in a random order.
+"""What mail sees while the first of two quota servers is killed, cut off, restarted, also with a day
+to forget, and comes back, in a random order.
 
-usage: takeover.py [ROUNDS [SEED]]
-
-Each happens ROUNDS times, 10 by default. Logins send all the while. Then each request of smtpd has an answer, recipients were answered 451 for as long
-as is said below at most, and for each login accepted recipients are at most the sum of both reports, and that at most the sum of both limits. The last
-line is 'N passed, M failed'.
+Logins send all the while. Then each request of smtpd has an answer, recipients were answered 451 for
+as long as is said below at most, and for each login accepted recipients are at most the sum of both
+reports, and that at most the sum of both limits. The last line is 'N passed, M failed'.
 """
+import argparse
 import os
 import random
 import re
@@ -220,11 +220,13 @@ def audits(scene):
 
 
 def main():
-    rounds, seed = (int(word) for word in [*sys.argv[1:], *("10", "1")[len(sys.argv) - 1:]])
-    checks = Checks()
-    scene = Scene(checks, seed)
+    parser = argparse.ArgumentParser(description=__doc__, formatter_class=argparse.RawDescriptionHelpFormatter)
+    parser.add_argument("rounds", metavar="ROUNDS", nargs="?", type=int, default=10, help="how often each happens, by default %(default)s times")
+    parser.add_argument("seed", metavar="SEED", nargs="?", type=int, default=1, help="of the order, by default %(default)s")
+    asked, checks = parser.parse_args(), Checks()
+    scene = Scene(checks, asked.seed)
     began = day()
-    scene.play(rounds)
+    scene.play(asked.rounds)
     unanswered = [it for sender in scene.all_senders() for it in sender.unanswered]
     asked = sum(len(sender.answers) for sender in scene.all_senders())
     checks.holds(f"requests of smtpd without an answer, of {asked} recipients", not unanswered, unanswered)
