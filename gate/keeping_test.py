@@ -1,15 +1,13 @@
 """The test of what the gate keeps: over a small tree, and a kit that proves nothing and notes what it is asked for, one byte after the other is changed,
 and exactly what reads it is to be tried again."""
-import contextlib
 import os
-import re
 import shutil
 import sys
 import tempfile
 import time
+import unittest
 
 from prover import run
-from rounds import Result
 
 TOP = os.path.dirname(os.path.dirname(os.path.realpath(__file__)))
 # So many seconds a run over the small tree takes at most.
@@ -20,18 +18,14 @@ SOURCE = "pub fn {name}() -> u8 {{ 1 }}\npub fn {name}_witness() -> u8 {{ 1 }}\n
 EDIT = "file: src/lib.rt\nold: {name}() -> u8 {{ 1 }}\nnew: {name}() -> u8 {{ 2 }}\n"
 CASES = "import os\nopen(os.environ['NOTED'], 'a').write('{name}\\n')\nprint('2 passed, 0 failed')\n"
 TEST = """\
-from rounds import Result
 import os
+import unittest
 
-class {name}:
-    name, edits, seconds, count = "{name}", [], 0.0, 0
+class {name}(unittest.TestCase):
+    name, seconds = "{name}", 0.0
 
-    def run(self):
+    def test(self):
         open(os.environ['NOTED'], 'a').write('{name}\\n')
-        self.results = [Result(True, "{name}", "well")]
-
-    def summary(self):
-        return "well"
 """
 FILES = {
     "crates.txt": "low:\nhigh: low\nmailquota: low\nmq_store_tests: low\n",
@@ -56,7 +50,7 @@ FILES = {
     "tests/near_the_end/run.py": CASES.format(name="near the end"),
     "tests/near_the_end/low/low.rt.in": "near\n",
     "tests/prose/run.py": "print('1 passed, 0 failed')\n",
-    "gate/own_test.py": TEST.format(name="OwnTest"),
+    "gate/own_test.py": TEST.format(name="RoundsTest"),
     "gate/keeping_test.py": TEST.format(name="KeepingTest"),
     "kit/KIT-ID": "kit 1\n",
 }
@@ -108,9 +102,11 @@ print(f"only={len(asked)} holes=1")
 sys.exit(1 if wrong and wrong != [missed] else 0)
 '''}
 
+# The last line of a gate over this tree.
+PASSED = "19 passed, 0 failed"
 EDITS = ["high", "high_witness"]
 OTHERS = ["near the end", "tests", "cases", "cases", "refusals"]
-OWN = ["OwnTest", "KeepingTest"]
+OWN = ["RoundsTest", "KeepingTest"]
 ALL = ["low", *EDITS, *OTHERS, *OWN]
 OF_KIT = ["low", *EDITS, "near the end", "tests", *OWN]
 # What is changed, the file, its old and its new text, and what is to be tried again.
@@ -140,34 +136,16 @@ CHANGES = [
 ]
 
 
-class KeepingTest:
+class KeepingTest(unittest.TestCase):
     """Has the gate run over a small tree as it is changed, and looks at what it tries."""
 
-    name = "keeping"
+    # the name by which the gate tells of it, and the processor seconds of its runs
+    name, seconds = "keeping", 0.0
 
-    def __init__(self):
-        self.results, self.seconds, self.count = [], 0.0, 0
-
-    def summary(self):
-        return f"{len(self.results)} looks at {self.count} runs over a small tree"
-
-    def run(self):
-        self.results = []
-        with tempfile.TemporaryDirectory(prefix="keeping-") as self.room:
-            self.tree, self.cache = f"{self.room}/tree", f"{self.room}/cache"
-            self.make()
-            self.tries("the first time", ALL)
-            self.tries("with no change", [])
-            for of, path, old, new, wanted in CHANGES:
-                self.change(path, old, new)
-                self.tries(of, wanted)
-            self.tries("with no further change", [])
-            self.elsewhere()
-            self.not_whole()
-            self.missed()
-            self.ended()
-
-    def make(self):
+    def setUp(self):
+        room = tempfile.TemporaryDirectory(prefix="keeping-")
+        self.addCleanup(room.cleanup)
+        self.room, self.tree, self.cache = room.name, f"{room.name}/tree", f"{room.name}/cache"
         shutil.copytree(f"{TOP}/gate", f"{self.tree}/gate", ignore=shutil.ignore_patterns("__pycache__"))
         os.mkdir(f"{self.tree}/scripts")
         shutil.copy(f"{TOP}/scripts/kit.py", f"{self.tree}/scripts")
@@ -179,6 +157,19 @@ class KeepingTest:
                 it.write(text)
         for it in COMMANDS:
             os.chmod(f"{self.room}/kit/bin/{it}", 0o755)
+
+    def test_keeping(self):
+        self.tries("the first time", ALL)
+        self.tries("with no change", [])
+        for of, path, old, new, wanted in CHANGES:
+            self.change(path, old, new)
+            self.tries(of, wanted)
+        self.tries("with no further change", [])
+        # (each goes on where the one before it ended)
+        self.elsewhere()
+        self.not_whole()
+        self.missed()
+        self.ended()
 
     def change(self, path, old, new):
         file = f"{self.room}/{path}" if path.startswith("kit/") else f"{self.tree}/{path}"
@@ -193,20 +184,16 @@ class KeepingTest:
         with open(noted, "w", encoding="utf-8"):
             pass
         given = {"XDG_CACHE_HOME": self.cache, "RT": f"{self.room}/kit/bin/rt", "NOTED": noted, "RT_JOBS": "1", **environment}
-        ran = run(["env", *(f"{name}={it}" for name, it in given.items()), sys.executable, f"{self.tree}/gate/run.py", *(words or ["gate"])], self.room, LONGEST)
-        self.seconds += ran.seconds
-        self.count += 1
+        ran = run(["env", *(f"{name}={it}" for name, it in given.items()), sys.executable, f"{self.tree}/gate/run.py", *words], self.room, LONGEST)
+        KeepingTest.seconds += ran.seconds
         with open(noted, encoding="utf-8") as it:
-            return sorted(it.read().split("\n")[:-1]), ran.said
+            return it.read().split("\n")[:-1], ran.said
 
-    def tries(self, of, wanted, *words, **environment):
-        """Looks whether the gate tries this alone, and counts all the same."""
-        tried, said = self.gate(*words, **environment)
-        self.look(of, (tried, re.search(r"\d+ passed, \d+ failed\n\Z", said) and said.split("\n")[-2]), (sorted(wanted), "19 passed, 0 failed"), said)
-
-    def look(self, of, found, wanted, said=""):
-        is_well = found == wanted
-        self.results.append(Result(is_well, f"{self.name}: {of}", "as it must be" if is_well else f"{found}, and not {wanted}: {said[-2000:]}"))
+    def tries(self, of, wanted, *words, last=PASSED, **environment):
+        """Looks whether the gate tries this alone, and what its last line is."""
+        tried, said = self.gate(*(words or ["gate"]), **environment)
+        with self.subTest(of):
+            self.assertEqual((sorted(tried), said.split("\n")[-2:]), (sorted(wanted), [last, ""]), said[-2000:])
 
     def elsewhere(self):
         """Another checkout takes what this one kept; `--from-nothing` takes nothing, and keeps."""
@@ -216,10 +203,8 @@ class KeepingTest:
         self.tries("from nothing", ALL, "gate", "--from-nothing")
         self.tries("after that", [])
         self.tries("where nothing can be kept", ALL, "gate", "--from-nothing", XDG_CACHE_HOME="/dev/null")
-        tried, said = self.gate("must-fail")
-        self.look("the edits alone", (tried, said.split("\n")[-2]), ([], "3 passed, 0 failed"), said)
-        tried, said = self.gate("further")
-        self.look("the further edits", (tried, said.split("\n")[-2]), (["low_witness"], "1 passed, 0 failed"), said)
+        self.tries("the edits alone", [], "must-fail", last="3 passed, 0 failed")
+        self.tries("the further edits", ["low_witness"], "further", last="1 passed, 0 failed")
 
     def not_whole(self):
         """What is cut off, changed or no file counts as none; then rt has proved a crate, and a check has to tell its functions."""
@@ -242,8 +227,7 @@ class KeepingTest:
         """A failure is not kept."""
         self.change("crates/low/must-fail/low.edit", "{ 3 }", "{ 4 }")
         for of in ("an edit that isn't refused", "an edit that isn't refused, once more"):
-            tried, said = self.gate(MISSED="low")
-            self.look(of, ({*tried}, said.split("\n")[-2]), ({"low"}, "18 passed, 1 failed"), said)
+            self.tries(of, ["low"], last="18 passed, 1 failed", MISSED="low")
         self.tries("an edit that is refused now", ["low"])
 
     def ended(self):
@@ -255,4 +239,9 @@ class KeepingTest:
                 pass
             os.utime(f"{folder}/{name}", (time.time() - days * 24 * 3600,) * 2)
         self.tries("with results that are long unused", [])
-        self.look("what is removed", sorted({*os.listdir(folder)} - there), ["used"])
+        with self.subTest("what is removed"):
+            self.assertEqual({*os.listdir(folder)} - there, {"used"})
+
+
+if __name__ == "__main__":
+    unittest.main()

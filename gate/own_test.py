@@ -1,6 +1,7 @@
 """The test of the rounds themselves, over a crate of five functions: what must not pass for refused doesn't."""
 import os
 import tempfile
+import unittest
 
 from prover import Crate, Ran, Told
 from rounds import Result, Rounds
@@ -156,31 +157,28 @@ LINES = [
 PROVED = ["most", "next", "twice", "after", "loud"]
 
 
-class OwnTest:
+class RoundsTest(unittest.TestCase):
     """Has the rounds try edits whose end is known, and finds of each whether what they say of it is right."""
 
-    name, edits = "gate", [it for group in GROUPS for it in group]
+    # the name by which the gate tells of it, and the processor seconds of its checks
+    name, seconds = "gate", 0.0
 
-    def __init__(self):
-        self.results, self.seconds, self.count = [], 0.0, 0
-
-    def summary(self):
-        return f"{len(self.edits)} edits in {self.count} checks"
-
-    def run(self):
-        self.results = []
+    def test_lines(self):
         for why, is_refused in LINES:
-            told = Told(Ran(1, f"fn counting::next: {why}\nonly=1 holes=1\n", 0.0), "counting")
-            is_well = told.ended and (told.refused.keys() == {"next"}) == is_refused
-            self.results.append(Result(is_well, f"{self.name}: {why}", "told rightly" if is_well else "told wrongly"))
+            with self.subTest(why):
+                told = Told(Ran(1, f"fn counting::next: {why}\nonly=1 holes=1\n", 0.0), "counting")
+                self.assertTrue(told.ended)
+                self.assertEqual(told.refused.keys() == {"next"}, is_refused)
+
+    def test_edits(self):
         for group in GROUPS:
             said = {it.name.partition("/")[2].partition(".")[0]: it for it in self.tried(group)}
             for name, _, is_refused, words in group:
-                it = said.pop(name, Result(not is_refused, name, "nothing"))
-                is_well = it.is_well == is_refused and words in it.said
-                self.results.append(Result(is_well, f"{self.name}: {name}", "told rightly" if is_well else f"told wrongly: {it.said}"))
-            for it in said.values():
-                self.results.append(Result(False, f"{self.name}: {it.name}", f"told of, and not asked for: {it.said}"))
+                with self.subTest(name):
+                    it = said.pop(name, Result(not is_refused, name, "nothing"))
+                    self.assertEqual(it.is_well, is_refused, it.said)
+                    self.assertIn(words, it.said)
+            self.assertEqual(said, {}, "told of, and not asked for")
 
     def tried(self, group):
         """Returns what the rounds say of a group of edits."""
@@ -193,7 +191,9 @@ class OwnTest:
                     it.write(text)
             rounds = Rounds(Crate(root, "counting"), place, lambda _: PROVED, {"rows"})
             rounds.run()
-        self.seconds += rounds.seconds
-        self.count += rounds.count
+        RoundsTest.seconds += rounds.seconds
         return rounds.results
 
+
+if __name__ == "__main__":
+    unittest.main()

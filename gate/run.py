@@ -27,9 +27,10 @@ import minutes
 from kept import Edits, Kept, Proved, Sums, of_gate, of_kit, sum_of, sum_of_files
 from keeping_test import KeepingTest
 from lanes import Task, free, in_lanes, processors
-from own_test import OwnTest
+from own_test import RoundsTest
 from prover import RT, Crate, Ended, Running, below, lines_in, proved_in, rows_of, run
 from rounds import Killed, Rounds
+from testing import OwnTest
 
 # rt ci has the crates' proofs and tests to go through: so many seconds at most.
 LONGEST_CI = 170 * 60
@@ -236,7 +237,7 @@ def gate(names, sum_, takes):
         for it in (it for it in rows_of(tree) if it not in refused):
             place = f"{edits}/{it}"
             every.append(Rounds(Crate(tree, it), place, proved.of, cases, Edits(kept, sums, it, place, cases)))
-        own = [it for it in (OwnTest(), KeepingTest()) if not is_kept(it, kept, sum_)]
+        own = [it for it in map(OwnTest, (RoundsTest, KeepingTest)) if not is_kept(it, kept, sum_)]
         try_edits(every, sum_, [Task(it, 0, 1e9, it.run) for it in own])
         for it in own:
             if it.results and all(result.is_well for result in it.results):
