@@ -77,8 +77,8 @@ def main():
     parser = argparse.ArgumentParser(description=__doc__)
     parser.add_argument("program", metavar="PROGRAM", type=os.path.abspath)
     parser.add_argument("answers", metavar="ANSWERS", type=int, nargs="?", default=1_000_000, help="by default %(default)s")
-    asked = parser.parse_args()
-    program, transactions = asked.program, asked.answers // 2
+    given = parser.parse_args()
+    program, transactions = given.program, given.answers // 2
     with tempfile.TemporaryDirectory() as folder:
         world = World(program, folder)
         for name in ("audited", "served"):
