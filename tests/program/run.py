@@ -28,7 +28,7 @@ from ends import World
 
 CASES = Path(__file__).parent / "cases"
 # those of them that take longest, and so begin first
-FIRST_GROUPS = ["figures", "many_answers", "many_numbers", "many_sessions", "forgetting", "nights", "causes", "edges", "full_pages", "lengths", "crowds", "bodies", "full_disks"]
+FIRST_GROUPS = ["many_answers", "causes", "retiring", "storms", "full_pages", "forgetting", "nights", "stopping", "edges", "figures", "contrib", "zones", "failing_calls", "bodies", "full_disks", "lengths", "crowds", "many_sessions", "many_numbers"]
 # what these do to a server, its files and the machine takes longer, and some of it wants root
 OTHER_GROUPS = ["kills", "failures", "many_limits", "memory_limits"]
 # these run only where they are named
