@@ -86,7 +86,8 @@ def started(program, config, port):
     while True:
         try:
             with socket.create_connection(("127.0.0.1", port)):
-                took, most, left = time.monotonic() - began, kilobytes(process, "VmHWM"), kilobytes(process, "VmRSS")
+                took = time.monotonic() - began
+                most, left = kilobytes(process, "VmHWM"), kilobytes(process, "VmRSS")
             break
         except ConnectionRefusedError:
             if process.poll() is not None:

@@ -16,7 +16,9 @@ import time
 HOSTS = ["mx1.example.org", "mx2.example.org"]
 CONFIG = "config|smtpd-version|7.6.0\nconfig|smtp-session-timeout|300\nconfig|subsystem|smtp-in\nconfig|ready\n"
 TOKEN = "1ef1c203cc576e5d"
-PROCEED, LIMIT, AWAY = "proceed", "reject|550 daily recipient limit reached", "reject|451 quota service unavailable"
+PROCEED = "proceed"
+LIMIT = "reject|550 daily recipient limit reached"
+AWAY = "reject|451 quota service unavailable"
 # seconds after which whatever hasn't come is missing
 SECONDS = 30
 

@@ -55,7 +55,7 @@ class Copy:
 
     def apply(self, folder, texts):
         """Returns these texts by path with the copy behind its function, and with its proof files."""
-        own = (self.edit.apply(folder, {}) if self.edit else {self.path: read(folder, self.path)})[self.path]
+        own = self.edit.apply(folder, {})[self.path] if self.edit else read(folder, self.path)
         it, text = source.function_named(self.path, own, self.function), texts.get(self.path) or read(folder, self.path)
         behind = source.function_named(self.path, text, self.function)
         if not it or not behind:
@@ -96,7 +96,8 @@ class LawCopy:
     with an edit of a definition or as they stand. So such edits can be tried in one check. It has what an edit has."""
 
     def __init__(self, folder, law, number, edit=None):
-        self.law, self.number, self.edit, self.laws = law, number, edit, laws_from(read(folder, "src/laws.rt"), law)
+        self.law, self.number, self.edit = law, number, edit
+        self.laws = laws_from(read(folder, "src/laws.rt"), law)
         self.module = f"laws_copy{number}"
         self.named = f"{self.module}::{law}"
         self.wanted, self.touched = {self.named}, {f"{self.module}::{it}" for it in self.laws}

@@ -10,7 +10,8 @@ class Watch:
     """Looks once a second at the processes that work in a repository's crates, and adds up what each took for its crate."""
 
     def __init__(self, root):
-        self.crates, self.seen, self.ended = os.path.realpath(f"{root}/crates"), {}, threading.Event()
+        self.crates = os.path.realpath(f"{root}/crates")
+        self.seen, self.ended = {}, threading.Event()
         self.thread = threading.Thread(target=self.look_on, daemon=True)
 
     def __enter__(self):

@@ -54,7 +54,8 @@ class Rounds:
         self.groups, self.kept, self.looks_at_all = groups, kept, looks_at_all
         files, self.misnamed = edits_in(place)
         self.files = [it for it in files if not kept or not kept.take(it)]
-        self.taken, self.results, self.edits, self.seconds, self.count = len(files) - len(self.files), [], [], 0.0, 0
+        self.taken = len(files) - len(self.files)
+        self.results, self.edits, self.seconds, self.count = [], [], 0.0, 0
 
     def is_left(self):
         """Returns whether anything is to be tried or told of."""
@@ -172,7 +173,8 @@ class Rounds:
             edits = [plain(it) for it in edits]
         # (one that costs least, and no law: what spoils a definition may spoil each of them)
         unedited = [it for it in self.unedited(edits) if not it.startswith("laws::")]
-        witness = sorted(unedited, key=lambda it: (it in self.witnesses, *self.crate.cost_of(it)))[:1]
+        unedited.sort(key=lambda it: (it in self.witnesses, *self.crate.cost_of(it)))
+        witness = unedited[:1]
         self.witnesses += witness
         # (and where there are copies, the function of them that costs least, as it stands: a copy is to be proved as what it is of; of those that have
         # one clause of a function one each)

@@ -71,7 +71,8 @@ class Sum:
     """What passed and failed so far, how much of it is kept from earlier runs, and the processor seconds by crate and kind of work."""
 
     def __init__(self):
-        self.passed, self.failed, self.taken, self.names, self.seconds = 0, 0, 0, [], collections.Counter()
+        self.passed, self.failed, self.taken = 0, 0, 0
+        self.names, self.seconds = [], collections.Counter()
 
     def add(self, results):
         for it in results:
@@ -125,9 +126,11 @@ def copy_tree(wanted, tree, edits):
         to = "/".join([edits, parts[1], *parts[3:]]) if part == "must-fail" else f"{tree}/{file}"
         os.makedirs(os.path.dirname(to), exist_ok=True)
         shutil.copy2(f"{TOP}/{file}", to, follow_symlinks=False)
-    with open(f"{TOP}/crates.txt", encoding="utf-8") as old, open(f"{tree}/crates.txt", "w", encoding="utf-8") as new:
-        named = lambda line: (line.partition("#")[0].partition(":")[0].split() or [None])[0]
-        new.writelines(it for it in old if named(it) is None or named(it) in wanted)
+    named = lambda line: (line.partition("#")[0].partition(":")[0].split() or [None])[0]
+    with open(f"{TOP}/crates.txt", encoding="utf-8") as file:
+        lines = [it for it in file if named(it) is None or named(it) in wanted]
+    with open(f"{tree}/crates.txt", "w", encoding="utf-8") as file:
+        file.writelines(lines)
     # (rt wants the top of a repository)
     os.mkdir(f"{tree}/.git")
 
@@ -383,7 +386,8 @@ def alone(names, part, sum_, kept=None, cases=None, looks_at_all=False):
     names = names or sorted(it for it in os.listdir(f"{TOP}/crates") if os.path.isdir(place_of(it)))
     for it in {*names} - {*rows}:
         sum_.fail(it, "it is no crate of crates.txt")
-    proved = lambda it: proved_in(run([RT, "check"], it.folder, LONGEST_CI).said.split("\n"))[it.name]
+    checked = lambda it: run([RT, "check"], it.folder, LONGEST_CI).said.split("\n")
+    proved = lambda it: proved_in(checked(it))[it.name]
     every = []
     for it in (it for it in names if it in rows and os.path.isdir(place_of(it))):
         edits = Edits(kept, sums, it, place_of(it), cases) if kept else None

@@ -30,7 +30,8 @@ class Look:
     """What is tried of the refused goals of one function, and the text of its proof file with that."""
 
     def __init__(self, crate, function, goals):
-        self.place, self.goals, self.tries = f"proofs/{function.replace('::', '/')}", sorted(goals), []
+        self.place = f"proofs/{function.replace('::', '/')}"
+        self.goals, self.tries = sorted(goals), []
         file = f"{crate.folder}/{self.place}/Answers.antt"
         text = ""
         if os.path.isfile(file):

@@ -62,7 +62,8 @@ def impl_name(head):
 
 def name_of(head):
     """Returns the name of what a brace opens after such a text, if it is a function, a type's functions or a module."""
-    function, type_, module = FUNCTION.search(head), TYPE.search(head), re.search(r"\bmod\s+(\w+)\s*\Z", head)
+    function, type_ = FUNCTION.search(head), TYPE.search(head)
+    module = re.search(r"\bmod\s+(\w+)\s*\Z", head)
     if function:
         return function[1]
     if type_:

@@ -40,6 +40,7 @@ class OwnTest:
     def run(self):
         told = Outcome()
         unittest.defaultTestLoader.loadTestsFromTestCase(self.tests).run(told)
-        self.results, self.seconds = told.results() or [Result(False, self.name, "there is no test")], self.tests.seconds
+        self.results = told.results() or [Result(False, self.name, "there is no test")]
+        self.seconds = self.tests.seconds
         if told.was_killed:
             raise Killed

@@ -119,7 +119,8 @@ class Books:
         return b"".join(map(number, [*self.usage.get((login, day), (0, 0)), self.cap(login, day)]))
 
     def page(self, day, after):
-        logins = sorted(login for login, of in self.usage if of == day and login > after)[:ROWS_OF_A_PAGE]
+        later = sorted(login for login, of in self.usage if of == day and login > after)
+        logins = later[:ROWS_OF_A_PAGE]
         rows = b"".join(text(login) + self.row(login, day) for login in logins)
         return b"\x8c" + number(day) + bytes([len(logins)]) + rows
 

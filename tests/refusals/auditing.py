@@ -18,7 +18,8 @@ SETTLED_ONE = frame(b"\x8b" + text(b"u") + b"".join(map(number, (1, 1, 0, 3))))
 
 
 def run(refusals, checks):
-    made, wrong, empty, by_rule = (f"{refusals.folder}/{name}" for name in ("made", "wrong", "empty", "by-rule"))
+    names = ("made", "wrong", "empty", "by-rule")
+    made, wrong, empty, by_rule = (f"{refusals.folder}/{name}" for name in names)
     for folder in (made, wrong, empty, by_rule):
         os.mkdir(folder)
     served(refusals, made, TWO_AND_A_SETTLE, ["--create"])
