@@ -229,7 +229,7 @@ LOCKED, NO_DATABASE = "database is locked", "file is not a database that obeys i
 
 def unreached(address, cause=NOBODY_LISTENS):
     """The line of a log that says why the last try of a request got no answer of this server."""
-    return f"[ERROR mq_tcp::logged] quota server {address}: {cause}\n"
+    return f"[ERROR mq_link::logged] quota server {address}: {cause}\n"
 
 
 def unavailable(address, cause=NOBODY_LISTENS, output=b""):

@@ -7,7 +7,7 @@ ghost use Rattle.mq_connections.specs.Counting.{one_less};
 
 use crate::fault::RoomFault;
 use log::{Log, error, warn};
-use mq_deadline::deadline_after;
+use mq_link::deadline_after;
 use std::io;
 use std::io::ErrorKind;
 use std::net::{OpenListener, SocketAddr, TcpListener, TcpStream};

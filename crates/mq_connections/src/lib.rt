@@ -18,7 +18,7 @@
 //!         &mut left,
 //!     )?;
 //!
-//! It stands on `mq_request`, `mq_ledger`, `mq_chore`, `mq_server`, `mq_deadline` and `mq_watch`: it knows how a connection
+//! It stands on `mq_request`, `mq_ledger`, `mq_chore`, `mq_server`, `mq_link` and `mq_watch`: it knows how a connection
 //! is answered and when it is late, over any ledger that takes the address of each peer, and neither tables nor what a
 //! chore does. Begin with `serving.rt`, the rounds over all that is open, and `specs/Sessions.antt`, what came on each
 //! connection and what it was answered.

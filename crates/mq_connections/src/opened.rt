@@ -9,8 +9,8 @@ ghost use Rattle.mq_server.specs.Life.{Life, Lives, with_bytes, with_taken};
 ghost use Rattle.mq_connections.specs.Turns.{ClosesAtEnd, Offers, Turns};
 
 use crate::network::Network;
-use mq_deadline::deadline_after;
 use mq_ledger::Ledger;
+use mq_link::deadline_after;
 use mq_server::laws::more_exchanges;
 use mq_server::{Connection, PIECE, Progress, ServeFault, Served};
 use mq_watch::Hear;

@@ -2,3 +2,7 @@
 pub mod Link
 -- what was read of one frame
 pub mod Body
+-- what an exchange over TCP writes and reads, and why it fails
+pub mod Exchange
+-- what a log has of the times without an answer
+pub mod Outage

@@ -17,7 +17,7 @@
 //!         left,
 //!     ) {
 //!
-//! It stands on `mq_request`, `mq_ledger`, `mq_forget`, `mq_chore`, `mq_server`, `mq_deadline`, `mq_watch`, `mq_store` and
+//! It stands on `mq_request`, `mq_ledger`, `mq_forget`, `mq_chore`, `mq_server`, `mq_link`, `mq_watch`, `mq_store` and
 //! `mq_connections`: it knows when a renewal is due and goes on with it, and neither files nor how the one ledger takes the
 //! other's place. Begin with `specs/Due.antt`, which days are due, and `night.rt`; `evening.rt` is the chore beside the
 //! serving.

@@ -9,8 +9,8 @@ ghost use Rattle.mq_nights.specs.Nights.{FindsDue};
 
 use crate::due::{Due, night_of, what_is_due};
 use log::{Log, warn};
-use mq_deadline::deadline_after;
 use mq_ledger::{Ledger, LedgerFault};
+use mq_link::deadline_after;
 use mq_request::bounds::{FIRST_MOMENT, LAST_MOMENT};
 use mq_store::SqlLedger;
 use sqlite::Alter;

@@ -3,7 +3,7 @@ use Rattle.std.specs.Prelude.{◌≡◌, ◌*◌, ℕ, List, Option}
 use Rattle.std.specs.Duration.{as_nanos}
 use Rattle.std.specs.declared.net.SocketAddr.{SocketAddr}
 use Rattle.mq_link.specs.declared.link.Told.{Told}
-use Rattle.mq_tcp.specs.Exchange.{Route, Standing}
+use Rattle.mq_link.specs.Exchange.{Route, Standing}
 
 -- a link over TCP leads to this address, and a connection may take so many milliseconds to be made
 pub record LeadsTo {S : Type 0} (link : Standing Route S) (address : SocketAddr) (timeout : ℕ) : Type 0 where

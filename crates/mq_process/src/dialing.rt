@@ -1,8 +1,7 @@
 //! How a command comes to its links.
 ghost use Rattle.std.specs.Prelude.{◌≡◌};
 
-use mq_link::Link;
-use mq_tcp::{Connector, Explain, TcpLink};
+use mq_link::{Connector, Explain, Link, TcpLink};
 use std::net::{Net, SocketAddr};
 use std::rt::Clock;
 use std::time::Duration;

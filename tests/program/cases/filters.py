@@ -49,8 +49,8 @@ SERVICE = b"reject|451 quota service unavailable"
 # what the log has of a login whose limit is reached, and of a server that gives no answer
 NAMED = "(host mx1, session 7641df9771b4ed00, login alice)"
 REFUSED_BY_LIMIT = f"[WARN  mq_client::tries] reserve 1 of transaction 1 {NAMED}: refused by the limit, 3 used of 3\n"
-WHY_CLOSED = "[ERROR mq_tcp::logged] quota server ADDRESS: closed before its reply was whole"
-SERVER = "[WARN  mq_tcp::logged] quota server ADDRESS:"
+WHY_CLOSED = "[ERROR mq_link::logged] quota server ADDRESS: closed before its reply was whole"
+SERVER = "[WARN  mq_link::logged] quota server ADDRESS:"
 UNANSWERED_RESERVE = f"[INFO  mq_client::tries] reserve 1 of transaction 1 {NAMED}: no answer in 3 tries"
 UNANSWERED_RELEASE = f"[INFO  mq_client::tries] release 2 of transaction 1 {NAMED}: no answer in 3 tries, it waits"
 LEFT = "[WARN  mq_client::filter] the input ends, closings without an answer: 1"
@@ -183,14 +183,14 @@ def warnings(world, checks):
     told(checks, "a settle answered too many", errors, [of_a_try("settle", 2, "the transaction holds 0 only, the server's address may have moved")])
     scripted(world, checks, 'a lost reserve with log = "off"', INPUT, [b""] * 3, results=[answer(SERVICE)], frames=[RESERVE] * 3, errors="", log="off")
     errors = scripted(world, checks, 'a lost reserve with log = "error"', INPUT, [b""] * 3, results=[answer(SERVICE)], frames=[RESERVE] * 3, log="error")
-    good = re.fullmatch(r"\[ERROR mq_tcp::logged\] quota server 127.0.0.1:\d+: closed before its reply was whole\n", errors)
+    good = re.fullmatch(r"\[ERROR mq_link::logged\] quota server 127.0.0.1:\d+: closed before its reply was whole\n", errors)
     checks.holds('a lost reserve with log = "error": the log', good, "one line with the address and why no answer came", errors)
     away = INPUT + RCPT * 2
     errors = scripted(world, checks, "a server that is away for two recipients, by the default level", away, [b""] * 6 + [granted(3, 1, **MX1), RELEASED], results=[answer(SERVICE)] * 2 + [answer(PROCEED)], frames=[RESERVE] * 3 + [reserve(2, login=b"alice", at=1_576_146_009, **MX1)] * 3 + [reserve(3, login=b"alice", at=1_576_146_009, **MX1)])
     checks.equal("a server that is away for two recipients, by the default level: its beginning and its end", without_address(errors), [WHY_CLOSED, f"{SERVER} answers again, requests without an answer: 2"])
     errors = scripted(world, checks, "a server that is away for two recipients", away, [b""] * 6 + [granted(3, 1, **MX1), RELEASED], results=[answer(SERVICE)] * 2 + [answer(PROCEED)], frames=[RESERVE] * 3 + [reserve(2, login=b"alice", at=1_576_146_009, **MX1)] * 3 + [reserve(3, login=b"alice", at=1_576_146_009, **MX1)], log="info")
     marks = [line.split("]")[0] for line in errors.splitlines()]
-    wanted = ["[ERROR mq_tcp::logged", "[INFO  mq_client::tries", "[INFO  mq_client::tries", "[WARN  mq_tcp::logged"]
+    wanted = ["[ERROR mq_link::logged", "[INFO  mq_client::tries", "[INFO  mq_client::tries", "[WARN  mq_link::logged"]
     checks.equal("a server that is away for two recipients: why once, each recipient, and that it answers again", marks, wanted)
     asked = [reserve(n, login=b"alice", at=1_576_146_009, **MX1) for n in range(1, 252)]
     errors = scripted(world, checks, "a server that is away for 250 recipients", INPUT + RCPT * 250, [b""] * 250 + [granted(251, 1, **MX1), RELEASED], results=[answer(SERVICE)] * 250 + [answer(PROCEED)], frames=asked, tries=1)
@@ -219,7 +219,7 @@ def of_a_try(kind, number, said, level="WARN "):
 
 def told(checks, what, errors, lines):
     """These lines, next to what the link says of the server."""
-    came = [line for line in errors.splitlines() if not line.startswith("[ERROR mq_tcp::logged] quota server ")]
+    came = [line for line in errors.splitlines() if not line.startswith("[ERROR mq_link::logged] quota server ")]
     checks.equal(f"{what}: the log", came, lines)
 
 
@@ -311,7 +311,7 @@ def no_server(world, checks):
         status, output, errors = world.filter(address, text, log="info")
     checks.equal("no server: lines and status", (status, output), UNANSWERED)
     errors = after_the_start(checks, "no server", errors, address)
-    refused = "[ERROR mq_tcp::logged] quota server ADDRESS: Connection refused (os error 111)"
+    refused = "[ERROR mq_link::logged] quota server ADDRESS: Connection refused (os error 111)"
     wanted = [refused, UNANSWERED_RESERVE, UNANSWERED_RELEASE, UNANSWERED_RELEASE, LEFT]
     checks.equal("no server: reserve, release at the commit, release at the end", without_address(errors), wanted)
     came, took = soon(lambda: not_accepted(world), 4)

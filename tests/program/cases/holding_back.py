@@ -7,7 +7,7 @@ from ends import SILENCE, Script, crowded_port, nobody_there
 from wire import granted, reserve
 
 BOB = b"0123456789abcdef"
-WHY = "[ERROR mq_tcp::logged] quota server ADDRESS: no answer in time"
+WHY = "[ERROR mq_link::logged] quota server ADDRESS: no answer in time"
 PAUSE = "[WARN  mq_client::pauses] no answer in time: nothing is asked for 30 seconds, recipients are answered 451"
 AGAIN = "[WARN  mq_client::pauses] asks again, recipients answered 451 without asking: "
 

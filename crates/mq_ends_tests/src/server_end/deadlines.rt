@@ -5,8 +5,7 @@
 use crate::server_end::asserts::{assert_text, assert_that};
 use crate::server_end::fixtures::bytes_of;
 use crate::server_end::server::RESERVE;
-use mq_link::Link;
-use mq_tcp::{Connect, TcpLink};
+use mq_link::{Connect, Link, TcpLink};
 use std::alloc::Global;
 use std::cell::Cell;
 use std::io;

@@ -4,8 +4,7 @@
 
 use crate::server_end::asserts::assert_text;
 use log::sink::Memory as Kept;
-use mq_link::{Link, LinkFault};
-use mq_tcp::{Explain, LoggedLink, Trouble};
+use mq_link::{Explain, Link, LinkFault, LoggedLink, Trouble};
 use std::alloc::Global;
 use std::cell::Cell;
 use std::io;
@@ -106,16 +105,16 @@ struct Case<'a> {
     log: &'a [&'a str],
 }
 
-const REFUSED: &str = "[ERROR mq_tcp::logged] quota server 127.0.0.1:7025: no connection";
+const REFUSED: &str = "[ERROR mq_link::logged] quota server 127.0.0.1:7025: no connection";
 
 const AFTER_1: &str =
-    "[WARN  mq_tcp::logged] quota server 127.0.0.1:7025: answers again, requests without an answer: 1";
+    "[WARN  mq_link::logged] quota server 127.0.0.1:7025: answers again, requests without an answer: 1";
 
 const AFTER_2: &str =
-    "[WARN  mq_tcp::logged] quota server 127.0.0.1:7025: answers again, requests without an answer: 2";
+    "[WARN  mq_link::logged] quota server 127.0.0.1:7025: answers again, requests without an answer: 2";
 
 const AFTER_4: &str =
-    "[WARN  mq_tcp::logged] quota server 127.0.0.1:7025: answers again, requests without an answer: 4";
+    "[WARN  mq_link::logged] quota server 127.0.0.1:7025: answers again, requests without an answer: 4";
 
 /// One line at the beginning and one at the end, however long it lasts.
 const ONE_OUTAGE: &[Case<'static>] = &[
@@ -155,15 +154,15 @@ const ONE_OUTAGE: &[Case<'static>] = &[
             (2_001, 1, Brings::Closed),
         ],
         log: &[
-            "[ERROR mq_tcp::logged] quota server 127.0.0.1:7025: it can't take the request now",
+            "[ERROR mq_link::logged] quota server 127.0.0.1:7025: it can't take the request now",
             AFTER_1,
-            "[ERROR mq_tcp::logged] quota server 127.0.0.1:7025: 1 bytes that are no reply",
+            "[ERROR mq_link::logged] quota server 127.0.0.1:7025: 1 bytes that are no reply",
             AFTER_1,
         ],
     },
     Case {
         rows: &[(5, 3, Brings::Bad)],
-        log: &["[ERROR mq_tcp::logged] quota server 127.0.0.1:7025: it takes the request for none"],
+        log: &["[ERROR mq_link::logged] quota server 127.0.0.1:7025: it takes the request for none"],
     },
 ];
 

@@ -3,8 +3,7 @@
 use crate::server_end::asserts::{assert_bytes, assert_text, assert_that};
 use crate::server_end::wires::{Wires, brought};
 use log::sink::Memory as Kept;
-use mq_link::Link;
-use mq_tcp::{LoggedLink, TcpLink};
+use mq_link::{Link, LoggedLink, TcpLink};
 use std::alloc::Global;
 use std::process::Abort;
 use std::rt::Clock;
@@ -36,7 +35,7 @@ fn the_last_trouble_is_logged(rt: HostRuntime) -> Result<(), Fail> {
     let mut lines = lines.as_slice().iter();
     let line = lines.next().expect(&rt, "a line");
     let wanted =
-        "[ERROR mq_tcp::logged] quota server 127.0.0.1:7025: it can't take the request now";
+        "[ERROR mq_link::logged] quota server 127.0.0.1:7025: it can't take the request now";
     assert_text(&rt, line.as_str(), wanted);
     assert_that(&rt, lines.next().is_none(), "no further line");
     Ok(())

@@ -36,7 +36,7 @@ pub struct Connector<'a, R> {
 }
 
 impl<'a, R> Model for Connector<'a, R> {
-    ghost use Rattle.mq_tcp.specs.Exchange.{Route};
+    ghost use Rattle.mq_link.specs.Exchange.{Route};
 
     ghost Value = { Route };
 

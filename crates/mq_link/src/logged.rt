@@ -1,10 +1,10 @@
 //! A link that logs why no reply comes.
 
+use crate::link::{Link, LinkFault};
 use crate::outage::Outage;
 use crate::trouble::Trouble;
 use log::{Level, Log, log};
 use mq_frame::{ReplyParts, read_reply};
-use mq_link::{Link, LinkFault};
 use std::fmt;
 use std::marker::Model;
 use std::net::SocketAddr;

@@ -4,13 +4,14 @@ ghost use Rattle.std.specs.Prelude.{OnErr, IfErr, MatchOption};
 ghost use Rattle.std.specs.Io.KnownBytes.{Appends};
 ghost use Rattle.mq_link.specs.Link.{Tells, outcome_of};
 ghost use Rattle.mq_link.specs.Body.{IsReceived, IsHeadOnly, IsEmptyHead};
-ghost use Rattle.mq_tcp.specs.Exchange.{Standing, IsSent, IsExchange, trouble_fault};
+ghost use Rattle.mq_link.specs.Exchange.{Standing, IsSent, IsExchange, trouble_fault};
 
+use crate::body::read_body;
 use crate::connect::{Connect, Connector};
+use crate::link::{Link, LinkFault};
 use crate::logged::Explain;
+use crate::timed::{Timed, deadline_after};
 use crate::trouble::Trouble;
-use mq_deadline::{Timed, deadline_after};
-use mq_link::{Link, LinkFault, read_body};
 use std::io;
 use std::io::{Read, Write};
 use std::marker::Model;
@@ -79,7 +80,7 @@ pub struct TcpLink<'a, K, C: Connect> {
 }
 
 impl<'a, K, C: Connect> Model for TcpLink<'a, K, C> {
-    ghost use Rattle.mq_tcp.specs.Exchange.{Standing};
+    ghost use Rattle.mq_link.specs.Exchange.{Standing};
 
     ghost Value = { Standing C C.Stream };
 

@@ -2,7 +2,7 @@
 use Rattle.std.specs.Prelude.{ℕ, ◌+◌, ◌-◌, Bool, true, false, nat_le, ◌&&◌, ◌||◌, not, min, if◌then◌else◌, Option, None, Some}
 use Rattle.std.specs.Time.{instant_nanos}
 use Rattle.std.specs.declared.time.Instant.{Instant}
-use Rattle.mq_tcp.specs.declared.outage.Outage.{Outage}
+use Rattle.mq_link.specs.declared.outage.Outage.{Outage}
 
 -- whether a second or more is over since a line; before the first line, and without a clock, it is
 abbrev pub is_due : Option Instant → Option Instant → Bool

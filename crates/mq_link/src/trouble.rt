@@ -1,9 +1,10 @@
 //! Why an exchange brought no reply, for those who look after the link.
 ghost use Rattle.std.specs.Prelude.{◌≡◌};
 ghost use Rattle.std.specs.IoError.{error_kind};
-ghost use Rattle.mq_tcp.specs.Exchange.{body_trouble, fault_of, trouble_fault};
+ghost use Rattle.mq_link.specs.Exchange.{body_trouble, fault_of, trouble_fault};
 
-use mq_link::{BodyFault, LinkFault};
+use crate::body::BodyFault;
+use crate::link::LinkFault;
 use std::io::ErrorKind;
 use std::{fmt, io};
 

@@ -11,8 +11,8 @@ use Rattle.mq_link.specs.declared.body.BodyFault.{BodyFault}
 use Rattle.mq_link.specs.declared.body.BodyFault.TheVariants as body
 use Rattle.mq_link.specs.declared.link.LinkFault.{LinkFault}
 use Rattle.mq_link.specs.declared.link.LinkFault.TheVariants.{Down, TimedOut, Memory}
-use Rattle.mq_tcp.specs.declared.trouble.Trouble.{Trouble}
-use Rattle.mq_tcp.specs.declared.trouble.Trouble.TheVariants.{System, Empty, Unconnected, Memory as OutOfMemory}
+use Rattle.mq_link.specs.declared.trouble.Trouble.{Trouble}
+use Rattle.mq_link.specs.declared.trouble.Trouble.TheVariants.{System, Empty, Unconnected, Memory as OutOfMemory}
 
 -- a call that took too long timed out; whatever else went wrong, the server can't be reached
 abbrev pub fault_of : ErrorKind → LinkFault

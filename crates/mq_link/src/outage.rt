@@ -1,6 +1,6 @@
 //! When an outage is logged: its beginning and its end, at most one outage a second, and what the end counts.
 ghost use Rattle.std.specs.Prelude.{◌≡◌, ◌<◌, ◌↔◌, false, IsTrue, Some, None, if◌then◌else◌};
-ghost use Rattle.mq_tcp.specs.Outage.{is_due as is_due_lem, is_last_try, missed, is_beginning, begun, is_ending, ended, passed};
+ghost use Rattle.mq_link.specs.Outage.{is_due as is_due_lem, is_last_try, missed, is_beginning, begun, is_ending, ended, passed};
 
 use std::time::{Duration, Instant};
 
