@@ -6,7 +6,7 @@
 //!     let words = given.servers.as_slice();
 //!     checked(rt, given.host, given.login, words)?;
 //!
-//! It stands on `mq_arguments`, `mq_request`, `mq_ledger`, `mq_settings`, `mq_link` and `mq_command`. Begin with `settings.rt` and
+//! It stands on `mq_words`, `mq_request`, `mq_ledger`, `mq_settings`, `mq_link` and `mq_command`. Begin with `settings.rt` and
 //! `asking.rt`; `specs/Refusals.antt` says which words are refused, and in which order, and `specs/Whom.antt` whom a command asks.
 #![tactic(auto)]
 

@@ -1,17 +1,17 @@
 //! `replay`: answers frames from standard input over a new ledger.
 ghost use Rattle.std.specs.Prelude.{◌≡◌, ⊤, true, Err, Result as AnyResult, map};
-ghost use Rattle.mq_arguments.specs.Arguments.{IsReplayArguments};
+ghost use Rattle.mq_words.specs.Arguments.{IsReplayArguments};
 ghost use Rattle.mq_request.specs.Range.{IsAmount};
 ghost use Rattle.mq_replay.specs.Replay.{IsForCause, Replays, ReplaysOver, status_of};
 ghost use Rattle.mq_replay.specs.declared.replay.ReplayFault.{ReplayFault as AnyReplayFault};
 ghost use Rattle.mq_program.specs.Refusals.{IsZoneByRule, IsZoneOf, ReplayRefuses};
 
 use crate::fault::{ProgramFault, or_memory};
-use mq_arguments::ReplayArguments;
 use mq_ledger::{PlainLedger, RuleFault, Zone};
 use mq_replay::{ReplayFault, TEXT_LIMIT, read_connections, replay_over};
 use mq_server::ServeFault;
 use mq_store::{OpenFault, SqlLedger};
+use mq_words::ReplayArguments;
 use std::alloc::Global;
 use std::io;
 use std::io::{BufWriter, Read, Write};

@@ -1,14 +1,13 @@
 //! `report`: prints what logins used on a day.
 ghost use Rattle.std.specs.Prelude.{◌≡◌, Err, IfErr, IfOk, IfSome};
 ghost use Rattle.mq_request.specs.Range.{IsDay, IsLogin, IsWithin};
-ghost use Rattle.mq_arguments.specs.Arguments.{IsReportArguments};
+ghost use Rattle.mq_words.specs.Arguments.{IsReportArguments};
 ghost use Rattle.mq_process.specs.Links.{AsksOver};
 ghost use Rattle.mq_process.specs.Refusals.{NamesLogin, ReportRefuses};
 ghost use Rattle.mq_remote.specs.Asked.{AsksAt, AsksReport, IsReported, NamesReported, ReportsRows, ReportsThere};
 
 use log::sink::Console;
 use log::{LevelFilter, Logged};
-use mq_arguments::{LoginArgument, ReportArguments};
 use mq_command::{print_columns, run_report, run_top};
 use mq_link::Link;
 use mq_process::{
@@ -17,6 +16,7 @@ use mq_process::{
 };
 use mq_request::Login;
 use mq_request::bounds::LAST_DAY;
+use mq_words::{LoginArgument, ReportArguments};
 use std::alloc::Global;
 use std::io;
 use std::io::{BufWriter, Write};

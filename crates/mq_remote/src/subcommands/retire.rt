@@ -8,13 +8,13 @@ ghost use Rattle.mq_remote.specs.Asked.{AsksRetire, IsAddressBy, IsAddressOr, Is
 
 use log::sink::Console;
 use log::{LevelFilter, Logged};
-use mq_arguments::RetireArguments;
 use mq_command::run_retire;
 use mq_process::{
     Dial, ProcessFault, TIMEOUT, address_found, address_of, filter_settings_in_place, link_to,
     run_number,
 };
 use mq_request::{Host, Id, Request, is_host};
+use mq_words::RetireArguments;
 use std::io;
 use std::io::Write;
 use std::net::SocketAddr;

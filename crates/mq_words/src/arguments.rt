@@ -1,18 +1,6 @@
 //! What the words of a command line ask for, as types: what each subcommand is given.
-//!
-//! `mq_words` makes an [`Arguments`] of words, and `mailquota` has `mq_program` or `mq_remote` do what it asks for, so that only the one pays for
-//! `clap` and only the other for sockets and files. From `mailquota/src/subcommand.rt`:
-//!
-//!     Arguments::Limit(given) => end_process(limit(rt, dial, given, errors), errors),
-//!     Arguments::Stop(given) => end_process(stop(rt, dial, given, errors), errors),
-//!
-//! It stands on `mq_request`, for the ranges of a request's numbers, and knows nothing else. Begin with this file;
-//! `specs/Arguments.antt` has the ranges that `mq_words` proves.
-#![tactic(auto)]
 
-mod servers;
-
-pub use servers::Servers;
+use crate::servers::Servers;
 
 /// The settings of a server where no words name others.
 pub const SERVER_SETTINGS: &str = "/etc/mailquota/server.toml";
