@@ -162,7 +162,9 @@ const ONE_OUTAGE: &[Case<'static>] = &[
     },
     Case {
         rows: &[(5, 3, Brings::Bad)],
-        log: &["[ERROR mq_link::logged] quota server 127.0.0.1:7025: it takes the request for none"],
+        log: &[
+            "[ERROR mq_link::logged] quota server 127.0.0.1:7025: it takes the request for none",
+        ],
     },
 ];
 
