@@ -4,8 +4,8 @@
 - Each crate has a front page at the head of its root: its example stands in the file that it names,
   and it names the crates of ours that it stands on as crates.txt has them. Each other file of its
   source begins with a line of what it is.
-- docs/ARCHITECTURE.md lists each crate of crates.txt once, and no other, and docs/crates.svg draws
-  them as they stand there.
+- docs/ARCHITECTURE.md lists each crate of crates.txt once, and no other, in layers: a crate stands on
+  none of a higher one. docs/crates.svg draws them so.
 - Each place that CONTRIBUTING.md sends a reader to is there, with the words that it says of it.
 - What docs/PROOFS.md names under a crate stands in that crate, and the clauses in brackets after a
   function stand in a contract of such a function.
@@ -130,19 +130,35 @@ def pages(tree):
         yield f"the front page of {crate}", wrong
 
 
+def layers_of(tree):
+    """The layers of crates that docs/ARCHITECTURE.md lists, the lowest first, each with its crates."""
+    layers = {}
+    for title, name in re.findall(r"^\| (?:\*\*(.*)\*\*|`(\w+)`) \|", read(tree, "docs/ARCHITECTURE.md"), re.MULTILINE):
+        if title or not layers:
+            layers[title] = its = []
+        its += [name] if name else []
+    return layers
+
+
 def listed(tree):
     """Yields what is wrong with the list of crates."""
-    rows = re.findall(r"^\| `(\w+)` \|", read(tree, "docs/ARCHITECTURE.md"), re.MULTILINE)
-    crates = crates_of(tree)
+    rows, crates = [it for names in layers_of(tree).values() for it in names], crates_of(tree)
     wrong = [f"it hasn't {it}" for it in crates if it not in rows]
     wrong += [f"it has {it}, which is no crate" for it in rows if it not in crates]
     wrong += [f"it has {it} more than once" for it in sorted({*rows}) if rows.count(it) > 1]
     yield "docs/ARCHITECTURE.md", wrong
 
 
+def layered(tree):
+    """Yields which crates stand on one of a higher layer."""
+    layer = {name: number for number, names in enumerate(layers_of(tree).values()) for name in names}
+    yield "the layers", [f"{name} stands on {it} of a higher layer" for name, below in crates_of(tree).items() for it in below
+                         if name in layer and layer[name] < layer.get(it, 0)]
+
+
 def drawn(tree):
-    """Yields whether the drawing of the crates is that of crates.txt."""
-    is_right = read(tree, "docs/crates.svg") == drawing.drawn(crates_of(tree))
+    """Yields whether the drawing of the crates is that of these layers and of crates.txt."""
+    is_right = read(tree, "docs/crates.svg") == drawing.drawn(layers_of(tree), crates_of(tree))
     yield "docs/crates.svg", [] if is_right else ["it isn't of these crates: run tests/prose/drawing.py"]
 
 
@@ -331,9 +347,9 @@ def noticed(tree):
     yield "NOTICE", [f"it hasn't {it}" for it in sorted(named - {*re.findall(r"^(\w+) ", read(tree, "NOTICE"), re.MULTILINE)})]
 
 
-CHECKS = [pages, listed, drawn, sent_to, carriers, columns, manual, diagnostics, names, versions, noticed]
+CHECKS = [pages, listed, layered, drawn, sent_to, carriers, columns, manual, diagnostics, names, versions, noticed]
 
-# A tree with nothing wrong, and what each of these changes makes of it: the file, the text there, what takes its place, and the check that finds it.
+# A tree with nothing wrong, and what each of these changes makes of it: the file, the text there, what takes its place, and the checks that find it.
 TREE = {
     "crates.txt": "# crates\nmq_low: thiserror\nmq_high: mq_low\n",
     "docs/GATE.md": f"A gate.\n\n    {'code ' * 30}\n\n```\n{'code ' * 30}\n```\n\n| {'row ' * 30}|\n",
@@ -341,8 +357,8 @@ TREE = {
     "CHANGELOG": "1.2.3, 1 May 2026\n",
     "debian/changelog": "mailquota (1.2.3) trixie; urgency=medium\n",
     "NOTICE": "thiserror  MIT\n",
-    "docs/crates.svg": drawing.drawn({"mq_low": [], "mq_high": ["mq_low"]}),
-    "docs/ARCHITECTURE.md": "| `mq_low` | words |\n| `mq_high` | words |\n",
+    "docs/crates.svg": drawing.drawn({"low": ["mq_low"], "high": ["mq_high"]}, {"mq_low": [], "mq_high": ["mq_low"]}),
+    "docs/ARCHITECTURE.md": "| **low** | |\n| `mq_low` | words |\n| **high** | |\n| `mq_high` | words |\n",
     "CONTRIBUTING.md": "| a call | `mq_high/src/lib.rt`: `call` | `done`: so it is (`IsDone`, `specs/Done.antt`) |\n",
     "docs/PROOFS.md": "# Proved\n\n### mq_low\n\n- Low: `low`, `Far` of `mq_high`.\n\n### mq_high\n\n- What is done (`specs/Done.antt`): `call` (`done`).\n\n"
                       "## What is only tested\n\n`nowhere`\n",
@@ -369,9 +385,11 @@ WRONG = [
     ("crates/mq_high/src/high.rt", "//! What is high.", "", pages),
     ("crates/mq_high/src/lib.rt", "on `mq_low`", "on `thiserror`", pages),
     ("docs/crates.svg", ">mq_low<", ">mq_lower<", drawn),
-    ("docs/ARCHITECTURE.md", "| `mq_low` | words |\n", "", listed),
-    ("docs/ARCHITECTURE.md", "| `mq_low` |", "| `mq_lower` |", listed),
-    ("docs/ARCHITECTURE.md", "| `mq_high` | words |", "| `mq_low` | words |\n| `mq_high` | words |", listed),
+    ("docs/crates.svg", ">low<", ">high<", drawn),
+    ("docs/ARCHITECTURE.md", "| `mq_low` | words |\n", "", listed, drawn),
+    ("docs/ARCHITECTURE.md", "| `mq_low` |", "| `mq_lower` |", listed, drawn),
+    ("docs/ARCHITECTURE.md", "| `mq_high` | words |", "| `mq_low` | words |\n| `mq_high` | words |", listed, drawn),
+    ("docs/ARCHITECTURE.md", "| **low** | |\n| `mq_low` | words |\n| **high** | |\n| `mq_high`", "| **high** | |\n| `mq_high` | words |\n| **low** | |\n| `mq_low`", layered, drawn),
     ("CONTRIBUTING.md", "`call`", "`calls`", sent_to),
     ("CONTRIBUTING.md", "`done`", "`well`", sent_to),
     ("CONTRIBUTING.md", "specs/Done", "specs/Gone", sent_to),
@@ -411,8 +429,8 @@ WRONG = [
 
 
 def own_test():
-    """Yields of each wrong thing whether its check, and no other, finds it."""
-    for file, old, new, check in [("docs/GATE.md", "A gate", "A gate", None), *WRONG]:
+    """Yields of each wrong thing whether its checks, and no other, find it."""
+    for file, old, new, *checks in [("docs/GATE.md", "A gate", "A gate"), *WRONG]:
         with tempfile.TemporaryDirectory(prefix="prose-") as tree:
             for name, text in TREE.items():
                 os.makedirs(os.path.dirname(f"{tree}/{name}"), exist_ok=True)
@@ -420,7 +438,7 @@ def own_test():
                 with open(f"{tree}/{name}", "w", encoding="utf-8") as it:
                     it.write(text)
             found = {it.__name__ for it in CHECKS if any(wrong for _, wrong in it(tree))}
-        wanted = {check.__name__} if check else set()
+        wanted = {it.__name__ for it in checks}
         yield f"{new!r} in {file}", [] if old in TREE[file] and found == wanted else [f"it is found by {sorted(found)}, and not by {sorted(wanted)}"]
 
 
