@@ -2,14 +2,14 @@
 use Rattle.std.proofs.Common.{◌≡◌, ℕ, List, Option, None, Some, Result, Ok, Err, sym, subst}
 use Rattle.std.specs.Prelude.{IfSome, MatchResult}
 use Rattle.std.specs.Borrow.{Bor}
-use Rattle.mq_words.specs.declared.arguments.LoginArgument.{LoginArgument}
-use Rattle.mq_words.specs.declared.arguments.ProbeArguments.{ProbeArguments}
-use Rattle.mq_words.specs.declared.arguments.ReportArguments.{ReportArguments}
-use Rattle.mq_words.specs.declared.arguments.ResumeArguments.{ResumeArguments}
-use Rattle.mq_words.specs.declared.arguments.RetireArguments.{RetireArguments}
-use Rattle.mq_words.specs.declared.arguments.ReplayArguments.{ReplayArguments}
-use Rattle.mq_words.specs.declared.arguments.Arguments.{Arguments}
-use Rattle.mq_words.specs.declared.arguments.Arguments.TheVariants.{Probe, Replay, Report, Resume, Retire}
+use Rattle.mq_process.specs.declared.arguments.LoginArgument.{LoginArgument}
+use Rattle.mq_process.specs.declared.arguments.ProbeArguments.{ProbeArguments}
+use Rattle.mq_process.specs.declared.arguments.ReportArguments.{ReportArguments}
+use Rattle.mq_process.specs.declared.arguments.ResumeArguments.{ResumeArguments}
+use Rattle.mq_process.specs.declared.arguments.RetireArguments.{RetireArguments}
+use Rattle.mq_process.specs.declared.arguments.ReplayArguments.{ReplayArguments}
+use Rattle.mq_process.specs.declared.arguments.Arguments.{Arguments}
+use Rattle.mq_process.specs.declared.arguments.Arguments.TheVariants.{Probe, Replay, Report, Resume, Retire}
 use Rattle.mq_process.specs.Faults.{process_status}
 use Rattle.mq_process.specs.Refusals.{NamesLogin, OrderRefuses, ProbeRefuses, ReportRefuses, RetireRefuses}
 use Rattle.mq_process.specs.declared.fault.ProcessFault.{ProcessFault}

@@ -1,7 +1,7 @@
 -- How the program ends where a word of its command line is at fault.
 use Rattle.std.specs.Prelude.{◌≡◌, ℕ, ⊤}
-use Rattle.mq_words.specs.declared.arguments.Arguments.{Arguments}
-use Rattle.mq_words.specs.declared.arguments.Arguments.TheVariants.{Replay, Probe, Limit, Stop, Resume, Retire, Report}
+use Rattle.mq_process.specs.declared.arguments.Arguments.{Arguments}
+use Rattle.mq_process.specs.declared.arguments.Arguments.TheVariants.{Replay, Probe, Limit, Stop, Resume, Retire, Report}
 use Rattle.mq_process.specs.Faults.{process_status}
 use Rattle.mq_process.specs.Refusals.{OrderRefuses, ProbeRefuses, ReportRefuses, RetireRefuses}
 use Rattle.mq_program.specs.Faults.{fault_status}

@@ -1,11 +1,10 @@
 //! Which subcommand is run.
-ghost use Rattle.mq_words.specs.Arguments.{IsArguments};
+ghost use Rattle.mq_process.specs.Arguments.{IsArguments};
 ghost use Rattle.mailquota.specs.Refusals.{Refuses};
 
-use mq_process::{Dialer, day, end_process};
+use mq_process::{Arguments, Dialer, day, end_process};
 use mq_program::{audit, end_program, forget, init, limits, replay, server, status};
 use mq_remote::{end_filter, filter, limit, probe_servers, report, resume, retire, stop};
-use mq_words::Arguments;
 use sqlite::Start;
 use std::io;
 use std::io::{IsTerminal, Write};

@@ -1,3 +1,4 @@
+pub mod Arguments
 pub mod Days
 pub mod Faults
 pub mod Links

@@ -3,11 +3,11 @@ use Rattle.std.specs.Prelude.{◌≡◌, ◌⊎◌, ℕ, List, [], ◌∷◌, If
 use Rattle.std.specs.Net.Grammar.{IsSocketText}
 use Rattle.std.specs.declared.net.SocketAddr.{SocketAddr}
 use Rattle.mq_request.specs.Range.{IsHost, IsLogin}
-use Rattle.mq_words.specs.declared.arguments.LoginArgument.{LoginArgument}
-use Rattle.mq_words.specs.declared.arguments.LoginArgument.TheVariants.{Reported, Printed}
-use Rattle.mq_words.specs.declared.arguments.ProbeArguments.{ProbeArguments}
-use Rattle.mq_words.specs.declared.arguments.RetireArguments.{RetireArguments}
-use Rattle.mq_words.specs.declared.arguments.ReportArguments.{ReportArguments}
+use Rattle.mq_process.specs.declared.arguments.LoginArgument.{LoginArgument}
+use Rattle.mq_process.specs.declared.arguments.LoginArgument.TheVariants.{Reported, Printed}
+use Rattle.mq_process.specs.declared.arguments.ProbeArguments.{ProbeArguments}
+use Rattle.mq_process.specs.declared.arguments.RetireArguments.{RetireArguments}
+use Rattle.mq_process.specs.declared.arguments.ReportArguments.{ReportArguments}
 use Rattle.mq_command.specs.Printed.{IsLoginText, IsTextOf}
 use Rattle.mq_process.specs.declared.fault.ProcessFault.{ProcessFault}
 use Rattle.mq_process.specs.declared.fault.ProcessFault.TheVariants.{Host, Login, Address}

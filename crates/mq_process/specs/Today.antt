@@ -1,8 +1,8 @@
 -- Which day is today, and which day a login is stopped from.
 use Rattle.std.specs.Prelude.{◌≡◌, ◌<◌, ◌+◌, ◌/◌, ◌==◌, ◌&&◌, ℕ, Bool, true, false, ◌⊎◌, List, Option, None, Some, Result, Ok, Err, nat_le}
 use Rattle.mq_request.specs.Range.{IsMoment}
-use Rattle.mq_words.specs.declared.arguments.DayArgument.{DayArgument}
-use Rattle.mq_words.specs.declared.arguments.DayArgument.TheVariants.{Today, Ago, Given}
+use Rattle.mq_process.specs.declared.arguments.DayArgument.{DayArgument}
+use Rattle.mq_process.specs.declared.arguments.DayArgument.TheVariants.{Today, Ago, Given}
 use Rattle.mq_ledger.specs.Day.{day_of}
 use Rattle.mq_ledger.specs.declared.zone.Zone.{Zone}
 use Rattle.mq_settings.specs.declared.settings.ServerSettings.{ServerSettings}

@@ -5,6 +5,7 @@ ghost use Rattle.std.specs.Net.Grammar.{IsSocketText};
 ghost use Rattle.mq_request.specs.Range.{IsHost, IsLogin};
 ghost use Rattle.mq_process.specs.Refusals.{HasNoAddress, IsNoAddress, Names, NamesLogin, OrderRefuses};
 
+use crate::arguments::LoginArgument;
 use crate::dialing::Dial;
 use crate::fault::ProcessFault;
 use crate::servers::check_addresses;
@@ -14,7 +15,6 @@ use mq_command::{TRIES, is_login_text, login_of_text, note_of};
 use mq_link::LoggedLink;
 use mq_request::{Escaped, Host, Id, Login, is_host, is_login};
 use mq_settings::address_flaw;
-use mq_words::LoginArgument;
 use std::alloc::{AllocError, Global};
 use std::io::Write;
 use std::net::SocketAddr;

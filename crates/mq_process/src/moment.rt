@@ -5,12 +5,12 @@ ghost use Rattle.std.specs.Duration.{as_nanos};
 ghost use Rattle.mq_request.specs.Range.{IsMoment};
 ghost use Rattle.mq_process.specs.Days.{PrintsDay};
 
+use crate::arguments::DayArguments;
 use crate::clock::time_of_clock;
 use crate::fault::ProcessFault;
 use crate::settings::server_settings;
 use mq_command::run_day;
 use mq_request::is_moment;
-use mq_words::DayArguments;
 use std::io::Write;
 use std::rt::{Clock, Files};
 use std::time::Duration;

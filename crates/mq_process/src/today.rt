@@ -1,18 +1,18 @@
 //! The day that words name, and the one from which a login is stopped, which is today unless it is forced.
 ghost use Rattle.std.specs.Prelude.{◌≡◌, ◌/◌, ◌+◌, ◌≤◌, ℕ, IfErr, IfOk, MatchResult, option_map};
 ghost use Rattle.mq_request.specs.Range.{IsMoment, IsWithin};
-ghost use Rattle.mq_words.specs.Arguments.{IsDayUpTo};
+ghost use Rattle.mq_process.specs.Arguments.{IsDayUpTo};
 ghost use Rattle.mq_ledger.specs.Day.{day_of};
 ghost use Rattle.mq_process.specs.Today.{ChoosesBy, ChoosesDay, ChoosesNow, IsDaysAgo, IsNoDay, NamesDay, RefusesAgo, StopsFrom};
 ghost use Rattle.mq_process.specs.Today.{is_today, today_of};
 
+use crate::arguments::DayArgument;
 use crate::fault::ProcessFault;
 use crate::moment::moment_or_now;
 use crate::settings::server_settings;
 use crate::whom::named_settings;
 use mq_ledger::Zone;
 use mq_request::bounds::LAST_DAY;
-use mq_words::DayArgument;
 use std::rt::{Clock, Files};
 
 /// The seconds of a day of UTC.

@@ -6,11 +6,11 @@ ghost use Rattle.mq_process.specs.Refusals.{HasNoAddress, IsNoAddress};
 ghost use Rattle.mq_process.specs.Settings.{CanAsk, ReadsFilter, ReadsServer};
 ghost use Rattle.mq_process.specs.Whom.{AsksAsFilter, FindsAddress, servers_or};
 
+use crate::arguments::{FILTER_SETTINGS, SERVER_SETTINGS};
 use crate::asking::address_of;
 use crate::fault::ProcessFault;
 use crate::settings::{filter_settings_if_there, server_settings, server_settings_if_there};
 use mq_settings::{FilterSettings, ServerSettings};
-use mq_words::{FILTER_SETTINGS, SERVER_SETTINGS};
 use std::alloc::{AllocError, Global};
 use std::net::SocketAddr;
 use std::rt::Files;

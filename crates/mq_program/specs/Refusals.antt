@@ -3,7 +3,7 @@ use Rattle.std.specs.Prelude.{◌≡◌, ℕ, List, pos, ◌-ℤ◌, Option, Non
 use Rattle.std.specs.Borrow.{Bor}
 use Rattle.mq_ledger.specs.declared.zone.Zone.{Zone}
 use Rattle.mq_ledger.specs.Day.{ByOffset, ByRule, IsRule}
-use Rattle.mq_words.specs.declared.arguments.ReplayArguments.{ReplayArguments}
+use Rattle.mq_process.specs.declared.arguments.ReplayArguments.{ReplayArguments}
 use Rattle.mq_program.specs.declared.fault.ProgramFault.{ProgramFault}
 use Rattle.mq_program.specs.declared.fault.ProgramFault.TheVariants.{Rule}
 

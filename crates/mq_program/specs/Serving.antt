@@ -1,8 +1,8 @@
 -- What `server` is asked to serve, and what it was served.
 use Rattle.std.specs.Prelude.{ℕ, None, Result}
 use Rattle.sqlite.specs.State.{State}
-use Rattle.mq_words.specs.declared.arguments.ConnectionsArgument.{ConnectionsArgument}
-use Rattle.mq_words.specs.declared.arguments.ConnectionsArgument.TheVariants as asked
+use Rattle.mq_process.specs.declared.arguments.ConnectionsArgument.{ConnectionsArgument}
+use Rattle.mq_process.specs.declared.arguments.ConnectionsArgument.TheVariants as asked
 use Rattle.mq_ledger.specs.declared.zone.Zone.{Zone}
 use Rattle.mq_ledger.specs.Legal.{Book}
 use Rattle.mq_connections.specs.declared.accept.Connections.{Connections}

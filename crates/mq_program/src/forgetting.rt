@@ -17,10 +17,9 @@ use crate::store::{close_file, connect_new, ledger_of_settings, let_go, make_new
 use log::sink::Console;
 use log::{Log, Logged, error, info};
 use mq_ledger::Zone;
-use mq_process::{moment_or_now, server_settings};
+use mq_process::{ForgetArguments, moment_or_now, server_settings};
 use mq_settings::ServerSettings;
 use mq_store::{OpenFault, SqlLedger};
-use mq_words::ForgetArguments;
 use sqlite::{Alter, Connection, FileFrom, FileStore, Start};
 use std::alloc::{AllocError, Global};
 use std::io::Write;

@@ -1,6 +1,6 @@
 //! `replay`: answers frames from standard input over a new ledger.
 ghost use Rattle.std.specs.Prelude.{◌≡◌, ⊤, true, Err, Result as AnyResult, map};
-ghost use Rattle.mq_words.specs.Arguments.{IsReplayArguments};
+ghost use Rattle.mq_process.specs.Arguments.{IsReplayArguments};
 ghost use Rattle.mq_request.specs.Range.{IsAmount};
 ghost use Rattle.mq_replay.specs.Replay.{IsForCause, Replays, ReplaysOver, status_of};
 ghost use Rattle.mq_replay.specs.declared.replay.ReplayFault.{ReplayFault as AnyReplayFault};
@@ -8,10 +8,10 @@ ghost use Rattle.mq_program.specs.Refusals.{IsZoneByRule, IsZoneOf, ReplayRefuse
 
 use crate::fault::{ProgramFault, or_memory};
 use mq_ledger::{PlainLedger, RuleFault, Zone};
+use mq_process::ReplayArguments;
 use mq_replay::{ReplayFault, TEXT_LIMIT, read_connections, replay_over};
 use mq_server::ServeFault;
 use mq_store::{OpenFault, SqlLedger};
-use mq_words::ReplayArguments;
 use std::alloc::Global;
 use std::io;
 use std::io::{BufWriter, Read, Write};

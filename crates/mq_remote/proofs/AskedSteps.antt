@@ -6,7 +6,7 @@ use Rattle.std.specs.Borrow.{Bor}
 use Rattle.std.specs.Net.Text.{socket_text}
 use Rattle.std.specs.declared.net.SocketAddr.{SocketAddr}
 use Rattle.mq_client.specs.declared.spans.Spans.{Spans}
-use Rattle.mq_words.specs.declared.arguments.LimitArguments.{LimitArguments}
+use Rattle.mq_process.specs.declared.arguments.LimitArguments.{LimitArguments}
 use Rattle.mq_link.specs.declared.link.Told.{Told}
 use Rattle.mq_request.specs.Range.{IsRun}
 use Rattle.mq_request.specs.declared.message.Request.{Request}

@@ -2,10 +2,10 @@
 use Rattle.std.proofs.Common.{◌≡◌, ℕ, List, Option, None, Some, Result, Ok, Err, ap, subst, sym, ◌∙◌}
 use Rattle.std.specs.Prelude.{IfSome, IsErrAnd}
 use Rattle.mq_request.specs.Range.{IsHost}
-use Rattle.mq_words.specs.declared.arguments.ProbeArguments.{ProbeArguments}
-use Rattle.mq_words.specs.declared.arguments.ReportArguments.{ReportArguments}
-use Rattle.mq_words.specs.declared.arguments.RetireArguments.{RetireArguments}
-use Rattle.mq_words.specs.declared.arguments.LoginArgument.{LoginArgument}
+use Rattle.mq_process.specs.declared.arguments.ProbeArguments.{ProbeArguments}
+use Rattle.mq_process.specs.declared.arguments.ReportArguments.{ReportArguments}
+use Rattle.mq_process.specs.declared.arguments.RetireArguments.{RetireArguments}
+use Rattle.mq_process.specs.declared.arguments.LoginArgument.{LoginArgument}
 use Rattle.mq_process.specs.Refusals.{HasNoAddress, NamesLogin, OrderRefuses, ProbeRefuses, ReportRefuses, RetireRefuses}
 use Rattle.mq_process.specs.declared.fault.ProcessFault.{ProcessFault}
 use Rattle.mq_process.specs.declared.fault.ProcessFault.TheVariants.{Host, Login, Address}

@@ -10,13 +10,13 @@ use Rattle.mq_request.specs.Range.{IsLogin, IsRun}
 use Rattle.mq_request.specs.declared.message.Request.{Request}
 use Rattle.mq_request.specs.declared.message.Request.TheVariants as asks
 use Rattle.mq_link.specs.declared.link.Told.{Told}
-use Rattle.mq_words.specs.declared.arguments.LoginArgument.{LoginArgument}
-use Rattle.mq_words.specs.declared.arguments.LimitArguments.{LimitArguments}
-use Rattle.mq_words.specs.declared.arguments.ProbeArguments.{ProbeArguments}
-use Rattle.mq_words.specs.declared.arguments.ReportArguments.{ReportArguments}
-use Rattle.mq_words.specs.declared.arguments.ResumeArguments.{ResumeArguments}
-use Rattle.mq_words.specs.declared.arguments.RetireArguments.{RetireArguments}
-use Rattle.mq_words.specs.declared.arguments.StopArguments.{StopArguments}
+use Rattle.mq_process.specs.declared.arguments.LoginArgument.{LoginArgument}
+use Rattle.mq_process.specs.declared.arguments.LimitArguments.{LimitArguments}
+use Rattle.mq_process.specs.declared.arguments.ProbeArguments.{ProbeArguments}
+use Rattle.mq_process.specs.declared.arguments.ReportArguments.{ReportArguments}
+use Rattle.mq_process.specs.declared.arguments.ResumeArguments.{ResumeArguments}
+use Rattle.mq_process.specs.declared.arguments.RetireArguments.{RetireArguments}
+use Rattle.mq_process.specs.declared.arguments.StopArguments.{StopArguments}
 use Rattle.mq_command.specs.Allowing.{resumed_line}
 use Rattle.mq_command.specs.Asking.{status_of}
 use Rattle.mq_command.specs.Orders.{Orders, OrdersFresh, Prints, PrintsLine, word}

@@ -4,7 +4,7 @@ use Rattle.std.specs.Net.Text.{socket_text}
 use Rattle.std.specs.declared.net.SocketAddr.{SocketAddr}
 use Rattle.mq_request.specs.Range.{IsRun}
 use Rattle.mq_link.specs.declared.link.Told.{Told}
-use Rattle.mq_words.specs.declared.arguments.FilterArguments.{FilterArguments}
+use Rattle.mq_process.specs.declared.arguments.FilterArguments.{FilterArguments}
 use Rattle.mq_settings.specs.declared.settings.FilterSettings.{FilterSettings}
 use Rattle.mq_client.specs.Past.{StandsAt, State}
 use Rattle.mq_client.specs.Run.{EndsWith, StopsAt, around}

@@ -6,26 +6,26 @@ use Rattle.std.specs.Str.Parse.{IsNumeral, digits_value, without_leading_plus}
 use Rattle.clap.specs.Matches.{first_value, matched_of, one_text, raw_values}
 use Rattle.clap.specs.declared.parser.matches.Found.{Found}
 use Rattle.mq_request.specs.Range.{IsWithin}
-use Rattle.mq_words.specs.declared.arguments.Arguments.{Arguments}
-use Rattle.mq_words.specs.declared.arguments.Arguments.TheVariants.{Replay, Filter, Server, Limit, Retire, Stop, Resume, Day}
-use Rattle.mq_words.specs.declared.arguments.Arguments.TheVariants.{Init, Status, Probe, Report, Limits, Audit, Forget}
-use Rattle.mq_words.specs.declared.arguments.ConnectionsArgument.{ConnectionsArgument}
-use Rattle.mq_words.specs.declared.arguments.ConnectionsArgument.TheVariants.{Count, Endless}
-use Rattle.mq_words.specs.declared.arguments.DayArgument.{DayArgument}
-use Rattle.mq_words.specs.declared.arguments.DayArgument.TheVariants.{Today, Ago, Given}
-use Rattle.mq_words.specs.declared.arguments.LoginArgument.{LoginArgument}
-use Rattle.mq_words.specs.declared.arguments.LoginArgument.TheVariants.{Reported, Printed}
-use Rattle.mq_words.specs.declared.arguments.FilterArguments.{FilterArguments}
-use Rattle.mq_words.specs.declared.arguments.ServerArguments.{ServerArguments}
-use Rattle.mq_words.specs.declared.arguments.ProbeArguments.{ProbeArguments}
-use Rattle.mq_words.specs.declared.arguments.LimitArguments.{LimitArguments}
-use Rattle.mq_words.specs.declared.arguments.StopArguments.{StopArguments}
-use Rattle.mq_words.specs.declared.arguments.ResumeArguments.{ResumeArguments}
-use Rattle.mq_words.specs.declared.arguments.DayArguments.{DayArguments}
-use Rattle.mq_words.specs.declared.arguments.RetireArguments.{RetireArguments}
-use Rattle.mq_words.specs.declared.arguments.ReportArguments.{ReportArguments}
-use Rattle.mq_words.specs.declared.arguments.ForgetArguments.{ForgetArguments}
-use Rattle.mq_words.specs.declared.arguments.ReplayArguments.{ReplayArguments}
+use Rattle.mq_process.specs.declared.arguments.Arguments.{Arguments}
+use Rattle.mq_process.specs.declared.arguments.Arguments.TheVariants.{Replay, Filter, Server, Limit, Retire, Stop, Resume, Day}
+use Rattle.mq_process.specs.declared.arguments.Arguments.TheVariants.{Init, Status, Probe, Report, Limits, Audit, Forget}
+use Rattle.mq_process.specs.declared.arguments.ConnectionsArgument.{ConnectionsArgument}
+use Rattle.mq_process.specs.declared.arguments.ConnectionsArgument.TheVariants.{Count, Endless}
+use Rattle.mq_process.specs.declared.arguments.DayArgument.{DayArgument}
+use Rattle.mq_process.specs.declared.arguments.DayArgument.TheVariants.{Today, Ago, Given}
+use Rattle.mq_process.specs.declared.arguments.LoginArgument.{LoginArgument}
+use Rattle.mq_process.specs.declared.arguments.LoginArgument.TheVariants.{Reported, Printed}
+use Rattle.mq_process.specs.declared.arguments.FilterArguments.{FilterArguments}
+use Rattle.mq_process.specs.declared.arguments.ServerArguments.{ServerArguments}
+use Rattle.mq_process.specs.declared.arguments.ProbeArguments.{ProbeArguments}
+use Rattle.mq_process.specs.declared.arguments.LimitArguments.{LimitArguments}
+use Rattle.mq_process.specs.declared.arguments.StopArguments.{StopArguments}
+use Rattle.mq_process.specs.declared.arguments.ResumeArguments.{ResumeArguments}
+use Rattle.mq_process.specs.declared.arguments.DayArguments.{DayArguments}
+use Rattle.mq_process.specs.declared.arguments.RetireArguments.{RetireArguments}
+use Rattle.mq_process.specs.declared.arguments.ReportArguments.{ReportArguments}
+use Rattle.mq_process.specs.declared.arguments.ForgetArguments.{ForgetArguments}
+use Rattle.mq_process.specs.declared.arguments.ReplayArguments.{ReplayArguments}
 
 -- the text that an option has, by the words or by default
 abbrev pub HasText : Found → List ℕ → List ℕ → Type 0

@@ -2,23 +2,22 @@
 ghost use Rattle.std.specs.Prelude.{◌≡◌, ◌≤◌, IfOk, IfSome, codes};
 ghost use Rattle.clap.specs.Matches.{found_of};
 ghost use Rattle.mq_request.specs.Range.{IsAmount, IsDay, IsMoment, IsRun, IsWithin};
-ghost use Rattle.mq_words.specs.Arguments.{IsArguments, IsConnections, IsDayUpTo, IsLimitArguments, IsReplayArguments};
-ghost use Rattle.mq_words.specs.Arguments.{IsReportArguments, IsResumeArguments, IsStopArguments};
+ghost use Rattle.mq_process.specs.Arguments.{IsArguments, IsConnections, IsDayUpTo, IsLimitArguments, IsReplayArguments};
+ghost use Rattle.mq_process.specs.Arguments.{IsReportArguments, IsResumeArguments, IsStopArguments};
 ghost use Rattle.mq_words.specs.Meaning.{HasCap, HasConnections, HasDay, HasLogin, HasLoginOrNone, HasNumber, HasNumberOrNone, HasText};
 ghost use Rattle.mq_words.specs.Meaning.{Means, MeansDay, MeansFilter, MeansForget, MeansLimit, MeansReplay, MeansReport, MeansResume};
 ghost use Rattle.mq_words.specs.Meaning.{MeansRetire, MeansServer, MeansStatus, MeansStop, texts_of};
 
-use crate::arguments::{
-    Arguments, AuditArguments, ConnectionsArgument, DayArgument, DayArguments, FilterArguments,
-    ForgetArguments, InitArguments, LimitArguments, LimitsArguments, LoginArgument, ProbeArguments,
-    ReplayArguments, ReportArguments, ResumeArguments, RetireArguments, ServerArguments,
-    StatusArguments, StopArguments,
-};
-use crate::servers::Servers;
 use crate::subcommands::{
     AMOUNTS, CROWDS, DAYS, EARLIER_DAYS, MINUTES, MOMENTS, RUNS, Range, TOPS,
 };
 use clap::ArgMatches;
+use mq_process::{
+    Arguments, AuditArguments, ConnectionsArgument, DayArgument, DayArguments, FilterArguments,
+    ForgetArguments, InitArguments, LimitArguments, LimitsArguments, LoginArgument, ProbeArguments,
+    ReplayArguments, ReportArguments, ResumeArguments, RetireArguments, ServerArguments, Servers,
+    StatusArguments, StopArguments,
+};
 use std::alloc::{AllocError, Global};
 
 /// What the subcommand of this name asks for by the options that were found.

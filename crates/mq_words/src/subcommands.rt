@@ -1,6 +1,6 @@
 //! The subcommands and their options.
 
-use crate::arguments::{FILTER_SETTINGS, SERVER_SETTINGS};
+use mq_process::{FILTER_SETTINGS, SERVER_SETTINGS};
 use mq_request::bounds::{AMOUNT_LIMIT, FIRST_MOMENT, LAST_DAY, LAST_MOMENT, LAST_RUN};
 
 /// The numbers from the least to the most.

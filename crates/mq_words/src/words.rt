@@ -1,12 +1,12 @@
 //! The words of the command line.
 ghost use Rattle.std.specs.Prelude.{◌≡◌, IfOk};
-ghost use Rattle.mq_words.specs.Arguments.{IsArguments};
+ghost use Rattle.mq_process.specs.Arguments.{IsArguments};
 
-use crate::arguments::Arguments;
 use crate::meaning::arguments_of;
 use crate::subcommands::{CommandOption, Need, SUBCOMMANDS, Subcommand, Takes};
 use clap::error::ErrorKind;
 use clap::{Arg, ArgAction, ArgGroup, Command, Error, value_parser};
+use mq_process::Arguments;
 use std::alloc::{AllocError, Global};
 
 /// Why the words ask for nothing that can be done.

@@ -9,11 +9,12 @@ use log::sink::Console;
 use log::{LevelFilter, Log, Logged, error, info, warn};
 use mq_client::{Client, Spans, run_filter};
 use mq_link::{Link, LoggedLink};
-use mq_process::{Dial, ProcessFault, Question, ask_once, filter_settings, run_number};
+use mq_process::{
+    Dial, FilterArguments, ProcessFault, Question, ask_once, filter_settings, run_number,
+};
 use mq_request::Escaped;
 use mq_settings::FilterSettings;
 use mq_stream::{FromRead, ToWrite};
-use mq_words::FilterArguments;
 use std::alloc::{AllocError, Global};
 use std::io;
 use std::io::Write;

@@ -2,7 +2,7 @@
 ghost use Rattle.std.specs.Prelude.{◌≡◌, Err, IfErr, IfOk};
 ghost use Rattle.mq_request.specs.Range.{IsDay, IsHost, IsRun};
 ghost use Rattle.mq_command.specs.Orders.{IsLimit};
-ghost use Rattle.mq_words.specs.Arguments.{IsLimitArguments};
+ghost use Rattle.mq_process.specs.Arguments.{IsLimitArguments};
 ghost use Rattle.mq_process.specs.Links.{AsksOver};
 ghost use Rattle.mq_process.specs.Refusals.{NamesLogin, OrderRefuses};
 ghost use Rattle.mq_remote.specs.Asked.{AsksAt, AsksLimit, IsLimitBy, SendsLimit, SendsLimitBy};
@@ -11,12 +11,11 @@ use log::sink::Console;
 use log::{LevelFilter, Logged};
 use mq_command::{run_fresh, run_limit};
 use mq_process::{
-    Dial, ProcessFault, TIMEOUT, ask_each, checked, day_named, end_process, first_id, found_server,
-    link_to, login_of, run_number, servers_or, tell_note,
+    Dial, LimitArguments, ProcessFault, TIMEOUT, ask_each, checked, day_named, end_process,
+    first_id, found_server, link_to, login_of, run_number, servers_or, tell_note,
 };
 use mq_request::Request;
 use mq_request::bounds::LAST_DAY;
-use mq_words::LimitArguments;
 use std::alloc::Global;
 use std::io;
 use std::io::Write;

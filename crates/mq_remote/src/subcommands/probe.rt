@@ -7,11 +7,10 @@ ghost use Rattle.mq_process.specs.Refusals.{ProbeRefuses};
 ghost use Rattle.mq_remote.specs.Asked.{AsksAbout, AsksAt, AsksProbe};
 
 use mq_process::{
-    Dial, ProcessFault, Question, ask_each, check_addresses, end_process, found_server, probe,
-    run_number, servers_or,
+    Dial, ProbeArguments, ProcessFault, Question, ask_each, check_addresses, end_process,
+    found_server, probe, run_number, servers_or,
 };
 use mq_request::{Host, is_host};
-use mq_words::ProbeArguments;
 use std::alloc::{AllocError, Global};
 use std::io::Write;
 use std::net::SocketAddr;

@@ -1,7 +1,7 @@
 //! `report`: prints what logins used on a day.
 ghost use Rattle.std.specs.Prelude.{◌≡◌, Err, IfErr, IfOk, IfSome};
 ghost use Rattle.mq_request.specs.Range.{IsDay, IsLogin, IsWithin};
-ghost use Rattle.mq_words.specs.Arguments.{IsReportArguments};
+ghost use Rattle.mq_process.specs.Arguments.{IsReportArguments};
 ghost use Rattle.mq_process.specs.Links.{AsksOver};
 ghost use Rattle.mq_process.specs.Refusals.{NamesLogin, ReportRefuses};
 ghost use Rattle.mq_remote.specs.Asked.{AsksAt, AsksReport, IsReported, NamesReported, ReportsRows, ReportsThere};
@@ -11,12 +11,11 @@ use log::{LevelFilter, Logged};
 use mq_command::{print_columns, run_report, run_top};
 use mq_link::Link;
 use mq_process::{
-    Dial, ProcessFault, TIMEOUT, ask_each, check_addresses, day_named, end_process, found_server,
-    link_to, login_of, names_login, servers_or,
+    Dial, LoginArgument, ProcessFault, ReportArguments, TIMEOUT, ask_each, check_addresses,
+    day_named, end_process, found_server, link_to, login_of, names_login, servers_or,
 };
 use mq_request::Login;
 use mq_request::bounds::LAST_DAY;
-use mq_words::{LoginArgument, ReportArguments};
 use std::alloc::Global;
 use std::io;
 use std::io::{BufWriter, Write};

@@ -10,11 +10,10 @@ use log::sink::Console;
 use log::{LevelFilter, Logged};
 use mq_command::run_retire;
 use mq_process::{
-    Dial, ProcessFault, TIMEOUT, address_found, address_of, filter_settings_in_place, link_to,
-    run_number,
+    Dial, ProcessFault, RetireArguments, TIMEOUT, address_found, address_of,
+    filter_settings_in_place, link_to, run_number,
 };
 use mq_request::{Host, Id, Request, is_host};
-use mq_words::RetireArguments;
 use std::io;
 use std::io::Write;
 use std::net::SocketAddr;

@@ -2,7 +2,7 @@
 ghost use Rattle.std.specs.Prelude.{◌≡◌, Err, IfOk, IfSome, map};
 ghost use Rattle.mq_request.specs.Range.{IsAmount, IsHost, IsRun, IsWithin};
 ghost use Rattle.mq_command.specs.Allowing.{IsSetter};
-ghost use Rattle.mq_words.specs.Arguments.{IsResumeArguments, IsStopArguments};
+ghost use Rattle.mq_process.specs.Arguments.{IsResumeArguments, IsStopArguments};
 ghost use Rattle.mq_process.specs.Refusals.{HasNoAddress, NamesLogin, OrderRefuses};
 ghost use Rattle.mq_command.specs.Stopping.{RunsStop};
 ghost use Rattle.mq_remote.specs.Asked.{AsksAt, AsksEachOf, AsksResume, AsksStop, IsMeant, IsSetterBy, ResumesThere, UseAt};
@@ -12,12 +12,12 @@ use log::sink::Console;
 use log::{LevelFilter, Logged};
 use mq_command::{Setter, StopOrder, has_sent, run_restore, run_resume, run_stop};
 use mq_process::{
-    Dial, ProcessFault, ask_each, ask_until, checked, day_named, day_to_stop, found_server,
-    link_to, login_of, run_number, servers_or, tell_note,
+    Dial, LoginArgument, ProcessFault, ResumeArguments, StopArguments, ask_each, ask_until,
+    checked, day_named, day_to_stop, found_server, link_to, login_of, run_number, servers_or,
+    tell_note,
 };
 use mq_request::Host;
 use mq_request::bounds::LAST_DAY;
-use mq_words::{LoginArgument, ResumeArguments, StopArguments};
 use std::alloc::Global;
 use std::io;
 use std::io::Write;

@@ -1,6 +1,6 @@
 //! What the words of a command line ask for, as types: what each subcommand is given.
 
-use crate::servers::Servers;
+use crate::addresses::Servers;
 
 /// The settings of a server where no words name others.
 pub const SERVER_SETTINGS: &str = "/etc/mailquota/server.toml";

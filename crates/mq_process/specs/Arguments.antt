@@ -1,18 +1,18 @@
 -- What the words of a command line may ask for.
 use Rattle.std.specs.Prelude.{◌≤◌, ℕ, IfSome, ⊤}
 use Rattle.mq_request.specs.Range.{IsRun, IsDay, IsAmount, IsMoment, IsWithin}
-use Rattle.mq_words.specs.declared.arguments.ReplayArguments.{ReplayArguments}
-use Rattle.mq_words.specs.declared.arguments.LimitArguments.{LimitArguments}
-use Rattle.mq_words.specs.declared.arguments.ResumeArguments.{ResumeArguments}
-use Rattle.mq_words.specs.declared.arguments.StopArguments.{StopArguments}
-use Rattle.mq_words.specs.declared.arguments.ReportArguments.{ReportArguments}
-use Rattle.mq_words.specs.declared.arguments.DayArgument.{DayArgument}
-use Rattle.mq_words.specs.declared.arguments.DayArgument.TheVariants.{Today, Ago, Given}
-use Rattle.mq_words.specs.declared.arguments.ConnectionsArgument.{ConnectionsArgument}
-use Rattle.mq_words.specs.declared.arguments.ConnectionsArgument.TheVariants.{Count, Endless}
-use Rattle.mq_words.specs.declared.arguments.Arguments.{Arguments}
-use Rattle.mq_words.specs.declared.arguments.Arguments.TheVariants.{Replay, Filter, Server, Limit, Retire, Stop, Resume, Day}
-use Rattle.mq_words.specs.declared.arguments.Arguments.TheVariants.{Init, Status, Probe, Report, Limits, Audit, Forget}
+use Rattle.mq_process.specs.declared.arguments.ReplayArguments.{ReplayArguments}
+use Rattle.mq_process.specs.declared.arguments.LimitArguments.{LimitArguments}
+use Rattle.mq_process.specs.declared.arguments.ResumeArguments.{ResumeArguments}
+use Rattle.mq_process.specs.declared.arguments.StopArguments.{StopArguments}
+use Rattle.mq_process.specs.declared.arguments.ReportArguments.{ReportArguments}
+use Rattle.mq_process.specs.declared.arguments.DayArgument.{DayArgument}
+use Rattle.mq_process.specs.declared.arguments.DayArgument.TheVariants.{Today, Ago, Given}
+use Rattle.mq_process.specs.declared.arguments.ConnectionsArgument.{ConnectionsArgument}
+use Rattle.mq_process.specs.declared.arguments.ConnectionsArgument.TheVariants.{Count, Endless}
+use Rattle.mq_process.specs.declared.arguments.Arguments.{Arguments}
+use Rattle.mq_process.specs.declared.arguments.Arguments.TheVariants.{Replay, Filter, Server, Limit, Retire, Stop, Resume, Day}
+use Rattle.mq_process.specs.declared.arguments.Arguments.TheVariants.{Init, Status, Probe, Report, Limits, Audit, Forget}
 
 -- a limit of 0 to 1,000,000, and at most 1,439 minutes either way
 pub record IsReplayArguments (given : ReplayArguments) : Type 0 where
