@@ -555,9 +555,9 @@ def wrong_clocks(world, checks):
     what, path, day = "a clock that jumps", f"{world.folder}/jumps", today()
     books, sent = Books(0, DEFAULT), itertools.count(1)
 
-    def ask(of, clock_shows):
+    def ask(of, clock_shows, count=3):
         new, day_asked = request(next(sent), of, host=b"mx5"), day - KEEP - 1
-        frames = [new, wire.usage(b"u1", day_asked), wire.page(b"", day_asked)]
+        frames = [new, wire.usage(b"u1", day_asked), wire.page(b"", day_asked)][:count]
         wanted = [books.serve(it) for it in frames]
         checks.equal(f"{what}: replies as it shows {clock_shows}", asked(server, frames), wanted)
 
@@ -583,7 +583,8 @@ def wrong_clocks(world, checks):
         came = forgotten_from(server), names(path)
         checks.equal(f"{what}: what was forgotten meanwhile, and files", came, ([], ["", "-wal"]))
         clock.pass_to(DAY * day + 10_860)
-        ask(day, "03:01")
+        # (a further one may be cut off by the switch)
+        ask(day, "03:01", count=1)
         came = wait_until(lambda: is_through(server)), forgotten_from(server)
         checks.equal(f"{what}: then days are forgotten", came, (True, [day - KEEP]))
         books = books.remembered(day - KEEP)
