@@ -3,6 +3,7 @@ server ends with a text, and with room again every reply that was read is given 
 whole or not at all."""
 import os
 import resource
+import time
 
 import wire
 from books import Books
@@ -27,6 +28,7 @@ def run(world, checks):
     for room in ROOMS:
         grows_no_further(world, checks, room)
     retires_no_further(world, checks)
+    says_why_with_keep(world, checks)
     for size in TOO_SMALL:
         too_small(world, checks, size)
     rooms = f"{len(ROOMS)} rooms to grow, {len(TOO_LITTLE) + 1} for a retire"
@@ -73,6 +75,19 @@ def says_why(checks, what, server, path):
     log = apart("".join(f"{line}\n" for line in server.log_lines()))[0]
     good = len(log) == 2 and log[0].startswith("[ERROR mq_connections::") and log[0].endswith(": store failed\n") and log[1] in [of_store(path, it) for it in FULL]
     checks.holds(f"{what}: the log", good, "the connection, and the path with the cause", log)
+
+
+def says_why_with_keep(world, checks):
+    """A server with `keep` says so too."""
+    what, path, now = "a server with keep", f"{world.folder}/with-keep", int(time.time())
+    later = [wire.reserve(n, txn=n, login=b"%03d" % (n % 50) + b"x" * 100, at=now) for n in range(2, MANY)]
+    with Server(world, words=["--create"], limit=("RLIMIT_FSIZE", resource.RLIM_INFINITY), store=path, default=DEFAULT, keep=2) as server:
+        checks.equal(f"{what}: before", replies_of(server, [wire.reserve(1, at=now)]), [wire.granted(1, 1)])
+        limited(server, path, 0)
+        came = replies_of(server, later)
+        ended = len(came) < len(later), how_it_ended(server)
+        checks.equal(f"{what}, whose log can't grow: few replies, status and text", ended, (True, (1, "mailquota: store failed\n")))
+        says_why(checks, f"{what}, whose log can't grow", server, path)
 
 
 def retires_no_further(world, checks):

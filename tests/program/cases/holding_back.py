@@ -2,7 +2,7 @@
 import re
 import time
 
-from cases.filters import AUTH, BEGIN, COMMIT, CONFIG, FULL, GRANTED, INPUT, LIMIT, MX1, PROCEED, RCPT, REGISTRATION, RESERVE, SERVER, SERVICE, SETTLED, answer, of_session
+from cases.filters import AUTH, BEGIN, COMMIT, CONFIG, FULL, GRANTED, INPUT, LIMIT, MX1, PROCEED, RCPT, REFUSED_BY_LIMIT, REGISTRATION, RESERVE, SERVER, SERVICE, SETTLED, answer, of_session
 from ends import SILENCE, Script, crowded_port, nobody_there
 from wire import granted, reserve
 
@@ -20,6 +20,7 @@ def run(world, checks):
     two_pauses(world, checks)
     closings(world, checks)
     full_logins(world, checks)
+    a_full_login_in_a_pause(world, checks)
     what_check_says(world, checks)
 
 
@@ -123,6 +124,7 @@ def closings(world, checks):
     output, heard, log, _ = scripted(world, INPUT + bob + COMMIT + at(of_session(RCPT, BOB), 1_576_146_011), [GRANTED, SILENCE, SETTLED], tries=1, timeout=300, pause=30)
     checks.equal("a commit without an answer in time: the lines", output, answer(PROCEED) + answer(SERVICE, session=BOB))
     checks.equal("a commit without an answer in time: the frames", [it[2] for it in heard], [1, 2, 2])
+    checks.equal("a commit without an answer in time: the log", log, [WHY, PAUSE, f"{SERVER} answers again, requests without an answer: 1", AGAIN + "1"])
 
 
 def full_logins(world, checks):
@@ -138,6 +140,19 @@ def full_logins(world, checks):
     checks.equal("a full login that goes on, hold = 5: the log has one line", len(log), 1)
     output, heard, log, _ = scripted(world, INPUT + RCPT, [FULL, numbered(FULL, 2)])
     checks.equal("a full login without hold: the lines, the frames", (output, heard), (answer(LIMIT) * 2, [RESERVE, asked(2)]))
+
+
+def a_full_login_in_a_pause(world, checks):
+    """Its recipients get 550 as before, and don't count as answered 451."""
+    begins = 1_576_146_010
+    bob, bobs = of_session(AUTH.replace(b"alice", b"bob") + BEGIN, BOB), of_session(RCPT, BOB)
+    text = CONFIG + AUTH + BEGIN + bob + RCPT + bobs + at(RCPT * 3, begins + 1) + at(bobs, begins + 2) + at(bobs, begins + 30)
+    output, heard, log, _ = scripted(world, text, [FULL, SILENCE, granted(3, 1, **MX1)], tries=1, timeout=300, pause=30, hold=60)
+    refused, granted_ = answer(SERVICE, session=BOB), answer(PROCEED, session=BOB)
+    checks.equal("a full login in a pause: the lines", output, answer(LIMIT) + refused + answer(LIMIT) * 3 + refused + granted_)
+    checks.equal("a full login in a pause: the frames", heard, [RESERVE, asked(2, login=b"bob", txn=2), asked(3, login=b"bob", txn=2)])
+    wanted = [REFUSED_BY_LIMIT.rstrip("\n"), WHY, PAUSE, f"{SERVER} answers again, requests without an answer: 1", AGAIN + "1"]
+    checks.equal("a full login in a pause: the log", log, wanted)
 
 
 def what_check_says(world, checks):

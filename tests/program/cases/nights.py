@@ -21,6 +21,7 @@ from cases.costs import Noted
 from cases.damage import sound
 from cases.failures import Disk, can_mount
 from cases.filters import LIMIT, PROCEED
+from cases.full_disks import FULL
 from ends import (
     LOCKED, LONG, NO_FILE, SECONDS, Server, copied, fault, ledger_settings, of_store, wait_past_midnight, wait_until
 )
@@ -52,6 +53,9 @@ def run(world, checks):
     counts_on(world, checks)
     clocks_that_differ(world, checks)
     no_new_file(world, checks)
+    notes_of_nights(world, checks)
+    tries_again_in_an_hour(world, checks)
+    warns_once_over_a_night(world, checks)
     beside_a_renewal(world, checks)
     killed_at_a_rename(world, checks)
     killed_at_a_change(world, checks)
@@ -276,6 +280,7 @@ def repairs(world, checks):
         checks.equal(what, audit(world, path, default=DEFAULT), sound(books if is_former else kept))
         checks.equal(f"{what}: files", names(path), left)
         same_rows(checks, what, path, books if is_former else kept)
+    notes_of_switches(world, checks, old, new)
     alone = put(f"{world.folder}/alone", {".old": "old"}, {"old": old})
     came = world.run("audit", "--config", ledger_settings(world, alone, default=DEFAULT))
     checks.equal("a former file alone: audit", came, fault(NOT_OPENED, log=of_store(alone, NO_FILE)))
@@ -284,6 +289,19 @@ def repairs(world, checks):
     came = world.run("init", "--config", ledger_settings(world, beside, default=DEFAULT))
     checks.equal("after the third: init, which makes none over it", (came[0], names(beside)), (1, SWITCHED))
     same_rows(checks, "after the third: init", beside, kept)
+
+
+def notes_of_switches(world, checks, old, new):
+    """Where a switch is undone, the last night is the one that is noted; where it is finished, that night has noted nothing. By log = "info" both are told."""
+    note = "forgot the days before 5 on day 8, in 3 ms"
+    for state, end, told in [("after the first step", "undone", [note]), ("after the third", "finished", [])]:
+        what, path = f"{state}, with the note of an earlier night", put(f"{world.folder}/noted-{end}", STATES[state][0], {"old": old, "new": new})
+        with open(f"{path}.night", "w", encoding="ascii") as file:
+            file.write(f"{note}\n")
+        status, output, errors = world.run("status", "--config", ledger_settings(world, path, default=DEFAULT, log="info"))
+        checks.equal(f"{what}: status", (status, [it for it in output.decode().splitlines() if "forgot" in it]), (3, [f"ledger {path}: {it}" for it in told]))
+        lines = [line for line in errors.splitlines() if line.startswith("[INFO")]
+        checks.equal(f"{what}: the log", lines, [f"[INFO  mq_program::switching] {path}: an interrupted switch to a new file is {end}"])
 
 
 class Taken:
@@ -412,6 +430,72 @@ def beside_a_renewal(world, checks):
         came = world.run("audit", "--config", config)
         checks.equal("after a renewal: audit", came, fault(NOT_OPENED, log=of_store(path, LOCKED)))
     same_rows(checks, "after a renewal", path, books.remembered(first_day()))
+
+
+def notes_of_nights(world, checks):
+    """The note of a night has today's number by the ledger's zone, where that isn't UTC's, and as long a time as the log. One that can't be written is logged."""
+    offset = 720 if int(time.time()) % DAY >= DAY // 2 else -720
+    wait_past_midnight(offset)
+    wait_past_midnight(offset - 180)
+    there = (int(time.time()) + 60 * offset) // DAY
+    first = min((int(time.time()) + 60 * offset - 10_800) // DAY, there) - KEEP
+    frames = [wire.reserve(number, txn=number, at=DAY * (there - number % 6) - 60 * offset + 1, host=b"mx1") for number in range(1, 60)]
+    for what, is_folder in [("a night's note by another zone", False), ("a night's note that can't be written", True)]:
+        path = f"{world.folder}/zone-{is_folder}"
+        with Server(world, words=["--create"], store=path, default=DEFAULT, offset=offset) as server:
+            assert len(asked(server, frames)) == len(frames)
+        if is_folder:
+            os.mkdir(f"{path}.night")
+        with nightly(world, path, offset=offset) as server:
+            good = wait_until(lambda: is_through(server) and os.path.exists(f"{path}.night") and os.path.getsize(f"{path}.night"))
+            lines = server.all_log_lines()
+            said = next((it for line in lines if (it := re.search(r"the days before (\d+) are forgotten, in (\d+ ms), the last \d+ ms", line))), None)
+            checks.holds(f"{what}: the log", good and said and int(said[1]) == first, f"the days before {first}", lines)
+            if is_folder:
+                wanted = [f"[WARN  mq_program::last_night] {path}.night: Is a directory (os error 21)"]
+                checks.holds(f"{what}: why", wait_until(lambda: [line for line in server.all_log_lines() if line.startswith("[WARN")] == wanted), wanted, server.all_log_lines()[-2:])
+            else:
+                with open(f"{path}.night", encoding="ascii") as file:
+                    checks.equal(f"{what}: what it says", file.read(), f"forgot the days before {first} on day {there}, in {said[2] if said else 'N ms'}\n")
+
+
+def tries_again_in_an_hour(world, checks):
+    """A night for which there is no new file is tried again an hour later, and not before."""
+    what, path, day = "no new file, at", f"{world.folder}/hourly", today()
+    with Server(world, words=["--create"], store=path, default=DEFAULT) as server:
+        frames = [request(number, day - number % (KEEP + 2)) for number in range(1, 20)]
+        assert len(asked(server, frames)) == len(frames)
+    os.mkdir(f"{path}.part")
+    server, clock = by_clock(world, path, DAY * day + 3_600)
+    with server:
+        for hour, minute, wanted in [(2, 59, 0), (3, 1, 1), (3, 17, 1), (3, 59, 1), (4, 2, 2)]:
+            clock.pass_to(DAY * day + 3_600 * hour + 60 * minute)
+            # (it looks after each round of requests)
+            asked(server, [wire.usage()] * 3)
+            good = wait_until(lambda: len(warnings(server)) >= wanted)
+            asked(server, [wire.usage()] * 20)
+            line = f"[WARN  mq_nights::evening] days before {day - KEEP} stay: no new store; next attempt in an hour"
+            checks.equal(f"{what} {hour}:{minute:02}: what is logged", (good, warnings(server)), (True, [line] * wanted))
+    checks.equal("no new file for two hours: files", names(path), ["", "-wal", ".part"])
+
+
+def warns_once_over_a_night(world, checks):
+    """What was warned of is warned of once, also where days were forgotten since."""
+    what, path, day = "a login that nears its limit before a night and after it", f"{world.folder}/once", today()
+    with Server(world, words=["--create"], store=path, default=DEFAULT) as server:
+        frames = [request(number, day - number % (KEEP + 2)) for number in range(1, 20)]
+        assert len(asked(server, frames)) == len(frames)
+    server, clock = by_clock(world, path, DAY * day + 3_600)
+    with server:
+        near = [wire.reserve(number, txn=number, login=b"near", count=count, at=DAY * day + 60, host=b"mx9") for number, count in ((1, 800), (2, 1))]
+        asked(server, near[:1])
+        clock.pass_to(DAY * day + 10_860)
+        asked(server, [wire.usage()] * 3)
+        good = wait_until(lambda: is_through(server))
+        came = asked(server, near[1:])
+        lines = [line.partition(": login ")[2] for line in server.all_log_lines() if ": login near " in line]
+        wanted = f"near has used 800 of its limit of {DEFAULT} on day {day}"
+        checks.equal(f"{what}: the log", (good, len(came), lines), (True, 1, [wanted]))
 
 
 class Client(threading.Thread):
@@ -815,8 +899,9 @@ def on_a_full_disk(world, checks, source, room):
             server.status()
         checks.equal(f"{what}: it goes on", ended, None)
         checks.equal(f"{what}: replies", came, [books.serve(frame) for frame in sent + last])
-        full = len(lines) == 1 and "next attempt in an hour" in lines[0]
-        checks.holds(f"{what}: what is logged", is_forgotten != full, "a day, or why days stay", lines)
+        why = "|".join(["no new store", *FULL])
+        full = len(lines) == 1 and re.fullmatch(rf"\[WARN  mq_nights::evening\] days before {first_day()} stay: ({why}); next attempt in an hour", lines[0])
+        checks.holds(f"{what}: what is logged", is_forgotten != bool(full), "a day, or why days stay", lines)
         checks.equal(f"{what}: files", [it for it in names(path) if it != ".night"], SWITCHED if is_forgotten else ["", "-wal"])
         kept = copied(path, f"{world.folder}/of-disk{room}")
     same_rows(checks, what, kept, books.remembered(first_day()) if is_forgotten else books)
