@@ -18,6 +18,7 @@ def run(world, checks):
     a_refused_connection(world, checks)
     the_end_of_a_pause(world, checks)
     two_pauses(world, checks)
+    full_after_a_pause(world, checks)
     closings(world, checks)
     full_logins(world, checks)
     a_full_login_in_a_pause(world, checks)
@@ -110,6 +111,16 @@ def two_pauses(world, checks):
     # (that the second outage begins and ends within a second of the first has no line of its own)
     of_pauses = [line for line in log if "pauses]" in line]
     checks.equal("two outages: what the log has of their pauses", of_pauses, [PAUSE, AGAIN + "1", PAUSE, AGAIN + "2"])
+
+
+def full_after_a_pause(world, checks):
+    """An answer by the limit ends a pause as any other does."""
+    begins = 1_576_146_010
+    text = INPUT + at(RCPT, begins + 1) + at(RCPT, begins + 30)
+    output, heard, log, _ = scripted(world, text, [SILENCE, numbered(FULL, 2)], tries=1, timeout=300, pause=30)
+    checks.equal("a pause, and a 550: the lines, the frames", (output, heard), (answer(SERVICE) * 2 + answer(LIMIT), [RESERVE, asked(2)]))
+    refused = REFUSED_BY_LIMIT.rstrip("\n").replace("reserve 1", "reserve 2")
+    checks.equal("a pause, and a 550: the log", log, [WHY, PAUSE, f"{SERVER} answers again, requests without an answer: 1", AGAIN + "1", refused])
 
 
 def closings(world, checks):

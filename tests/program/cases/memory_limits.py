@@ -35,15 +35,17 @@ def run(world, checks):
         ("what is no number", own, below, "much\n", []),
     ]:
         checks.equal(f"a start, {what}", lines_of_start(world, path, groups, folder, limit), wanted)
+    less = most * 1_000_000 - 1
+    checks.equal("a start with keep, one byte less", lines_of_start(world, path, own, below, f"{less}\n", keep=2), [warned % less])
 
 
-def lines_of_start(world, path, groups, folder, limit):
+def lines_of_start(world, path, groups, folder, limit, **more):
     """What a server over this file says of memory as it starts in such a group."""
     top = world.new_file("") + ".groups"
     os.makedirs(os.path.join(top, folder))
     with open(os.path.join(top, folder, "memory.max"), "w", encoding="ascii") as it:
         it.write(limit)
-    settings = world.new_file(toml({"listen": "127.0.0.1:0", "store": path, "default": 3, "offset": 0}))
+    settings = world.new_file(toml({"listen": "127.0.0.1:0", "store": path, "default": 3, "offset": 0, **more}))
     words = ["unshare", "--mount", "sh", "-c", APART, "sh", world.new_file(groups), top, world.program, "server", "--config", settings]
     with open(world.new_file(""), "w+b") as log:
         server = subprocess.Popen(words, stdin=subprocess.DEVNULL, stdout=log, stderr=log)

@@ -23,7 +23,7 @@ from cases.failures import Disk, can_mount
 from cases.filters import LIMIT, PROCEED
 from cases.full_disks import FULL
 from ends import (
-    LOCKED, LONG, NO_FILE, SECONDS, Server, copied, fault, ledger_settings, of_store, wait_past_midnight, wait_until
+    LOCKED, LONG, NO_FILE, OPENED_IN, SECONDS, Server, begun, copied, fault, ledger_settings, of_store, wait_past_midnight, wait_until, without_time
 )
 from random_inputs import body
 from rows import rows_in, same_rows
@@ -46,6 +46,7 @@ CHANGES, KILLS = (18, 296, 77, 82, 87), 8
 
 def run(world, checks):
     wait_past_midnight()
+    a_new_ledger(world, checks)
     forgets_at_a_start(world, checks)
     keeps_as_long_as_may_be(world, checks)
     repairs(world, checks)
@@ -152,6 +153,18 @@ def names(path):
 # after a switch, and where a night was over then
 SWITCHED = ["", "-wal", ".old"]
 NOTED = ["", "-wal", ".night", ".old"]
+
+
+def a_new_ledger(world, checks):
+    """Its start says how long it took, and what is kept."""
+    path = f"{world.folder}/new"
+    with nightly(world, path, words=["--create"]) as server:
+        lines = server.log_lines()
+        wanted = [
+            begun(path, default=DEFAULT), f"[INFO  mq_program::nights] ledger {path}: keeps {KEEP} days before today",
+            f"[INFO  mq_program::nights] listening on {server.listen} for 1000000 connections",
+        ]
+        checks.equal("a new ledger: the log, and that it has the time of the start", (without_time(lines), bool(OPENED_IN.search(lines[0]))), (wanted, True))
 
 
 def forgets_at_a_start(world, checks):
@@ -380,8 +393,9 @@ def clocks_that_differ(world, checks):
         with nightly(world, path) as server:
             checks.equal(f"{what}: replies", asked(server, frames), [books.serve(it) for it in frames])
             lines = [line for line in server.log_lines() if line.startswith("[WARN  mq_nights::")]
-            good = len(lines) == 1 and "nothing is forgotten" in lines[0] and str(newest) in lines[0]
-            checks.holds(f"{what}: what is logged", good, "once, that nothing is forgotten, with the newest day", lines)
+            night = (int(time.time()) - 10_800) // DAY
+            line = f"[WARN  mq_nights::lookout] nothing is forgotten: it is day {night}, and something was reserved on day {newest} last"
+            checks.equal(f"{what}: what is logged", lines, [line])
         checks.equal(f"{what}: files", names(path), ["", "-wal"])
         same_rows(checks, what, path, books)
 
@@ -437,6 +451,9 @@ def beside_a_renewal(world, checks):
         checks.holds("a renewal: then it is through", wait_until(lambda: is_through(server)), "a line of the log", server.log_lines()[-2:])
         came = world.run("audit", "--config", config)
         checks.equal("after a renewal: audit", came, fault(NOT_OPENED, log=of_store(path, LOCKED)))
+        took = [re.search(r"are forgotten, in (\d+) ms, the last (\d+) ms without an answer$", line) for line in server.all_log_lines() if "are forgotten" in line]
+        good = len(took) == 1 and took[0] and int(took[0][2]) < int(took[0][1])
+        checks.holds("after a renewal: how long it took, and how long without an answer", good, "a part of it", server.all_log_lines()[-2:])
     same_rows(checks, "after a renewal", path, books.remembered(first_day()))
 
 
