@@ -668,7 +668,7 @@ def wrong_clocks(world, checks):
         new, day_asked = request(next(sent), of, host=b"mx5"), day - KEEP - 1
         frames = [new, wire.usage(b"u1", day_asked), wire.page(b"", day_asked)][:count]
         wanted = [books.serve(it) for it in frames]
-        checks.equal(f"{what}: replies as it shows {clock_shows}", asked(server, frames), wanted)
+        checks.equal(f"{what}: replies as it shows {clock_shows}", all_asked(server, frames), wanted)
 
     with Server(world, words=["--create"], store=path, default=DEFAULT) as server:
         frames = [request(number, day - number % (KEEP + 2)) for number in range(1, 80)]
