@@ -44,6 +44,7 @@ def run(world, checks):
     a_forgetting_by_hand(world, checks)
     a_timer_of_before(world, checks)
     starting_over(world, checks)
+    an_installation_of_before(world, checks)
     the_queue_of_a_login(world, checks)
     spellings(world, checks)
     near_the_limit(checks)
@@ -111,7 +112,11 @@ def checked(world, checks):
     with Server(world) as server:
         path = script(world, "keepalived-check", [("127.0.0.1:7025", server.address)])
         checks.equal("keepalived-check, the server answers", subprocess.run(["sh", path]).returncode, 0)
+        said = [subprocess.run(["sh", path], stdout=subprocess.PIPE, stderr=subprocess.STDOUT).stdout]
     checks.equal("keepalived-check, the server is gone", subprocess.run(["sh", path]).returncode, 1)
+    # (keepalived logs what a check prints, and calls it each second)
+    said.append(subprocess.run(["sh", path], stdout=subprocess.PIPE, stderr=subprocess.STDOUT).stdout)
+    checks.equal("keepalived-check: what it prints and says in both", said, [b"", b""])
 
 
 def hands_on_its_words(world, checks):
@@ -265,7 +270,11 @@ def a_backup_by_its_recipe(world, checks):
         server.ask(b"".join(wire.reserve(n, txn=n, login=b"later", host=b"later") for n in range(1, 20)))
         owner = (60_001, 60_002) if os.geteuid() == 0 else (os.getuid(), os.getgid())
         os.chown(f"{folder}/lib", *owner)
+        # (as a night leaves them that a kill interrupted)
+        for it in ("part", "part-wal", "next"):
+            open(f"{folder}/lib/ledger.{it}", "wb").close()
         checks.equal("a backup put back by its recipe: status, what it prints and says", by_shell(world, folder, puts_back), (0, "", ""))
+        checks.equal("a backup put back by its recipe: the files", sorted(os.listdir(f"{folder}/lib")), ["ledger", "ledger-wal"])
         found = {it: (os.stat(f"{folder}/lib/{it}").st_uid, os.stat(f"{folder}/lib/{it}").st_gid) for it in ("ledger", "ledger-wal")}
         checks.equal("a backup put back by its recipe: whose it is", found, dict.fromkeys(found, owner))
         checks.equal("a backup put back by its recipe: the server that was stopped", server.status(), -signal.SIGTERM)
@@ -338,6 +347,12 @@ def backups_that_fail(world, checks):
             interrupted(world, checks, server, Backup(world, server, path, its, [slow]), number)
         for number in (signal.SIGHUP, signal.SIGINT, signal.SIGTERM):
             ended(checks, server, Backup(world, server, path, its, [slow]), number)
+        # (as one leaves it that SIGKILL ends)
+        backup = Backup(world, server, path, its)
+        os.mkdir(f"{backup.into}.part")
+        shutil.copy(world.new_file("half of a ledger"), f"{backup.into}.part/ledger")
+        checks.equal("a backup after one that was killed: status, and what is there", (backup.run()[0], backup.left(), sorted(os.listdir(backup.folder + "/copy") if backup.left() == ["copy"] else [])),
+                     (0, ["copy"], ["ledger", "ledger-wal", "server.toml"]))
 
 
 def interrupted(world, checks, server, backup, number):
@@ -569,12 +584,36 @@ def starting_over(world, checks):
     """OPERATING's commands for a new ledger: the limits are printed, and the old file goes out of the way with its log."""
     frames = [wire.limit(n, n, n, login=b"%d" % n) for n in range(1, 4)]
     machine, lib = with_a_ledger(world, "over", frames)
+    # (the note says what was forgotten of the old ledger)
+    machine.write("lib/mailquota/ledger.night", "forgot the days before 1 on day 3, in 7 ms\n")
+    machine.write("lib/mailquota/ledger.next", "")
     came = machine.run(block_with("OPERATING.md", "Starting over", "ledger.before"))
     stopped = machine.read("calls").splitlines()[0]
     checks.equal("starting over: status, what it says, and what comes first", (came, stopped), ((0, "", ""), "systemctl stop mailquota"))
     checks.equal("starting over: the limits", machine.read("root/mailquota.limits"), "1 1 1\n2 2 2\n3 3 3\n")
     checks.equal("starting over: the files", sorted(os.listdir(lib)), ["ledger.before", "ledger.before-wal"])
     checks.equal("starting over: the answers of the old file", len(answers_of(f"{lib}/ledger.before", ANSWERS)["answers"]), len(frames))
+
+
+def an_installation_of_before(world, checks):
+    """INSTALL's commands for what `make install` of 0.1.0 put there: the settings get their place, and nothing stands before the package's files."""
+    machine, settings = Machine(world, "of-before", systemctl=""), toml({"listen": "127.0.0.1:1", "store": "memory", "default": 3, "offset": 0})
+    os.rmdir(f"{machine.folder}/etc/mailquota")
+    goes = [
+        *(f"etc/systemd/system/{it}" for it in ("mailquota.service", "mailquota-forget.service", "mailquota-forget.timer")), "local/sbin/mailquota", "local/sbin/mailquota-forget",
+        "local/libexec/mailquota/await-server", "local/share/doc/mailquota/README.md", "local/share/examples/mailquota/server.toml", "local/share/man/man8/mailquota-server.8",
+        "local/share/man/man5/mailquota.toml.5",
+    ]
+    stays = ["etc/systemd/system/mailquota.service.d/addresses.conf", "local/sbin/other", "local/share/man/man8/other.8"]
+    for it in (*goes, *stays):
+        os.makedirs(os.path.dirname(f"{machine.folder}/{it}"), exist_ok=True)
+        machine.write(it, "")
+    machine.write("etc/mailquota.toml", settings)
+    came = machine.run(block_with("INSTALL.md", "Upgrading", "/usr/local"))
+    checks.equal("an installation of 0.1.0: status, what it says, and what is asked of systemd", (came, machine.read("calls")), ((0, "", ""), "systemctl daemon-reload\n"))
+    left = sorted(os.path.relpath(f"{at}/{it}", machine.folder) for at, _, names in os.walk(machine.folder) for it in names)
+    checks.equal("an installation of 0.1.0: files that stay", [it for it in left if it.startswith(("etc/", "local/"))], sorted([*stays, "etc/mailquota/server.toml"]))
+    checks.equal("an installation of 0.1.0: the settings of the package's server", world.run("day", "--config", f"{machine.folder}/etc/mailquota/server.toml", "--at", "86400"), (0, b"1\n", ""))
 
 
 # What smtpd logs of sessions of alice, of another login that begins so, and of one that failed, and its queue: an envelope begins with its message's number.

@@ -5,6 +5,7 @@ import shutil
 import subprocess
 
 from cases.contrib import text_of
+from cases.rules import CENTRAL_EUROPE
 from ends import TOP, Server
 
 # The values of a key, in their order: a later one would count in place of an earlier one, or in addition.
@@ -156,6 +157,7 @@ def settings_of_both(checks):
         ("server.toml", ['listen = "192.0.2.7:7025"', 'store = "/var/lib/mailquota/ledger"', "default = 1000", "offset = 0", "keep = 2", "timeout = 300", 'log = "info"']),
     ):
         checks.equal(f"contrib/{name}: its settings", [line for line in text_of(name).splitlines() if line[0] != "#"], wanted)
+    checks.equal("contrib/server.toml: the rule that may stand in place of its offset", re.findall(r"^# (rule = .*)$", text_of("server.toml"), re.MULTILINE), [f'rule = "{CENTRAL_EUROPE}"'])
 
 
 def settings_of_a_filter(world, checks):
