@@ -208,3 +208,11 @@ def silent_peers(world, checks):
         checks.holds("more connections than places: those that waited longest went", good, "a line for each of the first six", lines)
         for peer in crowd:
             peer.close()
+    with Server(world, timeout=60_000) as server:
+        crowd = [server.connect() for _ in range(900)]
+        crowd[0].sendall(usage())
+        checks.equal("as many connections as there are places: the first one asks", crowd[0].recv(65_536), NOTHING_USED)
+        came = [server.ask(usage()), [line.partition("connection of ")[2] for line in server.log_lines()]]
+        checks.equal("one more: it is answered, and the one whose time would run out first goes", came, [NOTHING_USED, [f"{name_of(crowd[1])}: too many connections"]])
+        for peer in crowd:
+            peer.close()

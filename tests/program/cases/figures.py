@@ -1,5 +1,6 @@
 """The manual's own figures, at which other groups don't arrive: tens of thousands of limits and transactions in files that stand there already, runs of
-thousands of open messages that are retired at once, 60 peers that ask for much at once, and timeouts of 300 milliseconds and of 30 seconds."""
+thousands of open messages that are retired at once, 60 peers that ask for much at once, timeouts of a millisecond, of 300 and of 30 seconds, and more than
+a thousand hosts that were retired."""
 import threading
 import time
 
@@ -27,6 +28,7 @@ RUNS, OPEN = 8, 2_550
 # answers before a limit whose reply a retire clears
 BEFORE = 1_200
 PEERS, ASKED = 60, 2_000
+HOSTS = 1_100
 KEEPING = "server with keep"
 # A server holds of a connection a piece of what came, of 4,096 bytes, a request that isn't whole yet, and eight replies, and may have twice the room
 # for each; and so much more is for what it needs besides.
@@ -40,6 +42,7 @@ def run(world, checks):
     limits_that_were_cleared(world, checks)
     peers_that_ask_for_much(world, checks)
     timeouts(world, checks)
+    retired_hosts(world, checks)
 
 
 def taken(default, frames):
@@ -208,7 +211,7 @@ def timeouts(world, checks):
         with Server(world, timeout=timeout, **more) as server:
             found[which, timeout] = soon(lambda: of_a_server(server), enough)
 
-    rows = [(which, timeout, enough) for timeout, enough in ((300, 0.9), (30_000, 50)) for which in ("server", "filter")] + [(KEEPING, 300, 0.9)]
+    rows = [(which, timeout, enough) for timeout, enough in ((300, 0.9), (30_000, 50)) for which in ("server", "filter")] + [(KEEPING, 300, 0.9), ("server", 1, 0.3)]
     waiting = [threading.Thread(target=wait, args=row, daemon=True) for row in rows]
     for it in waiting:
         it.start()
@@ -235,3 +238,13 @@ def of_a_filter(world, timeout):
     """What a filter comes to whose server doesn't answer."""
     with Script([SILENCE]) as server:
         return world.filter(server.address, INPUT, tries=1, timeout=timeout)[:2]
+
+
+def retired_hosts(world, checks):
+    """A ledger that knows of so many mail hosts which runs of theirs are retired is opened, and refuses those of each."""
+    what, books = f"{HOSTS:,} hosts that were retired", taken(DEFAULT, (wire.retire(1, host=b"mx%d" % n, run=5) for n in range(1, HOSTS + 1)))
+    path = written(world, "figures-hosts", *of_version(3, books))
+    asked = b"".join(wire.reserve(2, txn=1, host=b"mx%d" % n, run=run) for n in (1, HOSTS // 2, HOSTS, HOSTS + 1) for run in (4, 5))
+    with Server(world, store=path, log="info", default=DEFAULT) as server:
+        checks.equal(f"{what}: a server's start", without_time(server.log_lines())[:1], [begun(path, default=DEFAULT, answers=HOSTS)])
+        checks.equal(f"{what}: requests of an earlier run, and of that one", answers(server, asked), books.serve(asked))

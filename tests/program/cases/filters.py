@@ -244,6 +244,9 @@ def refusals(world, checks):
     lines = came[2].splitlines()
     good = len(lines) == 2 and "session 7641df9771b4ed00" in lines[0] and other.decode() in lines[1] and all("no transaction" in line for line in lines)
     checks.holds("no transaction in two sessions: the log", good, "one line for each session", lines)
+    lines = world.filter("127.0.0.1:1", CONFIG + AUTH + RCPT * 2 + BEGIN.replace(b"1576146009", b"9") + RCPT * 2)[2].splitlines()
+    causes = [line.partition("recipients are refused, ")[2] for line in lines]
+    checks.equal("no transaction, then one of a second out of range, in one session: the log", causes, ["smtpd reported no transaction", "the transaction's second is out of range"])
 
 
 def of_session(text, name):

@@ -4,7 +4,7 @@ import time
 
 from cases.filters import AUTH, BEGIN, COMMIT, CONFIG, FULL, GRANTED, INPUT, LIMIT, MX1, PROCEED, RCPT, REFUSED_BY_LIMIT, REGISTRATION, RESERVE, SERVER, SERVICE, SETTLED, answer, of_session
 from ends import SILENCE, Script, crowded_port, nobody_there
-from wire import granted, reserve
+from wire import frame, granted, number, reserve
 
 BOB = b"0123456789abcdef"
 WHY = "[ERROR mq_link::logged] quota server ADDRESS: no answer in time"
@@ -22,6 +22,7 @@ def run(world, checks):
     closings(world, checks)
     full_logins(world, checks)
     a_full_login_in_a_pause(world, checks)
+    as_many_as_may_be(world, checks)
     what_check_says(world, checks)
 
 
@@ -164,6 +165,25 @@ def a_full_login_in_a_pause(world, checks):
     checks.equal("a full login in a pause: the frames", heard, [RESERVE, asked(2, login=b"bob", txn=2), asked(3, login=b"bob", txn=2)])
     wanted = [REFUSED_BY_LIMIT.rstrip("\n"), WHY, PAUSE, f"{SERVER} answers again, requests without an answer: 1", AGAIN + "1"]
     checks.equal("a full login in a pause: the log", log, wanted)
+
+
+def as_many_as_may_be(world, checks):
+    """1,000 logins are held back at once, and one more is asked for again."""
+    def text_of(login):
+        return of_session(AUTH.replace(b"alice", b"u%d" % login) + BEGIN + RCPT, b"%016x" % login)
+
+    def full(heard):
+        # (of a request's frame the number, as its host and its run are)
+        return frame(b"\x82" + heard[3:19] + number(3) * 2)
+
+    # (a line of an earlier second would end what is held back)
+    text = CONFIG + at(b"".join(text_of(it) for it in range(1, 1_002)), 1_576_146_010)
+    again = b"".join(of_session(RCPT, b"%016x" % it) for it in (1, 2, 500, 1_000, 1_001))
+    with Script([], otherwise=full) as server:
+        status, output, _ = world.filter(server.address, text + at(again, 1_576_146_010), hold=60)
+    checks.equal("1,001 full logins, hold = 60: status, and lines that are others", (status, [it for it in output.splitlines()[len(REGISTRATION.splitlines()):] if not it.endswith(b"|" + LIMIT)]), (0, []))
+    asked_again = [int.from_bytes(heard[15:19], "big") for heard in server.heard_later]
+    checks.equal("1,001 full logins, then five of them again: the numbers that are asked", asked_again, [*range(1, 1_002), 1_002])
 
 
 def what_check_says(world, checks):

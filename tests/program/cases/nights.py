@@ -1,9 +1,11 @@
 """`server` with `keep`: days leave the ledger while it is served. What a kill leaves at each step of the switch to the new file, and who repairs it; a new
-file that can't be made, or on a full disk; clocks that differ, and jump; `status` and `audit` beside a renewal; filters of two hosts over ten nights.
+file that can't be made, or on a full disk, and the next attempt; a switch that fails, and in which order its names come to the disk; thousands of answers,
+and a peer that asks all the while; clocks that differ, and jump; `status` and `audit` beside a renewal; filters of two hosts over ten nights.
 
 What is kept is said by the ledger of tests/model. The new file has each of the names that docs/OPERATING.md has for it.
 """
 import collections
+import contextlib
 import fcntl
 import itertools
 import os
@@ -22,6 +24,7 @@ from cases.damage import sound
 from cases.failures import Disk, can_mount
 from cases.filters import LIMIT, PROCEED
 from cases.full_disks import FULL
+from cases.retiring import of_version, written
 from ends import (
     LOCKED, LONG, NO_FILE, OPENED_IN, SECONDS, Server, begun, copied, fault, ledger_settings, of_store, wait_past_midnight, wait_until, without_time
 )
@@ -57,6 +60,12 @@ def run(world, checks):
     notes_of_nights(world, checks)
     tries_again_in_an_hour(world, checks)
     warns_once_over_a_night(world, checks)
+    names_that_are_folders(world, checks)
+    a_switch_that_fails(world, checks)
+    catches_up(world, checks)
+    of_thousands(world, checks)
+    again_in_an_hour(world, checks)
+    on_the_disk_in_order(world, checks)
     beside_a_renewal(world, checks)
     killed_at_a_rename(world, checks)
     killed_at_a_change(world, checks)
@@ -310,6 +319,11 @@ def repairs(world, checks):
     came = world.run("init", "--config", ledger_settings(world, beside, default=DEFAULT))
     checks.equal("after the third: init, which makes none over it", (came[0], names(beside)), (1, SWITCHED))
     same_rows(checks, "after the third: init", beside, kept)
+    noted = put(f"{world.folder}/noted-before", STATES["after the second"][0], {"old": closed, "new": new})
+    with open(f"{noted}.night", "w", encoding="ascii") as file:
+        file.write("forgot the days before 1 on day 3, in 7 ms\n")
+    came = world.run("status", "--config", ledger_settings(world, noted, default=DEFAULT))
+    checks.equal("after the second, with the note of an earlier night: status, what it says of a night, and files", (came[0], b"forgot" in came[1], names(noted)), (3, False, SWITCHED))
 
 
 def notes_of_switches(world, checks, old, new):
@@ -382,6 +396,10 @@ def counts_on(world, checks):
     with nightly(world, path) as server:
         checks.equal("five connections, then a start without days to be forgotten: files", (len(asked(server, [wire.page()])), names(path)), (1, NOTED))
     is_noted(world, checks, path, first_day())
+    path = f"{world.folder}/empty"
+    with nightly(world, path, words=["--create"]) as server:
+        wanted = [f"[INFO  mq_program::nights] ledger {path}: keeps {KEEP} days before today", f"[INFO  mq_program::nights] listening on {server.listen} for 1000000 connections"]
+        checks.equal("a ledger without days: the log behind its first line", server.log_lines()[1:], wanted)
 
 
 def clocks_that_differ(world, checks):
@@ -434,6 +452,152 @@ def no_new_file(world, checks):
         lines = [line for line in server.log_lines() if line.startswith("[ERROR")]
         checks.holds("a link: what is logged", len(lines) == 1 and f"{link}: not a plain file" in lines[0], "why", lines)
     checks.equal("a link: files", (names(path), os.path.islink(link)), (["", "-wal"], True))
+
+
+def warned_of(server):
+    """What it warns of, and logs as errors, of its files."""
+    return [line for line in server.log_lines() if line.startswith(("[WARN", "[ERROR"))]
+
+
+def names_that_are_folders(world, checks):
+    """The note and a log of before can't be written or removed: that is logged, and days are forgotten all the same."""
+    what, path = "folders in place of a night's note and of a log of before", f"{world.folder}/folders"
+    books = filled(world, path)
+    for it in (".night", ".old-wal"):
+        os.mkdir(f"{path}{it}")
+    with nightly(world, path) as server:
+        good = wait_until(lambda: is_through(server))
+        is_folder = "Is a directory (os error 21)"
+        wanted = [f"[WARN  mq_program::switching] {path}.old-wal: {is_folder}", f"[WARN  mq_program::last_night] {path}.night: {is_folder}"]
+        # (it answers once the note is written)
+        asked(server, [wire.page()])
+        checks.equal(f"{what}: days are forgotten, and what is logged", (good, warned_of(server)), (True, wanted))
+    for it in (".night", ".old-wal"):
+        os.rmdir(f"{path}{it}")
+    same_rows(checks, what, path, books.remembered(first_day()))
+
+
+def a_switch_that_fails(world, checks):
+    """The new ledger's log was removed by somebody, or a folder has the name that its file gets: the server ends, says of which file and why, and the
+    former ledger is whole."""
+    source = f"{world.folder}/to-be-switched"
+    books = filled(world, source, MANY)
+    for place, (what, change, undo, of, why, left) in enumerate([
+        ("a new ledger without its log", lambda path: os.remove(f"{path}.part-wal"), lambda path: None, ".part-wal", "it was removed", ["", "-wal", ".part"]),
+        ("a folder in the new ledger's way", lambda path: os.mkdir(f"{path}.next"), lambda path: os.rmdir(f"{path}.next"), ".part", "Is a directory (os error 21)",
+         ["-wal", ".next", ".old", ".part", ".part-wal"]),
+    ]):
+        path = copied(source, f"{world.folder}/switched{place}")
+        with nightly(world, path) as server:
+            there = wait_until(lambda path=path: os.path.exists(f"{path}.part-wal"))
+            change(path)
+            wait_until(lambda server=server: server.process.poll() is not None or is_through(server))
+            ended, lines = server.process.poll(), [line for line in server.log_lines() if not line.startswith("[INFO")]
+        wanted = True, 1, [of_store(f"{path}{of}", why).rstrip(), f"mailquota: {NOT_OPENED}"]
+        checks.equal(f"{what}: the status, and what is said", (there, ended, lines), wanted)
+        checks.equal(f"{what}: files", names(path), left)
+        undo(path)
+        checks.equal(f"{what}: audit then", audit(world, path, default=DEFAULT), sound(books))
+        same_rows(checks, what, path, books)
+
+
+def catches_up(world, checks):
+    """A peer has sent thousands of requests as a night begins: the new ledger takes over what comes meanwhile, too, and doesn't wait for its end."""
+    what, path, day, count = "a night under load", f"{world.folder}/load", today(), 5_000
+    books = filled(world, path, 240)
+    server, clock = by_clock(world, path, DAY * day + 7_200)
+    frames = [request(number, day, host=b"mx9") for number in range(1, count + 1)]
+    with server:
+        assert asked(server, [wire.page()]) == [books.serve(wire.page())]
+        # (the peer comes as the night has begun, since an older connection would be late)
+        with server.stopped():
+            clock.pass_to(DAY * day + 10_830)
+            peer = server.connect()
+            threading.Thread(target=sent_as_far_as_it_goes, args=(peer, b"".join(frames)), daemon=True).start()
+            time.sleep(0.1)
+        with peer, peer.makefile("rb") as back:
+            came = list(iter(lambda: whole_reply(back), b""))
+        good = wait_until(lambda: is_through(server))
+    checks.equal(f"{what}: replies until it", came == [books.serve(it) for it in frames[:len(came)]], True)
+    checks.holds(f"{what}: days are forgotten before all are answered", good and 0 < len(came) < count, f"fewer than {count:,} replies", len(came))
+
+
+def sent_as_far_as_it_goes(peer, text):
+    with contextlib.suppress(OSError):
+        peer.sendall(text)
+
+
+# answers of a ledger that has thousands more than a night takes over at once
+THOUSANDS = 12_000
+
+
+def of_thousands(world, checks):
+    """A ledger of thousands of answers, of which some are forgotten, is renewed."""
+    what, path, books = f"a night over {THOUSANDS:,} answers", f"{world.folder}/thousands", Books(0, DEFAULT)
+    for number in range(1, THOUSANDS + 1):
+        books.apply(request(number, days_of(number))[2:])
+    written(world, "thousands", *of_version(3, books))
+    with nightly(world, path) as server:
+        good = wait_until(lambda: is_through(server) or warned_of(server))
+        checks.equal(f"{what}: days are forgotten, and what is logged", (good, warned_of(server)), (True, []))
+        # (it answers once the note is written)
+        asked(server, [wire.page()])
+        times = re.search(r"are forgotten, in (\d+) ms, the last (\d+) ms", "\n".join(server.all_log_lines()))
+        took, last = map(int, times.groups()) if times else (0, 0)
+    checks.holds(f"{what}: how long it took, and how long of that nobody was answered", took > last, "the longer time first", (took, last))
+    with open(f"{path}.night", encoding="ascii") as file:
+        checks.equal(f"{what}: its note", file.read(), f"forgot the days before {first_day()} on day {today()}, in {took} ms\n")
+    same_rows(checks, what, path, books.remembered(first_day()))
+
+
+def again_in_an_hour(world, checks):
+    """A night whose new file can't be made: an hour later, and not before, it is tried again."""
+    what, path, day = "a night that is tried again", f"{world.folder}/again", today()
+    filled(world, path)
+    os.mkdir(f"{path}.part")
+    server, clock = by_clock(world, path, DAY * day + 10_830)
+
+    def through(seconds):
+        """Whether days are forgotten, though a peer asks, within so many seconds."""
+        end = time.monotonic() + seconds
+        while not is_through(server) and time.monotonic() < end:
+            asked(server, [wire.usage()])
+        return is_through(server)
+
+    with server:
+        warned = wait_until(lambda: warnings(server))
+        os.rmdir(f"{path}.part")
+        came = []
+        for passed, seconds in ((3_500, 0.5), (3_700, 20)):
+            clock.pass_to(DAY * day + 10_830 + passed)
+            came.append(through(seconds))
+        checks.equal(f"{what}: a warning, and whether days are forgotten 3,500 s and 3,700 s later", (warned, came), (True, [False, True]))
+        checks.equal(f"{what}: what is forgotten", forgotten_from(server), [day - KEEP])
+
+
+# the numbers of pwrite64(2), fsync(2), rename(2), unlink(2) and fchown(2)
+WRITTEN, SYNCED, RENAMED, REMOVED, OWNED = 18, 74, 82, 87, 93
+
+
+def on_the_disk_in_order(world, checks):
+    """What a power cut leaves of a night says how far it came, since each name is on the disk before the next step: the folder is synced."""
+    what, path, noted = "the files of a night", f"{world.folder}/ordered", Noted(world)
+    filled(world, path)
+    for it in (".part", ".part-wal", ".old-wal"):
+        open(f"{path}{it}", "wb").close()
+    with nightly(world, path, limit=noted.limit) as server:
+        good = wait_until(lambda: is_through(server))
+        server.process.kill()
+        server.status()
+    steps = [call.number for call in noted.calls() if call.number in (WRITTEN, SYNCED, RENAMED, REMOVED, OWNED) and call.result >= 0]
+
+    def are_synced(step):
+        return [after == SYNCED for it, after in itertools.pairwise([*steps, None]) if it == step]
+
+    # (the first file that is made is the new one)
+    came = {"days are forgotten": good, "the new file": are_synced(OWNED)[:1], "names that are given": are_synced(RENAMED), "files that are removed": are_synced(REMOVED)}
+    wanted = {"days are forgotten": True, "the new file": [True], "names that are given": [True] * RENAMES, "files that are removed": [True] * 3}
+    checks.equal(f"{what}: those that are on the disk before the next step", came, wanted)
 
 
 def beside_a_renewal(world, checks):
