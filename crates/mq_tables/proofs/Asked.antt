@@ -1,26 +1,15 @@
 -- What a SELECT of this shape with no order answers over a connection with no limit on steps: of the rows that pass, or that memory or the disk stopped it.
 use Rattle.std.proofs.Common.{◌≡◌, ◌⊎◌, inl, inr, ℕ, List, [], ◌∷◌, length, true, true≢false, Some, None, Ok, Err, Result, slice_get, arith, refl, sym, ap, subst, ◌∙◌}
-use Rattle.std.specs.Prelude.{is_ok}
-use Rattle.std.specs.List.Sorted.{IsPermutation}
-use Rattle.sqlite.specs.declared.error.Error.{Error}
+use Rattle.mq_tables.proofs.Words.{Compiled, Database, EndsIn, Error, FailsToQuery, IsPermutation, IsSourceOf, IsStatement, QueriesRow, Row, Select, Shown, State, accepts_program, begins_shown, command_of, first, is_ok, reads_listing, understood}
 use Rattle.sqlite.specs.declared.error.Error.TheVariants.{QueryReturnedNoRows}
 use Rattle.sqlite.specs.Clock.{timed}
-use Rattle.sqlite.specs.Command.TheVariants.{Select}
-use Rattle.sqlite.specs.Effect.{Database}
-use Rattle.sqlite.specs.Listing.{understood, reads_listing, IsSourceOf}
-use Rattle.sqlite.specs.Order.{Row}
-use Rattle.sqlite.specs.State.{State, QueriesRow, Shown, FailsToQuery, IsStatement}
-use Rattle.sqlite.proofs.Callers.{command_of, begins_shown, EndsIn}
-use Rattle.sqlite_resolve.specs.declared.compiled.Compiled.{Compiled}
-use Rattle.sqlite_resolve.specs.Compile.{first}
-use Rattle.sqlite_typing.specs.Types.{accepts_program}
 use Rattle.mq_tables.specs.Places.{IsTableIn}
 use Rattle.mq_tables.specs.Reading.{unlimited}
 use Rattle.mq_tables.specs.Settings as settings
 use Rattle.mq_tables.specs.Written.{chosen, plain_query}
 use Rattle.mq_tables.proofs.Plain.{parsed_in}
 use Rattle.mq_tables.proofs.Refusals.{IsStop, query_stops, names_of, tail_of}
-use Rattle.mq_tables.proofs.SelectShape.{SelectShape, IsSelect, IsAccepted, filter_in, shown_in, paged, names_in, compiled_of, means, plain, apart}
+use Rattle.mq_tables.proofs.SelectShape.{SelectShape, IsSelect, filter_in, shown_in, paged, names_in, compiled_of, means, plain, apart}
 use Rattle.mq_tables.proofs.Selected.{shows_rows}
 
 -- the text is one statement, with no parameters
@@ -36,16 +25,16 @@ first_of : (shown : List Row) (row : Row) (rows : List Row) → slice_get rows 0
 first_of shown row [] there h = absurd cc
 first_of shown row (x ∷ more) there h = let e : x ≡ row = cc in (more, subst (λ r. IsPermutation shown (r ∷ more)) e h)
 
-module _ (text : List ℕ) (shape : SelectShape) (it : IsSelect text shape) (accepted : IsAccepted shape) (unordered : shape.order ≡ None) (alone : IsAlone text) (old new : State) (tree : ℕ)
+module _ (text : List ℕ) (shape : SelectShape) (it : IsSelect text shape) (unordered : shape.order ≡ None) (alone : IsAlone text) (old new : State) (tree : ℕ)
     (place : IsTableIn old.now.schema shape.table tree) where
   is : understood old.now.schema text ≡ Ok (compiled_of text shape tree)
-  is = means text shape it accepted old.now.schema tree place
+  is = means text shape it old.now.schema tree place
 
   command : command_of (understood old.now.schema text) ≡ Select (record { lets = []; body = plain_query tree (filter_in shape) (shown_in shape) }) (names_in shape tree)
   command = subst (λ by. command_of (understood old.now.schema text) ≡ Select (record { lets = []; body = paged tree shape.table.key (filter_in shape) (shown_in shape) by }) (names_in shape tree)) unordered (ap command_of is)
 
   types : accepts_program old.now.schema [] (plain_query tree (filter_in shape) (shown_in shape)) [] ≡ true
-  types = subst (λ by. accepts_program old.now.schema [] (paged tree shape.table.key (filter_in shape) (shown_in shape) by) [] ≡ true) unordered (accepted old.now.schema tree place.stored place.found)
+  types = subst (λ by. accepts_program old.now.schema [] (paged tree shape.table.key (filter_in shape) (shown_in shape) by) [] ≡ true) unordered (it.accepted old.now.schema tree place.stored place.found)
 
   stopped : (e : Error) → IsStop (unlimited old) e → settings.IsStop e
   stopped e (inl h) = h
@@ -53,11 +42,11 @@ module _ (text : List ℕ) (shape : SelectShape) (it : IsSelect text shape) (acc
 
   pub stops : (e : Error) → FailsToQuery text [] (unlimited old) new e → settings.IsStop e
   stops e h =
-      stopped e (query_stops text [] (unlimited old) new e old.now.schema refl tree (filter_in shape) (shown_in shape) (names_in shape tree) command (plain text shape it accepted old.now.schema tree place)
-      (ap is_ok is) (sym alone.1 ∙ sym (ap (λ r. length (names_of r)) is)) (let e = ap tail_of is in omega (arith, e, alone.0)) (apart text shape it accepted old.now.schema tree place) types h)
+      stopped e (query_stops text [] (unlimited old) new e old.now.schema refl tree (filter_in shape) (shown_in shape) (names_in shape tree) command (plain text shape it old.now.schema tree place)
+      (ap is_ok is) (sym alone.1 ∙ sym (ap (λ r. length (names_of r)) is)) (let e = ap tail_of is in omega (arith, e, alone.0)) (apart text shape it old.now.schema tree place) types h)
 
   shows : (rows : List Row) → Shown text [] (unlimited old) new rows → IsPermutation (chosen (filter_in shape) (shown_in shape) [] (old.now.trees tree)) rows
-  shows rows h = shows_rows text shape it accepted [] (unlimited old) new tree place rows h unordered
+  shows rows h = shows_rows text shape it [] (unlimited old) new tree place rows h unordered
 
   ends : (c : Compiled) (db : Database) (s : IsStatement (unlimited old) text [] c) → IsSourceOf (reads_listing old.now.schema text) old.now db → EndsIn c.command db (timed [] c.formats s.now)
   ends c db s source =

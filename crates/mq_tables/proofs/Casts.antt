@@ -1,10 +1,9 @@
 -- A column of whole numbers keeps a whole number as it is, and NULL.
 use Rattle.std.proofs.Common.{◌≡◌, cond, ℤ, Bool, true, false, refl}
+use Rattle.mq_tables.proofs.Words.{Int, Null, unary}
 use Rattle.sqlite.specs.Cast.{cast}
 use Rattle.sqlite.specs.Kind.TheVariants.{Integer}
-use Rattle.sqlite.specs.Ops.{unary}
 use Rattle.sqlite.specs.declared.types.Value.{Value}
-use Rattle.sqlite.specs.declared.types.Value.TheVariants.{Null, Int}
 
 either : (b : Bool) (x : Value) → cond b x x ≡ x
 either true x = refl

@@ -1,17 +1,8 @@
 -- Which records a query shows.
 use Rattle.std.proofs.Common.{◌≡◌, inl, inr, ℕ, pos, List, [], ◌∷◌, ◌++◌, map, filter, length, Bool, true, false, Option, Some, None, Ok, Err, Result, cond, arith, refl, sym, ap, ap₂, subst, subst₂, ◌∙◌}
-use Rattle.std.specs.Prelude.{IfOk, ⊤}
-use Rattle.std.specs.List.{AllByRecursion}
-use Rattle.std.specs.List.Sorted.{IsPermutation}
-use Rattle.std.proofs.lemmas.List.Sorted.{length_permutation, IsPermutation-map}
-use Rattle.sqlite.specs.declared.types.Value.TheVariants.{Int, Blob}
-use Rattle.sqlite.specs.declared.error.Error.{Error}
-use Rattle.sqlite.specs.Order.{Row}
-use Rattle.sqlite_rules.specs.Lists.{Has}
+use Rattle.mq_tables.proofs.Words.{AllByRecursion, Blob, Error, Has, IfOk, Int, IsPermutation, IsPermutation-map, Row, Tables, all-permutation, length_permutation, ⊤}
 use Rattle.sqlite_rules.proofs.ListLemmas.{has_filtered}
-use Rattle.sqlite_trees.proofs.ListLemmas.{all-permutation}
-use Rattle.mq_rows.specs.Tables.{Tables}
-use Rattle.mq_tables.specs.Records.{IsOneOf, IsFirstBy}
+use Rattle.mq_tables.specs.Records.{IsOneOf, IsFirstBy, IsShownOne}
 
 pub empty_mapped : {X Y : Type 0} (f : X → Y) (xs : List X) → length (map f xs) ≡ 0 → xs ≡ []
 empty_mapped f [] e = refl
@@ -43,6 +34,17 @@ int_same e = cc
 pub blob_same : {x y : List ℕ} → Blob x ≡ Blob y → x ≡ y
 blob_same e = cc
 
+-- ---- what is read of the rows that are shown
+
+-- where the rows show so much of the tables, what is read of them is so
+abbrev pub Following : {A : Type 0} → (Tables → List Row → Type 0) → (List Row → A → Type 0) → (Tables → A → Type 0) → Type 1
+Following {A} Shown Read Is =
+    (Held : Tables → Type 0) (rows : List Row) (outcome : Result A Error) → ((t : Tables) → Held t → Shown t rows) → IfOk outcome (Read rows) → IfOk outcome (λ found. (t : Tables) → Held t → Is t found)
+
+pub follows : {A : Type 0} (Shown : Tables → List Row → Type 0) (Read : List Row → A → Type 0) (Is : Tables → A → Type 0) → ((t : Tables) (rows : List Row) (found : A) → Shown t rows → Read rows found → Is t found) → Following Shown Read Is
+follows Shown Read Is so Held rows (Ok found) shown read = λ t l. so t rows found (shown t l) read
+follows Shown Read Is so Held rows (Err e) shown read = tt
+
 -- ---- the first of the rows that a query by a key shows
 
 module _ {R : Type 0} (test : R → Bool) (show : R → Row) (Shows : Row → R → Type 0) (is_it : (row : Row) (u v : R) → Shows row u → test v ≡ true → row ≡ show v → v ≡ u) where
@@ -53,10 +55,22 @@ module _ {R : Type 0} (test : R → Bool) (show : R → Row) (Shows : Row → R 
       let it = is_it row u head.0 shown head.1.1 head.2 in
       (subst (Has all) it head.1.0, subst (λ v. test v ≡ true) it head.1.1)
 
-  pub found_after : (of : Tables → List R) (Held : Tables → Type 0) (rows : List Row) (outcome : Result (Option R) Error) → ((t : Tables) → Held t → IsPermutation (map show (filter test (of t))) rows)
-      → IfOk outcome (IsFirstBy Shows rows) → IfOk outcome (λ found. (t : Tables) → Held t → IsOneOf test (of t) found)
-  found_after of Held rows (Ok found) same first = λ t l. found_first (of t) rows found (same t l) first
-  found_after of Held rows (Err e) same first = tt
+  pub found_after : (of : Tables → List R) → Following (λ t rows. IsPermutation (map show (filter test (of t))) rows) (IsFirstBy Shows) (λ t. IsOneOf test (of t))
+  found_after of = follows _ _ _ (λ t. found_first (of t))
+
+-- ---- the one row that a query shows
+
+module _ {R A : Type 0} (Is : List R → Option A → Type 0) (show : A → Row) (Shows : Row → A → Type 0) (is_it : (all : List R) (row : Row) (u v : A) → Shows row u → Is all (Some v) → row ≡ show v → v ≡ u) where
+  one_so : (all : List R) (rows : List Row) (found : Option A) → IsShownOne Is show all rows → IsFirstBy Shows rows found → Is all found
+  one_so all [] None shown first = shown
+  one_so all (row ∷ more) None shown first = absurd cc
+  one_so all [] (Some u) shown first = absurd (let e = first.2 in cc)
+  one_so all (row ∷ more) (Some u) (v, it, is) (r, rest, whole, shown) =
+      let head : r ≡ row = cc in
+      subst (λ x. Is all (Some x)) (is_it all r u v shown it (head ∙ is)) it
+
+  pub one_after : (of : Tables → List R) → Following (λ t. IsShownOne Is show (of t)) (IsFirstBy Shows) (λ t. Is (of t))
+  one_after of = follows _ _ _ (λ t. one_so (of t))
 
 -- ---- all rows
 

@@ -1,26 +1,11 @@
 -- What a query on one table of ours answers of its records in an order: the first of those that pass.
 use Rattle.std.proofs.Common.{◌≡◌, ℕ, ◌+◌, suc, ◌^◌, nat_le, List, [], ◌∷◌, drop, map, filter, cond, Bool, true, false, true≢false, arith, refl, sym, ap, subst, ◌∙◌}
-use Rattle.std.specs.List.{AllByRecursion, list_all}
-use Rattle.std.specs.List.Sorted.{IsPermutation, IsSortedBy}
-use Rattle.std.specs.Prelude.{slice_index_or}
-use Rattle.std.specs.Ordering.{is_lt}
-use Rattle.std.specs.Cmp.{IsStrictWeakOrder}
+use Rattle.mq_tables.proofs.Words.{AllByRecursion, Has, IsPermutation, IsPermutation-sym, IsPermutation-trans, IsPlain, IsSortedBy, IsStrictWeakOrder, Null, Row, Select, Shown, State, Term, Trees, all-permutation, all_weaker, command_of, eval_all, holds, is_lt, length_permutation, list_all, map-map, reads_as, reads_listing, slice_index_or, understood}
 use Rattle.std.proofs.lemmas.List.MinMax.{ranks_by}
-use Rattle.std.proofs.lemmas.List.Sorted.{IsPermutation-sym, IsPermutation-trans, length_permutation}
-use Rattle.sqlite_trees.proofs.ListLemmas.{map-map, all-permutation, all_weaker}
-use Rattle.sqlite_rules.specs.Lists.{Has}
-use Rattle.sqlite.specs.declared.types.Value.TheVariants.{Null}
-use Rattle.sqlite.specs.Order.{Row}
-use Rattle.sqlite.specs.Term.{Term, eval_all, holds}
-use Rattle.sqlite.specs.Tree.{Trees}
 use Rattle.sqlite.specs.Query.{IsAnswer, Output, output, output_cmp, page}
 use Rattle.sqlite_sql.proofs.QueryLemmas.{output_cmp_total}
 use Rattle.sqlite_value.specs.declared.keys.Key.{Key}
 use Rattle.sqlite.specs.Program.{overlay}
-use Rattle.sqlite.specs.Command.TheVariants.{Select}
-use Rattle.sqlite.specs.Listing.{understood, reads_listing}
-use Rattle.sqlite.specs.State.{State, Shown}
-use Rattle.sqlite.proofs.Callers.{IsPlain, command_of, reads_as}
 use Rattle.mq_tables.specs.Written.{latest_query}
 use Rattle.mq_tables.specs.Records.{Holds}
 use Rattle.mq_tables.proofs.Finds.{none_of, empty_mapped, shown_of}

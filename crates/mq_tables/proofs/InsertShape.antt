@@ -1,21 +1,13 @@
 -- An INSERT of one row of parameters into a table of ours, over any schema that has the table at some place.
-use Rattle.std.proofs.Common.{◌≡◌, ℕ, ◌+◌, ◌/◌, List, [], ◌∷◌, drop, length, false, Some, Ok, slice_get, refl, sym, ap, subst}
-use Rattle.sqlite.specs.Order.{Row}
-use Rattle.sqlite.specs.Schema.{Schema}
-use Rattle.sqlite.specs.Table.{Table}
+use Rattle.std.proofs.Common.{◌≡◌, ℕ, ◌+◌, ◌/◌, List, [], ◌∷◌, drop, length, Bool, false, Some, Ok, Err, slice_get, refl, sym, ap, subst}
+use Rattle.mq_tables.proofs.Words.{Chosen, Executes, IsPlain, Row, Schema, State, Table, Term, command_of, eval_all, first, new_rows, small, stamped, table_named, value_rows, with_rowid}
 use Rattle.sqlite.specs.Source.TheVariants.{Values}
-use Rattle.sqlite.specs.Term.{Term, eval_all}
 use Rattle.sqlite.specs.Cast.{cast_row}
-use Rattle.sqlite.specs.Edit.{with_rowid}
-use Rattle.sqlite.specs.Effect.{value_rows}
-use Rattle.sqlite.specs.Rowids.TheVariants.{Chosen}
-use Rattle.sqlite.specs.Rows.{stamped}
-use Rattle.sqlite.specs.State.{State, Executes}
-use Rattle.sqlite_schema.specs.Names.{table_named}
-use Rattle.sqlite_resolve.specs.Compile.{first, small, new_rows}
-use Rattle.sqlite.proofs.Callers.{IsPlain, command_of}
+use Rattle.mq_rows.specs.declared.plan.Write.TheVariants as write
+use Rattle.mq_tables.specs.Places.{IsTableIn}
 use Rattle.mq_tables.specs.Records.{Holds}
 use Rattle.mq_tables.specs.Written.{Inserted}
+use Rattle.mq_tables.proofs.Parts.{Part, Rewrites, Executing}
 use Rattle.mq_tables.proofs.Plain.{parsed_in}
 use Rattle.mq_tables.proofs.Inserting.{IsInsert, understood_insert, unreferred}
 use Rattle.mq_tables.proofs.RowFacts.{holds_put}
@@ -55,3 +47,22 @@ module _ (text : List ℕ) (shape : InsertShape) (it : IsInsertOf text shape) (p
   pub holds_inserted : {R : Type 0} (fields : R → Row) (r : R) (all : List R) → drop 1 new_row ≡ fields r → Holds 1 fields (old.now.trees tree) all → Inserted old.now.schema (in_tree shape tree) new_row old new
       → Holds 1 fields (new.now.trees tree) (r ∷ all)
   holds_inserted fields r all is held made = subst (λ rows. Holds 1 fields rows (r ∷ all)) (sym made.rows) (holds_put 1 fields new_row r (old.now.trees tree) all is made.fresh made.keyed held)
+
+-- ---- a record of a table whose rows are records in any order
+
+module _ {R : Type 0} (text : List ℕ) (shape : InsertShape) (it : IsInsertOf text shape) (part : Part R shape.table) where
+  -- the new row has the fields of the record
+  abbrev pub GivesRow : Type 1
+  GivesRow = (old new : State) (r : R) (tree : ℕ) (place : IsTableIn old.now.schema shape.table tree) → drop 1 (new_row text shape it (part.fields r) old new tree place.at place.named place.there) ≡ part.fields r
+
+  pub inserts_record : GivesRow → (same : R → R → Bool) (set : R → R → R) → Executing text part.fields (λ r. Rewrites part same set (write.Insert r))
+  inserts_record gives same set r (Err e) old new h = (tt, tt)
+  inserts_record gives same set r (Ok count) old new h = (
+    h.1.mode,
+    λ t l.
+        let tree = part.tree old.now t l in
+        let place = part.place old.now t l in
+        let made = inserted text shape it (part.fields r) old new tree place.at place.named place.there count h.0 in
+        part.changed old.now new.now t l made.schema_is made.sound made.tables (r ∷ part.records t)
+        (holds_inserted text shape it (part.fields r) old new tree place.at place.named place.there part.fields r (part.records t) (gives old new r tree place) (part.holds old.now t l) made),
+  )

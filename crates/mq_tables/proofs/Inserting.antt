@@ -1,26 +1,17 @@
 -- INSERT of one row of values into a table that the schema has at some place.
 use Rattle.std.proofs.Common.{◌≡◌, ℕ, ◌+◌, List, [], ◌∷◌, length, Bool, true, false, Option, Some, None, Ok, refl}
+use Rattle.mq_tables.proofs.Words.{Compiled, Insert, Name, Parsed, Row, Schema, Table, command, compiled, first, insert, insert_or_abort, meaning, new_rows, planned, returning, shows, small, table_named, timed, understood, with_command}
 use Rattle.std.specs.Prelude.{slice_get, ◌&&◌, ◌==◌}
 use Rattle.std.specs.List.{flat_map, filter_map}
 use Rattle.sqlite_ast.specs.declared.Statement.TheVariants as written
 use Rattle.sqlite_ast.specs.declared.Conflict.TheVariants as conflict
 use Rattle.sqlite_ast.specs.declared.Rows.{Rows}
-use Rattle.sqlite_syntax.specs.declared.statement.Parsed.{Parsed}
-use Rattle.sqlite.specs.Schema.{Schema}
-use Rattle.sqlite.specs.Table.{Table}
-use Rattle.sqlite.specs.Order.{Row}
-use Rattle.sqlite.specs.Command.TheVariants.{Insert}
 use Rattle.sqlite.specs.Source.{Source}
 use Rattle.sqlite_schema.specs.declared.schema.Keys.TheVariants.{Enforced}
 use Rattle.sqlite_schema.specs.declared.schema.Reference.{Reference}
-use Rattle.sqlite_schema.specs.Names.{table_named}
 use Rattle.sqlite_schema.specs.Rules.{ParentKey, parent_key}
 use Rattle.sqlite_rules.specs.Action.{works, work_by, work_for, deed_for}
 use Rattle.sqlite_rules.specs.declared.action.Deed.{Deed}
-use Rattle.sqlite_resolve.specs.declared.compiled.Compiled.{Compiled}
-use Rattle.sqlite_resolve.specs.Scope.{Name}
-use Rattle.sqlite_resolve.specs.Compile.{first, compiled, planned, meaning, returning, timed, command, insert, insert_or_abort, shows, new_rows, small, with_command}
-use Rattle.sqlite.specs.Listing.{understood}
 use Rattle.mq_tables.proofs.Plain.{parsed_in}
 
 pub record IsInsert (p : Parsed) : Type 0 where

@@ -1,18 +1,11 @@
 -- A row that is found by its key is the one that stands there.
 use Rattle.std.proofs.Common.{◌≡◌, inl, inr, ℕ, ◌≤◌, List, [], ◌∷◌, filter, find, length, cond, Bool, true, false, true≢false, Option, Some, None, arith, refl, sym, ap, subst, ◌∙◌}
+use Rattle.mq_tables.proofs.Words.{AllByRecursion, Has, IsUnchanged, LimitRecord, State, Tables, TransactionRecord, UsageRecord, is_limit, is_transaction, is_usage}
 use Rattle.std.specs.Prelude.{if◌then◌else◌}
-use Rattle.std.specs.List.{AllByRecursion}
-use Rattle.sqlite_rules.specs.Lists.{Has}
-use Rattle.sqlite.specs.State.{State, IsUnchanged}
 use Rattle.mq_request.specs.declared.message.Id.{Id}
 use Rattle.mq_ledger.specs.History.{transaction}
-use Rattle.mq_rows.specs.declared.record.TransactionRecord.{TransactionRecord}
-use Rattle.mq_rows.specs.declared.record.UsageRecord.{UsageRecord}
-use Rattle.mq_rows.specs.declared.record.LimitRecord.{LimitRecord}
 use Rattle.mq_rows.specs.declared.plan.Found.{Found}
 use Rattle.mq_rows.specs.Found.{IsGoverning, IsFirstOver}
-use Rattle.mq_rows.specs.Rows.{is_transaction, is_usage, is_limit}
-use Rattle.mq_rows.specs.Tables.{Tables}
 use Rattle.mq_tables.specs.Finding.{AreKeyed, IsTransactionFound, IsReserveFound}
 use Rattle.mq_tables.specs.Ledger.{HasLedger}
 use Rattle.mq_tables.specs.Records.{IsOneOf}

@@ -1,4 +1,5 @@
 pub mod Asked
+pub mod ByKey
 pub mod Casts
 pub mod Chain
 pub mod Chains
@@ -8,6 +9,7 @@ pub mod Firsts
 pub mod InsertShape
 pub mod Inserting
 pub mod Keyed
+pub mod Parts
 pub mod Plain
 pub mod Queries
 pub mod Refusals
@@ -22,6 +24,8 @@ pub mod TermShape
 pub mod Tests
 pub mod UpdateShape
 pub mod Updating
+pub mod Words
+pub mod Writes
 pub mod answers
 pub mod audits
 pub mod floors

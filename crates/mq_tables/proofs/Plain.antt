@@ -1,16 +1,11 @@
 -- What a text is, whatever the schema.
 use Rattle.std.proofs.Common.{◌≡◌, ℕ, List, [], Bool, true, false, None, Ok, Err, refl, sym, ap, ◌∙◌}
+use Rattle.mq_tables.proofs.Words.{Checked, Compiled, Parsed, Schema, and_then, command, compiled, first, if_select, listing_schema, meaning, planned, reads_listing, returning, timed, understood, with_command}
 use Rattle.std.specs.Prelude.{if◌then◌else◌}
 use Rattle.sqlite_ast.specs.declared.Statement.TheVariants as written
 use Rattle.sqlite_ast.specs.declared.Select as written_select
-use Rattle.sqlite_syntax.specs.declared.statement.Parsed.{Parsed}
 use Rattle.sqlite_schema.specs.declared.command.Command.{Command}
-use Rattle.sqlite.specs.Schema.{Schema}
-use Rattle.sqlite_resolve.specs.declared.compiled.Compiled.{Compiled}
 use Rattle.sqlite_resolve.specs.declared.error.CompileError.TheVariants.{NoSuchTable}
-use Rattle.sqlite_resolve.specs.Lowering.{Checked, and_then}
-use Rattle.sqlite_resolve.specs.Compile.{first, compiled, planned, meaning, returning, timed, command, with_command}
-use Rattle.sqlite.specs.Listing.{understood, reads_listing, if_select, listing_schema}
 
 abbrev pub no_text : Parsed
 no_text = record { statement = written.Empty; names = []; formats = []; start = 0; end = 0; tail = 0 }

@@ -1,27 +1,12 @@
 -- What a query on one table of a known schema answers, whatever the table is.
 use Rattle.std.proofs.Common.{if◌then◌else◌, drop, subst₂, ◌≡◌, ℕ, List, [], ◌∷◌, ◌++◌, map, filter, flat_map, Bool, true, false, None, Some, Option, inl, inr, ◌⊎◌, refl, sym, ap, subst, ◌∙◌}
-use Rattle.std.specs.List.{list_all}
-use Rattle.std.specs.List.Sorted.{IsPermutation}
-use Rattle.sqlite_trees.proofs.ListLemmas.{map-map, filter-map, IsPermutation-filter}
-use Rattle.std.proofs.lemmas.List.Sorted.{IsPermutation-map}
-use Rattle.sqlite.specs.declared.types.Value.TheVariants.{Null}
-use Rattle.sqlite.specs.Order.{Row}
-use Rattle.sqlite.specs.Term.{Term, Env, eval_all, holds}
-use Rattle.sqlite.specs.Tree.{Trees}
-use Rattle.sqlite.specs.Schema.{Schema}
+use Rattle.mq_tables.proofs.Words.{Compiled, Env, Error, FailsToQuery, FailsToShow, Global, IsNotRun, IsPermutation, IsPermutation-filter, IsPermutation-map, IsPlain, IsRolledBack, IsTooLate, IsUnchanged, KeepsCommit, Null, Row, Schema, Select, Shown, ShowsRows, State, Term, Trees, command_of, eval_all, filter-map, holds, list_all, map-map, reads_as, reads_listing, understood}
 use Rattle.sqlite.specs.Query.{IsAnswer, Output, output}
 use Rattle.sqlite.specs.Program.{overlay}
-use Rattle.sqlite.specs.Command.TheVariants.{Select}
-use Rattle.sqlite.specs.Listing.{understood, reads_listing}
 use Rattle.std.specs.Prelude.{IsTrue, Vec, IfOk, IfErr, OnOk, Result, Ok, Err}
-use Rattle.std.specs.declared.alloc.Global.{Global}
-use Rattle.sqlite.specs.State.{ShowsRows, State, Shown, IsNotRun, IsUnchanged, IsRolledBack, KeepsCommit, FailsToShow, FailsToQuery, IsTooLate}
-use Rattle.sqlite.specs.declared.error.Error.{Error}
 use Rattle.sqlite.specs.Clock.{timed}
 use Rattle.sqlite.proofs.InsideLemmas.{unchanged_keeps}
-use Rattle.sqlite_resolve.specs.declared.compiled.Compiled.{Compiled}
 use Rattle.sqlite_schema.specs.declared.command.Returning.{Returning}
-use Rattle.sqlite.proofs.Callers.{IsPlain, command_of, reads_as}
 use Rattle.mq_tables.specs.Written.{chosen, plain_query}
 use Rattle.mq_tables.proofs.Plain.{IsBare}
 

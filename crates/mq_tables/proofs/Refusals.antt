@@ -1,24 +1,13 @@
 -- Why a query on one table is refused.
 use Rattle.std.proofs.Common.{◌≡◌, ◌⊎◌, inl, inr, ℕ, List, [], length, Any, true, false, Option, Some, None, IsSome, Ok, Err, true≢false, refl, sym, ap, subst, ◌∙◌}
-use Rattle.sqlite.specs.declared.error.Error.{Error}
 use Rattle.sqlite.specs.declared.error.Error.TheVariants.{SqliteFailure}
 use Rattle.sqlite.specs.declared.error.ErrorCode.TheVariants.{OperationInterrupted}
 use Rattle.sqlite_trees.specs.declared.error.StoreError.{StoreError}
-use Rattle.sqlite.specs.Order.{Row}
-use Rattle.sqlite.specs.Term.{Term}
-use Rattle.sqlite.specs.Tree.{Trees}
-use Rattle.sqlite.specs.Schema.{Schema}
 use Rattle.sqlite_sql.specs.Program.{ProgramOverflows}
-use Rattle.sqlite_typing.specs.Types.{accepts_program}
 use Rattle.std.specs.Prelude.{is_ok, Result, ◌≤◌}
 use Rattle.std.proofs.Common.{append-nil}
-use Rattle.sqlite.specs.Effect.{Database, RefusesToRead}
-use Rattle.sqlite.specs.Command.TheVariants.{Select}
+use Rattle.mq_tables.proofs.Words.{Compiled, Database, Error, FailsToQuery, FailsToShow, IsNoStatement, IsNotRun, IsPlain, IsSourceOf, RefusesToRead, Row, Schema, Select, State, Term, Trees, accepts_program, command_of, reads_listing, store_error, understood}
 use Rattle.sqlite.specs.Clock.{timed}
-use Rattle.sqlite.specs.Listing.{understood, reads_listing, IsSourceOf}
-use Rattle.sqlite.specs.State.{State, store_error, IsNoStatement, IsNotRun, FailsToShow, FailsToQuery}
-use Rattle.sqlite.proofs.Callers.{IsPlain, command_of}
-use Rattle.sqlite_resolve.specs.declared.compiled.Compiled.{Compiled}
 use Rattle.sqlite_resolve.specs.declared.error.CompileError.{CompileError}
 use Rattle.sqlite_schema.specs.declared.command.Returning.{Returning}
 use Rattle.mq_tables.specs.Written.{plain_query}

@@ -1,26 +1,15 @@
 -- What a write of one row makes of the records that a table holds.
 use Rattle.std.proofs.Common.{IsTrue, ap₂, subst₂, ◌≡◌, inl, inr, ℕ, ℤ, List, [], ◌∷◌, map, filter, drop, Bool, true, false, not, cond, true≢false, Ordering, Less, Equal, Greater, refl, sym, ap, subst, ◌∙◌}
-use Rattle.std.specs.List.{AllByRecursion}
-use Rattle.std.specs.List.Sorted.{IsPermutation}
+use Rattle.mq_tables.proofs.Words.{AllByRecursion, Has, Int, IsPermutation, IsPermutation-cons, IsPermutation-filter, IsPermutation-map, IsPermutation-middle, IsPermutation-refl, IsPermutation-sym, IsPermutation-trans, Row, all_weaker, filter-map, filter_all, filter_none, filter_same, has_rowid, id_in, is_taken, one_permutation, or_parts, put_row, rowid, value_cmp_total, without_rowid}
 use Rattle.std.specs.Ordering.{is_eq, match_ordering}
-use Rattle.std.proofs.lemmas.List.Sorted.{IsPermutation-refl, IsPermutation-sym, IsPermutation-cons, IsPermutation-map, IsPermutation-trans, IsPermutation-middle}
-use Rattle.std.proofs.lemmas.Bool.{or_parts}
-use Rattle.sqlite.specs.declared.types.Value.TheVariants.{Int}
-use Rattle.sqlite.specs.Order.{Row}
 use Rattle.sqlite_value.specs.Order.{value_cmp}
-use Rattle.sqlite.specs.Tree.{put_row, without_rowid, has_rowid, rowid}
-use Rattle.sqlite.specs.Edit.{is_taken, id_in}
 use Rattle.sqlite.specs.View.{is_int}
 use Rattle.sqlite_trees.proofs.TreeLemmas.{IsShaped-put_row, IsShaped-filter}
 use Rattle.std.proofs.lemmas.Cmp.{tied_itself}
-use Rattle.sqlite_value.proofs.OrderLemmas.{value_cmp_total}
 use Rattle.sqlite_trees.specs.declared.store.Shape.TheVariants.{Table}
-use Rattle.sqlite_trees.proofs.ListLemmas.{all_weaker, filter-map, filter_all, filter_same, filter_none, IsPermutation-filter}
-use Rattle.sqlite_rules.specs.Lists.{Has}
 use Rattle.sqlite_rules.proofs.ListLemmas.{all_has, has_filtered}
 use Rattle.sqlite_rules.proofs.PlaceLemmas.{tied_same}
 use Rattle.sqlite_rules.proofs.TableLemmas.{int_is}
-use Rattle.sqlite.proofs.Callers.{one_permutation}
 use Rattle.mq_tables.specs.Records.{Holds}
 
 equal_is : (o : Ordering) → is_eq o ≡ true → o ≡ Equal

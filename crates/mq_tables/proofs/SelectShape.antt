@@ -1,9 +1,6 @@
 -- A SELECT on one table by a conjunction of tests, with or without an order and a limit of one row, over any schema that has the table at some place.
 use Rattle.std.proofs.Common.{pos, negsuc, ◌≡◌, ◌≤◌, ℕ, ◌+◌, ◌-◌, ◌^◌, nat_le, ◌&&◌, List, [], ◌∷◌, ◌==◌, find, map, reverse, length, Bool, true, false, Option, Some, None, Ok, Err, codes, arith, refl, sym, ap, subst, ◌∙◌}
-use Rattle.std.specs.List.{list_all, position_from}
-use Rattle.std.proofs.lemmas.Bool.{and_parts, leb-true, lt-ltb}
-use Rattle.sqlite_trees.proofs.ListLemmas.{map-map}
-use Rattle.sqlite_ast.specs.declared.Expr.{Expr, roll-Expr, out-roll-Expr}
+use Rattle.mq_tables.proofs.Words.{Compiled, Context, Expr, Int, IsPlain, Name, Schema, Table, Term, accepts_program, and_parts, command_of, compiled, first, fresh, if_select, leb-true, list_all, listing_schema, lit, lt-ltb, map-map, max_budget, nothing, out-roll-Expr, planned, position_from, reads_listing, roll-Expr, same_name, understood, with_command}
 use Rattle.sqlite_ast.specs.declared.Expr.TheOpen.{Expr-F}
 use Rattle.sqlite_ast.specs.declared.Source.{Source, out-Source, roll-Source, out-roll-Source}
 use Rattle.sqlite_ast.specs.declared.Core.{Core, out-Core, roll-Core, out-roll-Core}
@@ -11,30 +8,18 @@ use Rattle.sqlite_ast.specs.declared.Select.{Select, out-Select, roll-Select, ou
 use Rattle.sqlite_ast.specs.declared.Sort.{Sort, out-Sort, roll-Sort, out-roll-Sort}
 use Rattle.sqlite_ast.specs.declared.Origin.TheVariants as origin
 use Rattle.sqlite_ast.specs.declared.Statement.TheVariants as written
-use Rattle.sqlite.specs.Schema.{Schema}
-use Rattle.sqlite.specs.Table.{Table}
 use Rattle.sqlite.specs.Query.{Query}
-use Rattle.sqlite.specs.declared.types.Value.TheVariants.{Int}
-use Rattle.sqlite_schema.specs.Names.{same_name}
-use Rattle.sqlite.specs.Term.{Term, lit}
 use Rattle.sqlite_value.specs.declared.keys.Collation.TheVariants.{Binary}
 use Rattle.sqlite_value.specs.declared.keys.Key.{Key}
 use Rattle.sqlite_draft.specs.declared.join.Step.TheVariants.{Inner}
 use Rattle.sqlite_resolve.specs.declared.scope.Output.{Output}
 use Rattle.sqlite_resolve.specs.declared.state.Carried.{Carried}
 use Rattle.sqlite_resolve.specs.declared.state.State.{State}
-use Rattle.sqlite_resolve.specs.Lowering.{fresh, max_budget, nothing}
-use Rattle.sqlite_resolve.specs.Scope.{Name, Context}
 use Rattle.sqlite_resolve.specs.Select.{outermost, inside}
 use Rattle.sqlite_resolve.specs.Body.{within, body, bounds, joins, tests, outputs_from}
 use Rattle.sqlite_resolve.specs.Expr.{lower}
-use Rattle.sqlite_resolve.specs.declared.compiled.Compiled.{Compiled}
 use Rattle.sqlite_resolve.specs.declared.error.CompileError.TheVariants.{NoSuchTable}
-use Rattle.sqlite_resolve.specs.Compile.{first, compiled, planned, with_command}
-use Rattle.sqlite_typing.specs.Types.{accepts_program}
 use Rattle.sqlite.specs.Command.TheVariants.{Select as Select'}
-use Rattle.sqlite.specs.Listing.{understood, if_select, listing_schema, reads_listing}
-use Rattle.sqlite.proofs.Callers.{IsPlain, command_of}
 use Rattle.mq_tables.specs.Places.{IsTableIn}
 use Rattle.mq_tables.specs.Written.{plain_query, latest_query}
 use Rattle.mq_tables.proofs.Plain.{parsed_in, IsQuery, IsBare, any_bare, any_apart}
@@ -109,6 +94,10 @@ sorted_fields (Some by) = by.column ∷ []
 abbrev are_known : Table → SelectShape → Bool
 are_known table shape = list_all (is_field table) shape.shown && (list_all (λ (t : Test). is_field table t.column) (reverse shape.tests) && list_all (is_field table) (sorted_fields shape.order))
 
+-- the types of the query's terms
+abbrev pub IsAccepted : SelectShape → Type 0
+IsAccepted shape = (s : Schema) (t : ℕ) → nat_le (2 ^ 31) t ≡ false → find (λ (x : Table). x.tree == t) s.tables ≡ Some (in_tree shape t) → accepts_program s [] (query_in shape t) [] ≡ true
+
 pub record IsSelect (text : List ℕ) (shape : SelectShape) : Type 0 where
   pub parsed : first text ≡ Ok (parsed_in (first text))
   pub statement : (parsed_in (first text)).statement ≡ written.Select (select_as shape)
@@ -116,10 +105,7 @@ pub record IsSelect (text : List ℕ) (shape : SelectShape) : Type 0 where
   pub unlisted : if_select (compiled listing_schema text) ≡ Err NoSuchTable
   pub known : (t : ℕ) → are_known (in_tree shape t) shape ≡ true
   pub short : nat_le (length shape.shown + nodes_of (reverse shape.tests) + depth_of (reverse shape.tests)) 600 ≡ true
-
--- the types of the query's terms
-abbrev pub IsAccepted : SelectShape → Type 0
-IsAccepted shape = (s : Schema) (t : ℕ) → nat_le (2 ^ 31) t ≡ false → find (λ (x : Table). x.tree == t) s.tables ≡ Some (in_tree shape t) → accepts_program s [] (query_in shape t) [] ≡ true
+  pub accepted : IsAccepted shape
 
 -- ---- what it means
 
@@ -177,7 +163,7 @@ module _ (text : List ℕ) (shape : SelectShape) (it : IsSelect text shape) wher
   short : length shape.shown + nodes_of (reverse shape.tests) + depth_of (reverse shape.tests) ≤ 600
   short = leb-true _ 600 it.short
 
-  module _ (accepted : IsAccepted shape) (s : Schema) (t : ℕ) (place : IsTableIn s shape.table t) where
+  module _ (s : Schema) (t : ℕ) (place : IsTableIn s shape.table t) where
     abbrev table : Table
     table = in_tree shape t
 
@@ -257,7 +243,7 @@ module _ (text : List ℕ) (shape : SelectShape) (it : IsSelect text shape) wher
     pub means : understood s text ≡ Ok (compiled_of text shape t)
     unfolding understood compiled
     means =
-        let accepts = subst (λ p. accepts_program s [] (paged t shape.table.key (filter_in shape) p shape.order) [] ≡ true) (sym project_is) (accepted s t place.stored place.found) in
+        let accepts = subst (λ p. accepts_program s [] (paged t shape.table.key (filter_in shape) p shape.order) [] ≡ true) (sym project_is) (it.accepted s t place.stored place.found) in
         let plan = plans shape.order (sorted shape) others_known.1 accepts in
         let plan' = subst (λ p. planned s (parsed_in (first text)) ≡ Ok ([], (Select' (record { lets = []; body = paged t shape.table.key (filter_in shape) p shape.order }) (names_in shape t), None))) project_is plan in
         rw it.parsed (rw plan')

@@ -1,37 +1,25 @@
 -- What a SELECT of this shape answers of the records: all that pass, or the first of them in the order.
 use Rattle.std.proofs.Common.{◌≡◌, ◌⊎◌, ℕ, ◌+◌, suc, ◌&&◌, List, [], ◌∷◌, drop, map, filter, reverse, Bool, Some, None, Ok, Err, Result, arith, refl, sym, ap, ap₂, subst, ◌∙◌}
-use Rattle.std.specs.Prelude.{Vec, IfOk, IfErr, OnOk}
-use Rattle.std.specs.declared.alloc.Global.{Global}
-use Rattle.std.specs.List.{AllByRecursion, list_all}
-use Rattle.std.specs.List.Sorted.{IsPermutation}
-use Rattle.std.proofs.lemmas.List.Sorted.{IsPermutation-trans, IsPermutation-sym}
-use Rattle.sqlite.specs.declared.types.Value.TheVariants.{Null}
-use Rattle.sqlite.specs.declared.error.Error.{Error}
-use Rattle.sqlite.specs.Order.{Row, column}
-use Rattle.sqlite.specs.Term.{Term, eval, eval_all, holds}
-use Rattle.sqlite.specs.Command.TheVariants.{Select}
-use Rattle.sqlite.specs.Listing.{understood}
+use Rattle.mq_tables.proofs.Words.{AllByRecursion, AnswerRecord, Database, Error, FailsToQuery, Global, HasCleanDisk, IfErr, IfOk, IsPermutation, IsPermutation-sym, IsPermutation-trans, IsTooLate, Null, Row, Select, Shown, State, Survives, Tables, Term, Vec, column, command_of, eval, eval_all, filter-map, holds, list_all, map-map, state, understood}
 use Rattle.sqlite.specs.declared.transaction.Transaction.{Transaction}
-use Rattle.sqlite.specs.Held.{state}
-use Rattle.sqlite.specs.State.{State, Shown, IsUnchanged, FailsToQuery, IsTooLate, HasCleanDisk, Survives}
-use Rattle.sqlite.proofs.Callers.{command_of}
 use Rattle.sqlite_sql.specs.Ops.{binary, is_true}
 use Rattle.sqlite_sql.specs.declared.ops.BinaryOp.TheVariants.{Compare}
 use Rattle.sqlite_resolve.specs.Terms.{conjuncts}
 use Rattle.sqlite_trees.specs.declared.store.Store.{Ghosts}
-use Rattle.sqlite_trees.proofs.ListLemmas.{map-map, filter-map}
 use Rattle.sqlite_value.specs.declared.keys.Collation.TheVariants.{Binary}
-use Rattle.mq_rows.specs.Tables.{Tables}
-use Rattle.mq_tables.specs.Inside.{LeavesCommit}
+use Rattle.mq_tables.specs.Inside.{Reads}
+use Rattle.mq_tables.specs.Ledger.{HasLedger}
 use Rattle.mq_tables.specs.Places.{IsTableIn}
-use Rattle.mq_tables.specs.Records.{Holds}
+use Rattle.mq_tables.specs.Records.{Holds, answer_fields}
+use Rattle.mq_tables.specs.Tables.{answer_table}
 use Rattle.mq_tables.specs.Written.{chosen}
 use Rattle.mq_tables.proofs.Chains.{all_joined}
 use Rattle.mq_tables.proofs.Queries.{asked_same, asked_keeps, selects, of_records}
 use Rattle.mq_tables.proofs.Firsts as firsts
+use Rattle.mq_tables.proofs.Parts.{Part}
 use Rattle.mq_tables.proofs.TermShape.Operand.{Parameter, One}
 use Rattle.mq_tables.proofs.TermShape.{Field, Test, Operand, operand_term, compare_of, shown_term, test_term, all_of, filter_of}
-use Rattle.mq_tables.proofs.SelectShape.{SelectShape, Sorting, IsSelect, IsAccepted, filter_in, shown_in, order_by, paged, names_in, bare, command_is, plain, apart}
+use Rattle.mq_tables.proofs.SelectShape.{SelectShape, Sorting, IsSelect, filter_in, shown_in, order_by, paged, names_in, bare, command_is, plain, apart}
 
 -- ---- a column that is no key is the same in a row without its rowid
 
@@ -72,85 +60,110 @@ module _ (params r : Row) where
   same_tests [] = refl
   same_tests (t ∷ more) = all_same (filter_of None (t ∷ more)) (each_same t more)
 
-module _ (text : List ℕ) (shape : SelectShape) (it : IsSelect text shape) where
-  pub shown_same : (params : Row) (old new : State) (outcome : Result (Vec Row Global) Error) → IfOk outcome (λ rows. Shown text params old new rows.items) → OnOk outcome (IsUnchanged old new)
-  shown_same params old new outcome = asked_same text params old new (bare text shape it old.now.schema) outcome
+-- ---- what is said of a query inside a transaction
 
-  pub shown_leaves : (params : Row) {S : Type 0} {store : Ghosts S} {old new : Transaction S} (outcome : Result (Vec Row Global) Error) → new.conn.ghost_name ≡ old.conn.ghost_name
+-- of what the rows that are shown of a store say
+abbrev pub Answering : List ℕ → Row → (Database → Vec Row Global → Type 0) → Type 1
+Answering text params Found = (old new : State) (outcome : Result (Vec Row Global) Error) → IfOk outcome (λ rows. Shown text params old new rows.items) → IfOk outcome (Found old.now)
+
+module _ (text : List ℕ) (shape : SelectShape) (it : IsSelect text shape) (params : Row) where
+  pub is_read : {S : Type 0} {store : Ghosts S} {old new : Transaction S} (outcome : Result (Vec Row Global) Error) {Found : Database → Vec Row Global → Type 0} → new.conn.ghost_name ≡ old.conn.ghost_name
       → (HasCleanDisk (state store new.conn.now) → IfOk outcome (λ rows. Shown text params (state store old.conn.now) (state store new.conn.now) rows.items))
       → (HasCleanDisk (state store new.conn.now) → IfErr outcome (λ e. FailsToQuery text params (state store old.conn.now) (state store new.conn.now) e ⊎ IsTooLate text params (state store old.conn.now) (state store new.conn.now) e))
-      → Survives (state store old.conn.now) (state store new.conn.now) (λ _. ⊥) → LeavesCommit store old new
-  shown_leaves params {S} {store} {old} {new} outcome same ok err survives = record {
-    same_reference = same;
-    kept = λ clean. asked_keeps text params (state store old.conn.now) (state store new.conn.now) (bare text shape it (state store old.conn.now).now.schema) outcome (ok clean) (err clean);
-    survives = survives;
-  }
+      → Survives (state store old.conn.now) (state store new.conn.now) (λ _. ⊥) → Answering text params Found → Reads store old new outcome Found
+  is_read {S} {store} {old} {new} outcome same ok err survives found =
+      let was = state store old.conn.now in
+      let is = state store new.conn.now in
+      let bare' = bare text shape it was.now.schema in
+      record {
+        leaves = record { same_reference = same; kept = λ clean. asked_keeps text params was is bare' outcome (ok clean) (err clean); survives = survives };
+        same = λ clean. asked_same text params was is bare' outcome (ok clean);
+        found = λ clean. found was is outcome (ok clean);
+      }
 
 -- ---- all that pass, in any order, or the first of them
 
-module _ (text : List ℕ) (shape : SelectShape) (it : IsSelect text shape) (accepted : IsAccepted shape) (params : Row) (old new : State) (t : ℕ) (place : IsTableIn old.now.schema shape.table t) (rows : List Row) (h : Shown text params old new rows) where
+module _ (text : List ℕ) (shape : SelectShape) (it : IsSelect text shape) (params : Row) (old new : State) (t : ℕ) (place : IsTableIn old.now.schema shape.table t) (rows : List Row) (h : Shown text params old new rows) where
   pub shows_rows : shape.order ≡ None → IsPermutation (chosen (filter_in shape) (shown_in shape) params (old.now.trees t)) rows
   shows_rows unordered =
       selects text params old new old.now.schema refl t (filter_in shape) (shown_in shape) (names_in shape t)
-      (subst (λ by. command_of (understood old.now.schema text) ≡ Select (record { lets = []; body = paged t shape.table.key (filter_in shape) (shown_in shape) by }) (names_in shape t)) unordered (command_is text shape it accepted old.now.schema t place))
-      (plain text shape it accepted old.now.schema t place) (apart text shape it accepted old.now.schema t place) (rw place.stored refl) rows h
+      (subst (λ by. command_of (understood old.now.schema text) ≡ Select (record { lets = []; body = paged t shape.table.key (filter_in shape) (shown_in shape) by }) (names_in shape t)) unordered (command_is text shape it old.now.schema t place))
+      (plain text shape it old.now.schema t place) (apart text shape it old.now.schema t place) (rw place.stored refl) rows h
 
-module _ {R : Type 0} (fields : R → Row) (text : List ℕ) (shape : SelectShape) (it : IsSelect text shape) (accepted : IsAccepted shape) (keyless : shape.table.key ≡ None) (params : Row) where
+-- whether a record passes, and what is shown of it
+
+abbrev pub pass : {R : Type 0} → (R → Row) → SelectShape → Row → R → Bool
+pass fields shape params = firsts.pass fields (filter_in shape) (shown_in shape) params
+
+abbrev pub show : {R : Type 0} → (R → Row) → SelectShape → Row → R → Row
+show fields shape params = firsts.show fields (filter_in shape) (shown_in shape) params
+
+module _ {R : Type 0} (fields : R → Row) (text : List ℕ) (shape : SelectShape) (it : IsSelect text shape) (keyless : shape.table.key ≡ None) (params : Row) where
   tied : (r : Row) → list_all (holds (params ∷ r ∷ [])) (filter_in shape) ≡ list_all (holds (params ∷ (Null ∷ drop 1 r) ∷ [])) (filter_in shape)
   tied r = subst (λ k. list_all (holds (params ∷ r ∷ [])) (filter_of k (reverse shape.tests)) ≡ list_all (holds (params ∷ (Null ∷ drop 1 r) ∷ [])) (filter_of k (reverse shape.tests))) (sym keyless) (same_tests params r (reverse shape.tests))
 
   shows : (r : Row) → eval_all (shown_in shape) (params ∷ r ∷ []) ≡ eval_all (shown_in shape) (params ∷ (Null ∷ drop 1 r) ∷ [])
   shows r = subst (λ k. eval_all (map (shown_term k) shape.shown) (params ∷ r ∷ []) ≡ eval_all (map (shown_term k) shape.shown) (params ∷ (Null ∷ drop 1 r) ∷ [])) (sym keyless) (same_shown params r shape.shown)
 
-  -- whether a record passes, and what is shown of it
-  abbrev pub pass : R → Bool
-  pass = firsts.pass fields (filter_in shape) (shown_in shape) params
-
-  abbrev pub show : R → Row
-  show = firsts.show fields (filter_in shape) (shown_in shape) params
-
   module _ (old new : State) (t : ℕ) (place : IsTableIn old.now.schema shape.table t) (rows : List Row) (h : Shown text params old new rows) (all : List R) where
-    pub shows_all : shape.order ≡ None → IsPermutation (map (drop 1) (old.now.trees t)) (map fields all) → IsPermutation (map show (filter pass all)) rows
+    pub shows_all : shape.order ≡ None → IsPermutation (map (drop 1) (old.now.trees t)) (map fields all) → IsPermutation (map (show fields shape params) (filter (pass fields shape params) all)) rows
     shows_all unordered held =
-        IsPermutation-trans _ _ _ (IsPermutation-sym _ _ (of_records fields (filter_in shape) (shown_in shape) params tied shows (old.now.trees t) all held)) (shows_rows text shape it accepted params old new t place rows h unordered)
+        IsPermutation-trans _ _ _ (IsPermutation-sym _ _ (of_records fields (filter_in shape) (shown_in shape) params tied shows (old.now.trees t) all held)) (shows_rows text shape it params old new t place rows h unordered)
 
     pub shows_first : (by : Sorting) → shape.order ≡ Some by → Holds 1 fields (old.now.trees t) all → firsts.IsFirstRow fields (filter_in shape) (shown_in shape) params (order_by shape.table.key by) t all rows
     shows_first by ordered held =
         firsts.shows_first fields (filter_in shape) (shown_in shape) params (order_by shape.table.key by) tied (λ r. ap₂ (λ a b. (a, b)) (sorted r) (shows r)) text (names_in shape t) old new t rows all
-        (subst (λ o. command_of (understood old.now.schema text) ≡ Select (record { lets = []; body = paged t shape.table.key (filter_in shape) (shown_in shape) o }) (names_in shape t)) ordered (command_is text shape it accepted old.now.schema t place))
-        (plain text shape it accepted old.now.schema t place) (apart text shape it accepted old.now.schema t place) place.stored held h
+        (subst (λ o. command_of (understood old.now.schema text) ≡ Select (record { lets = []; body = paged t shape.table.key (filter_in shape) (shown_in shape) o }) (names_in shape t)) ordered (command_is text shape it old.now.schema t place))
+        (plain text shape it old.now.schema t place) (apart text shape it old.now.schema t place) place.stored held h
       where
         sorted : (r : Row) → eval_all (shown_term shape.table.key by.column ∷ []) (params ∷ r ∷ []) ≡ eval_all (shown_term shape.table.key by.column ∷ []) (params ∷ (Null ∷ drop 1 r) ∷ [])
         sorted r = subst (λ k. eval_all (shown_term k by.column ∷ []) (params ∷ r ∷ []) ≡ eval_all (shown_term k by.column ∷ []) (params ∷ (Null ∷ drop 1 r) ∷ [])) (sym keyless) (same_shown params r (by.column ∷ []))
 
-  -- of ledgers that have these records in the table, all that pass are answered
-  pub finds_all : (old new : State) (test : R → Bool) → ((r : R) → pass r ≡ test r) → shape.order ≡ None → (of : Tables → List R) (Held : Tables → Type 0)
-      → ((t : Tables) → Held t → (tree : ℕ) × IsTableIn old.now.schema shape.table tree × IsPermutation (map (drop 1) (old.now.trees tree)) (map fields (of t)))
-      → (outcome : Result (Vec Row Global) Error) → IfOk outcome (λ rows. Shown text params old new rows.items) → IfOk outcome (λ rows. (t : Tables) → Held t → IsPermutation (map show (filter test (of t))) rows.items)
-  finds_all old new test decides unordered of Held at (Ok rows) h = λ t l.
-      let there = at t l in
-      subst (λ (p : R → Bool). IsPermutation (map show (filter p (of t))) rows.items) (λ i r. decides r i) (shows_all old new there.0 there.1 rows.items h (of t) unordered there.2)
-  finds_all old new test decides unordered of Held at (Err e) h = tt
+-- ---- of ledgers that have the records in the table
 
--- the same where the rows with their rowids are those of the records
+-- what is shown of each of these
+abbrev pub Finding : List ℕ → Row → (Database → Tables → Type 0) → (Tables → List Row → Type 0) → Type 1
+Finding text params IsIn Found = Answering text params (λ db rows. (t : Tables) → IsIn db t → Found t rows.items)
 
-module _ {R : Type 0} (fields : R → Row) (text : List ℕ) (shape : SelectShape) (it : IsSelect text shape) (accepted : IsAccepted shape) (params : Row) where
-  abbrev pub whole_pass : R → Bool
-  whole_pass r = list_all (holds (params ∷ fields r ∷ [])) (filter_in shape)
+module _ {R : Type 0} (text : List ℕ) (shape : SelectShape) (it : IsSelect text shape) (part : Part R shape.table) (params : Row) where
+  -- all that pass are answered
+  pub finds_all : (test : R → Bool) → ((r : R) → pass part.fields shape params r ≡ test r) → shape.order ≡ None → Finding text params part.IsIn (λ t rows. IsPermutation (map (show part.fields shape params) (filter test (part.records t))) rows)
+  finds_all test decides unordered old new (Ok rows) h = λ t l.
+      subst (λ (p : R → Bool). IsPermutation (map (show part.fields shape params) (filter p (part.records t))) rows.items) (λ i r. decides r i)
+      (shows_all part.fields text shape it part.keyless params old new (part.tree old.now t l) (part.place old.now t l) rows.items h (part.records t) unordered (part.holds old.now t l).same)
+  finds_all test decides unordered old new (Err e) h = tt
 
-  abbrev whole_show : R → Row
-  whole_show r = eval_all (shown_in shape) (params ∷ fields r ∷ [])
+  -- the first in an order is
+  pub finds_first : (by : Sorting) → shape.order ≡ Some by → (Found : List R → List Row → Type 0)
+      → ((t : ℕ) (all : List R) (rows : List Row) → firsts.IsFirstRow part.fields (filter_in shape) (shown_in shape) params (order_by shape.table.key by) t all rows → Found all rows)
+      → Finding text params part.IsIn (λ t rows. Found (part.records t) rows)
+  finds_first by ordered Found first old new (Ok rows) h = λ t l.
+      let tree = part.tree old.now t l in
+      first tree (part.records t) rows.items (shows_first part.fields text shape it part.keyless params old new tree (part.place old.now t l) rows.items h (part.records t) by ordered (part.holds old.now t l))
+  finds_first by ordered Found first old new (Err e) h = tt
 
-  chosen_of : (all : List R) → chosen (filter_in shape) (shown_in shape) params (map fields all) ≡ map whole_show (filter whole_pass all)
-  chosen_of all =
-      ap (map (λ r. eval_all (shown_in shape) (params ∷ r ∷ []))) (filter-map (λ r. list_all (holds (params ∷ r ∷ [])) (filter_in shape)) fields all)
-      ∙ map-map (λ r. eval_all (shown_in shape) (params ∷ r ∷ [])) fields (filter whole_pass all)
+-- the same of the answers, whose rows with their rowids are those of the records
 
-  pub finds_each : (old new : State) (test : R → Bool) → ((r : R) → whole_pass r ≡ test r) → shape.order ≡ None → (of : Tables → List R) (Held : Tables → Type 0)
-      → ((t : Tables) → Held t → (tree : ℕ) × IsTableIn old.now.schema shape.table tree × (old.now.trees tree ≡ map fields (of t)))
-      → (outcome : Result (Vec Row Global) Error) → IfOk outcome (λ rows. Shown text params old new rows.items) → IfOk outcome (λ rows. (t : Tables) → Held t → IsPermutation (map whole_show (filter test (of t))) rows.items)
-  finds_each old new test decides unordered of Held at (Ok rows) h = λ t l.
-      let there = at t l in
-      let are = ap (chosen (filter_in shape) (shown_in shape) params) there.2 ∙ chosen_of (of t) ∙ ap (λ (p : R → Bool). map whole_show (filter p (of t))) (λ i r. decides r i) in
-      subst (λ xs. IsPermutation xs rows.items) are (shows_rows text shape it accepted params old new there.0 there.1 rows.items h unordered)
-  finds_each old new test decides unordered of Held at (Err e) h = tt
+abbrev pub whole_pass : SelectShape → Row → AnswerRecord → Bool
+whole_pass shape params r = list_all (holds (params ∷ answer_fields r ∷ [])) (filter_in shape)
+
+abbrev whole_show : SelectShape → Row → AnswerRecord → Row
+whole_show shape params r = eval_all (shown_in shape) (params ∷ answer_fields r ∷ [])
+
+chosen_of : (shape : SelectShape) (params : Row) (all : List AnswerRecord) → chosen (filter_in shape) (shown_in shape) params (map answer_fields all) ≡ map (whole_show shape params) (filter (whole_pass shape params) all)
+chosen_of shape params all =
+    ap (map (λ r. eval_all (shown_in shape) (params ∷ r ∷ []))) (filter-map (λ r. list_all (holds (params ∷ r ∷ [])) (filter_in shape)) answer_fields all)
+    ∙ map-map (λ r. eval_all (shown_in shape) (params ∷ r ∷ [])) answer_fields (filter (whole_pass shape params) all)
+
+-- of the table of answers
+abbrev pub of_answers : List Field → List Test → SelectShape
+of_answers shown tests = record { table = answer_table; shown = shown; tests = tests; order = None }
+
+module _ (text : List ℕ) (shown : List Field) (tests : List Test) (it : IsSelect text (of_answers shown tests)) (params : Row) where
+  pub finds_answers : (test : AnswerRecord → Bool) → ((r : AnswerRecord) → whole_pass (of_answers shown tests) params r ≡ test r)
+      → Finding text params HasLedger (λ t rows. IsPermutation (map (whole_show (of_answers shown tests) params) (filter test t.answers)) rows)
+  finds_answers test decides old new (Ok rows) h = λ t l.
+      let shape = of_answers shown tests in
+      let are = ap (chosen (filter_in shape) (shown_in shape) params) l.holds.answers.rows ∙ chosen_of shape params t.answers ∙ ap (λ (p : AnswerRecord → Bool). map (whole_show shape params) (filter p t.answers)) (λ i r. decides r i) in
+      subst (λ xs. IsPermutation xs rows.items) are (shows_rows text shape it params old new l.at.answer l.tables.answer rows.items h refl)
+  finds_answers test decides old new (Err e) h = tt

@@ -1,15 +1,8 @@
 -- A query that returns nothing of a write writes nothing, whatever the store is.
 use Rattle.std.proofs.Common.{◌≡◌, ◌⊎◌, inl, inr, ℕ, List, [], IsSome, true≢false, Ok, Err, Result, sym, subst, ◌∙◌}
-use Rattle.std.specs.Prelude.{IsTrue, IfOk, IfErr, Vec}
-use Rattle.std.specs.declared.alloc.Global.{Global}
-use Rattle.sqlite.specs.Order.{Row}
-use Rattle.sqlite.specs.Tree.{Trees}
-use Rattle.sqlite.specs.declared.error.Error.{Error}
+use Rattle.mq_tables.proofs.Words.{CommitsShowing, Compiled, Error, FailsToQuery, FailsToShow, Global, HasCleanDisk, IsRolledBack, IsUnchanged, QueriesRow, Row, Schema, Shown, State, Survives, Trees, understood}
+use Rattle.std.specs.Prelude.{IsTrue, OnOk, IfOk, IfErr, Vec}
 use Rattle.sqlite.specs.Clock.{timed}
-use Rattle.sqlite.specs.State.{State, HasCleanDisk, Survives, QueriesRow, Shown, FailsToQuery, FailsToShow, IsUnchanged, IsRolledBack, CommitsShowing}
-use Rattle.sqlite.specs.Schema.{Schema}
-use Rattle.sqlite.specs.Listing.{understood}
-use Rattle.sqlite_resolve.specs.declared.compiled.Compiled.{Compiled}
 use Rattle.mq_tables.specs.Reading.{unlimited, Spares}
 use Rattle.mq_tables.proofs.Plain.{IsBare}
 use Rattle.mq_tables.proofs.Queries.{shown_same as same, not_run}
@@ -70,5 +63,6 @@ unfolding QueriesRow
 answers_open text bare old new row (inl h) = h.1.0.is_open
 answers_open text bare old new row (inr h) = (shown_same text bare old new h.0 h.1).0.is_open
 
-pub shows_open : (text : List ℕ) → AlwaysBare text → (old new : State) (rows : List Row) → Shown text [] old new rows → IsTrue new.is_open
-shows_open text bare old new rows h = (shown_same text bare old new rows h).0.is_open
+pub shows_open : (text : List ℕ) → AlwaysBare text → (old new : State) (answer : Result (Vec Row Global) Error) → IfOk answer (λ rows. Shown text [] old new rows.items) → OnOk answer (IsTrue new.is_open)
+shows_open text bare old new (Ok rows) h = (shown_same text bare old new rows.items h).0.is_open
+shows_open text bare old new (Err e) h = tt

@@ -1,47 +1,19 @@
 -- What one statement on a table of a known schema leaves, whatever the table is.
 use Rattle.std.proofs.Common.{◌≡◌, ◌⊎◌, inl, inr, ℕ, ◌/◌, List, [], ◌∷◌, length, slice_get, Bool, false, Option, Some, None, Ok, Err, Result, refl, sym, ap, subst, subst₂, ◌∙◌}
-use Rattle.std.specs.List.{AllByRecursion}
-use Rattle.std.specs.Ordering.{is_lt, int_cmp}
+use Rattle.mq_tables.proofs.Words.{Above, AllByRecursion, Applies, Chosen, Counts, CountsIn, CreateTable, Database, Does, Edit, Executes, Given, Gives, Insert, Inserts, IsPermutation, IsPlain, Null, OnRows, Row, Schema, State, Table, Tally, Task, Term, Trees, Update, WritesRows, Written, all_weaker, and_parts, command_of, count_of, created, edit_of, eval_all, higher, ids_of, int_cmp, is_lt, is_used, lacks_sequence, mode_of, next_tree, not-true, one_step, rowids_for, runs_as, sequence, stamped, statement_of, taken_by, understood, value_rows, with_rowid}
 use Rattle.std.specs.Prelude.{fold, MatchBool, ℤ, if◌then◌else◌}
-use Rattle.sqlite_trees.proofs.ListLemmas.{all_weaker}
-use Rattle.std.proofs.lemmas.Bool.{and_parts, not-true}
-use Rattle.sqlite.specs.Order.{Row}
-use Rattle.sqlite.specs.Term.{Term, eval_all}
-use Rattle.sqlite.specs.Table.{Table}
-use Rattle.sqlite.specs.Schema.{Schema}
 use Rattle.sqlite.specs.Source.TheVariants.{Values}
 use Rattle.sqlite.specs.Command.{Command}
-use Rattle.sqlite.specs.Command.TheVariants.{Insert, CreateTable}
 use Rattle.sqlite.specs.Cast.{cast_row}
-use Rattle.sqlite.specs.Edit.{Edit, edit_of, with_rowid, Applies}
-use Rattle.sqlite.specs.Rowids.TheVariants.{Chosen, Above}
-use Rattle.sqlite.specs.Tree.{Trees}
-use Rattle.sqlite.specs.Effect.{Database}
-use Rattle.sqlite.specs.Does.{Tally, Does, OnRows, WritesRows}
-use Rattle.sqlite.specs.Rows.{Written, Task, Gives, Inserts, Counts, CountsIn, rowids_for, count_of, sequence, higher}
 use Rattle.sqlite.specs.declared.run.Mode.{Mode}
-use Rattle.sqlite.specs.Listing.{understood}
-use Rattle.sqlite.specs.State.{State, mode_of, Executes}
-use Rattle.sqlite.proofs.Callers.{IsPlain, command_of, statement_of, runs_as, one_step}
 use Rattle.sqlite_rules.specs.Action.{works, Writes}
 use Rattle.sqlite_schema.specs.declared.schema.Keys.TheVariants.{Enforced}
-use Rattle.sqlite.specs.Effect.{value_rows}
-use Rattle.sqlite.specs.Rows.{stamped}
 use Rattle.sqlite.specs.State.{Writes as Writes'}
 use Rattle.sqlite.specs.Compile.{table_defined_by}
-use Rattle.sqlite.specs.Change.{created, next_tree}
-use Rattle.sqlite_catalog.specs.Change.{is_used}
-use Rattle.sqlite.specs.Does.{lacks_sequence}
 use Rattle.sqlite_schema.specs.declared.program.Program.{Program}
 use Rattle.sqlite_schema.specs.Program.{lets_of}
 use Rattle.sqlite.specs.Program.{overlay, IsProgramAnswer}
 use Rattle.sqlite.specs.Query.{IsAnswer}
-use Rattle.sqlite_rules.specs.Calls.{ids_of}
-use Rattle.std.specs.List.Sorted.{IsPermutation}
-use Rattle.sqlite.specs.Edit.{taken_by}
-use Rattle.sqlite.specs.Rowids.TheVariants.{Given}
-use Rattle.sqlite.specs.Command.TheVariants.{Update}
-use Rattle.sqlite.specs.declared.types.Value.TheVariants.{Null}
 use Rattle.mq_tables.proofs.Queries.{answer_rows}
 use Rattle.mq_tables.specs.Written.{Inserted, Updated, Created, plain_query, chosen}
 

@@ -1,20 +1,14 @@
 -- The terms of one statement on one table: the columns that it shows, and the tests of its WHERE, each of a column against a parameter or the number 1.
 use Rattle.std.proofs.Common.{pos, codes, not, ◌≡◌, ◌≤◌, ℕ, suc, ◌+◌, ◌-◌, ◌==◌, nat_lt, List, [], ◌∷◌, ◌++◌, map, length, Bool, true, false, ◌&&◌, Option, Some, None, Ok, slice_get, arith, append-nil, append_assoc, refl, sym, ap, ap₂, subst, ◌∙◌}
+use Rattle.mq_tables.proofs.Words.{Context, Expr, Int, Name, Table, Term, and_parts, col, column_named, declared, eqb-true, everything, is_key, list_all, lit, lt-ltb, op2, out-Expr, out-roll-Expr, roll-Expr}
 use Rattle.std.specs.Prelude.{if◌then◌else◌, unwrap_or, option_map}
-use Rattle.std.specs.List.{list_all}
-use Rattle.std.proofs.lemmas.Bool.{and_parts, lt-ltb, eqb-true}
-use Rattle.sqlite_ast.specs.declared.Expr.{Expr, out-Expr, roll-Expr, out-roll-Expr}
 use Rattle.sqlite_ast.specs.declared.Expr.TheOpen.{Expr-F, Shown-F}
 use Rattle.sqlite_ast.specs.declared.Shown.{Shown, roll-Shown, out-roll-Shown}
 use Rattle.sqlite_ast.specs.declared.Binary.{Binary as Sign}
 use Rattle.sqlite_ast.specs.declared.Binary.TheVariants as sign
-use Rattle.sqlite.specs.Table.{Table}
-use Rattle.sqlite.specs.Term.{Term, lit, col, op2}
-use Rattle.sqlite.specs.declared.types.Value.TheVariants.{Int}
 use Rattle.sqlite_schema.specs.declared.schema.Column.{Column}
 use Rattle.sqlite_schema.specs.declared.schema.Kind.{Kind}
 use Rattle.sqlite_schema.specs.declared.schema.Kind.TheVariants as kind
-use Rattle.sqlite_schema.specs.Names.{column_named, is_key}
 use Rattle.sqlite_value.specs.declared.keys.Collation.{Collation}
 use Rattle.sqlite_value.specs.declared.keys.Collation.TheVariants.{Binary}
 use Rattle.sqlite_value.specs.declared.keys.Collation.TheVariants as collation
@@ -28,12 +22,10 @@ use Rattle.sqlite_resolve.specs.declared.scope.Output.{Output}
 use Rattle.sqlite_resolve.specs.declared.state.Carried.{Carried}
 use Rattle.sqlite_resolve.specs.declared.state.State.{State}
 use Rattle.sqlite_resolve.specs.Lowering.{nothing, chosen, alone, first_found}
-use Rattle.sqlite_resolve.specs.Scope.{Name, Context, declared}
 use Rattle.sqlite_resolve.specs.Body.{outputs_from, tests, shown as shown_in}
 use Rattle.sqlite_resolve.specs.Expr.{lower, lower_to}
 use Rattle.sqlite_resolve.specs.Terms.{conjuncts}
 use Rattle.sqlite_resolve.specs.Literal.{integer}
-use Rattle.sqlite_tied.specs.Compute.{everything}
 use Rattle.sqlite_resolve.specs.Compare.{compared, affinity_of, of_column, converted, may_be_text, of_kind, of_declared, is_filler}
 use Rattle.mq_tables.proofs.Selecting.{column_shown, column_lowered, parameter_lowered, integer_lowered, and_lowered, equal_lowered, most_lowered, least_lowered, tested, outputs_next}
 

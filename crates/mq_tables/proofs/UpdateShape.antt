@@ -1,37 +1,18 @@
 -- An UPDATE of some columns by a conjunction of tests, over any schema that has the table at some place, where one row alone passes.
 use Rattle.std.proofs.Common.{append-nil, ◌≡◌, ◌≤◌, ℕ, ℤ, ◌+◌, ◌-◌, ◌^◌, nat_le, List, [], ◌∷◌, ◌++◌, ◌==◌, find, drop, map, reverse, length, Bool, true, false, Option, Some, None, Ok, Err, arith, append_assoc, refl, sym, ap, ap₂, subst, ◌∙◌}
-use Rattle.std.specs.List.{AllByRecursion, list_all}
-use Rattle.std.specs.List.Sorted.{IsPermutation}
-use Rattle.std.proofs.lemmas.Bool.{and_parts, not-true, leb-true, lt-ltb}
-use Rattle.sqlite_ast.specs.declared.Expr.{Expr, out-roll-Expr}
+use Rattle.mq_tables.proofs.Words.{AllByRecursion, Checked, Context, Edit, Executes, Expr, Given, Int, IsPermutation, IsPlain, Name, Null, Row, Schema, Table, Term, Trees, Update, accepts_program, and_parts, and_then, are_fresh, col, command_of, edit_of, edited, eval_all, first, holds, id_in, ids_of, leb-true, left_by, list_all, lt-ltb, max_budget, not-true, nothing, one_permutation, out-roll-Expr, put_row, rowid, stamped, understood, without_rowid}
 use Rattle.sqlite_ast.specs.declared.Statement.TheVariants as written
-use Rattle.sqlite.specs.Schema.{Schema}
-use Rattle.sqlite.specs.Table.{Table}
-use Rattle.sqlite.specs.Order.{Row}
-use Rattle.sqlite.specs.declared.types.Value.TheVariants.{Null, Int}
-use Rattle.sqlite.specs.Term.{Term, col, eval_all, holds}
-use Rattle.sqlite.specs.Tree.{Trees, put_row, rowid, without_rowid}
-use Rattle.sqlite.specs.Edit.{Edit, edit_of, edited, left_by, id_in, are_fresh}
-use Rattle.sqlite.specs.Rowids.TheVariants.{Given}
-use Rattle.sqlite.specs.Rows.{stamped}
-use Rattle.sqlite.specs.Command.TheVariants.{Update}
-use Rattle.sqlite_rules.specs.Calls.{ids_of}
-use Rattle.sqlite.specs.State.{Executes}
 use Rattle.sqlite.specs.State as state
 use Rattle.sqlite_draft.specs.declared.join.Step.TheVariants.{Inner}
-use Rattle.sqlite_resolve.specs.Lowering.{Checked, and_then, max_budget, nothing}
-use Rattle.sqlite_resolve.specs.Scope.{Name, Context}
 use Rattle.sqlite_resolve.specs.Write.{over, sets_from, places_from, with_place, row, simple, updated}
-use Rattle.sqlite_resolve.specs.Compile.{first}
-use Rattle.sqlite_typing.specs.Types.{accepts_program}
-use Rattle.sqlite.specs.Listing.{understood}
-use Rattle.sqlite.proofs.Callers.{IsPlain, command_of, one_permutation}
+use Rattle.mq_rows.specs.declared.plan.Write.TheVariants as write
 use Rattle.mq_tables.specs.Places.{IsTableIn, IsUnreferred}
 use Rattle.mq_tables.specs.Records.{Holds}
 use Rattle.mq_tables.specs.Written.{plain_query, chosen as chosen_rows, Updated}
 use Rattle.mq_tables.specs.Updates.{HasSet}
+use Rattle.mq_tables.proofs.Parts.{Part, Rewrites, Executing}
 use Rattle.mq_tables.proofs.Plain.{parsed_in}
-use Rattle.mq_tables.proofs.RowFacts.{only, keyed_row, holds_set}
+use Rattle.mq_tables.proofs.RowFacts.{only, keyed_row, holds_set, held_so}
 use Rattle.mq_tables.proofs.Selecting.{parameter_lowered}
 use Rattle.mq_tables.proofs.Selected.{same_tests}
 use Rattle.mq_tables.proofs.Statements.{updates}
@@ -61,6 +42,10 @@ abbrev pub values_from : ℕ → List Name → List Term
 values_from n [] = []
 values_from n (name ∷ names) = col 0 (n - 1) ∷ values_from (n + 1) names
 
+-- the types of the terms
+abbrev pub IsAccepted : UpdateShape → Type 0
+IsAccepted shape = (s : Schema) (t : ℕ) → nat_le (2 ^ 31) t ≡ false → find (λ (x : Table). x.tree == t) s.tables ≡ Some (in_tree shape t) → accepts_program s [] (plain_query t (tests_in shape) shape.row) [] ≡ true
+
 pub record IsUpdateOf (text : List ℕ) (shape : UpdateShape) : Type 0 where
   pub parsed : first text ≡ Ok (parsed_in (first text))
   pub statement : (parsed_in (first text)).statement ≡ written.Update shape.table.name (sets_as 1 shape.sets) (filter_as (reverse shape.tests)) []
@@ -71,10 +56,7 @@ pub record IsUpdateOf (text : List ℕ) (shape : UpdateShape) : Type 0 where
   pub short : nat_le (length shape.sets + nodes_of (reverse shape.tests) + depth_of (reverse shape.tests)) 600 ≡ true
   pub uncounted : shape.table.is_counted ≡ false
   pub timeless : (params : Row) → stamped shape.table params ≡ params
-
--- the types of the terms
-abbrev pub IsAccepted : UpdateShape → Type 0
-IsAccepted shape = (s : Schema) (t : ℕ) → nat_le (2 ^ 31) t ≡ false → find (λ (x : Table). x.tree == t) s.tables ≡ Some (in_tree shape t) → accepts_program s [] (plain_query t (tests_in shape) shape.row) [] ≡ true
+  pub accepted : IsAccepted shape
 
 -- ---- what it means
 
@@ -99,7 +81,7 @@ module _ (cx : Context) (table : Table) where
           set_next cx table (done, terms) name (parameter_as n) (sets_as (n + 1) names) longer (col 0 (n - 1)) (state_of budget nothing) (state_of (budget - 1) nothing) _ at one (deeper longer placed')
           ∙ ap₂ (λ xs b. Ok ((all, xs), state_of b nothing)) (append_assoc terms (col 0 (n - 1) ∷ []) (values_from (n + 1) names)) left
 
-module _ (text : List ℕ) (shape : UpdateShape) (it : IsUpdateOf text shape) (accepted : IsAccepted shape) (s : Schema) (t : ℕ) (place : IsTableIn s shape.table t) where
+module _ (text : List ℕ) (shape : UpdateShape) (it : IsUpdateOf text shape) (s : Schema) (t : ℕ) (place : IsTableIn s shape.table t) where
   short : length shape.sets + nodes_of (reverse shape.tests) + depth_of (reverse shape.tests) ≤ 600
   short = leb-true _ 600 it.short
 
@@ -127,20 +109,20 @@ module _ (text : List ℕ) (shape : UpdateShape) (it : IsUpdateOf text shape) (a
 
   means_update : (command_of (understood s text) ≡ Update place.at (record { lets = []; body = plain_query t (tests_in shape) shape.row })) × IsPlain (understood s text)
   means_update =
-      let is = understood_update text it.parsed update s place.at (in_tree shape t) (simple (Inner t ∷ []) (tests_in shape) shape.row) place.named place.there updated_so (accepted s t place.stored place.found) in
+      let is = understood_update text it.parsed update s place.at (in_tree shape t) (simple (Inner t ∷ []) (tests_in shape) shape.row) place.named place.there updated_so (it.accepted s t place.stored place.found) in
       (ap command_of is, subst IsPlain (sym is) (refl, refl))
 
-module _ (text : List ℕ) (shape : UpdateShape) (it : IsUpdateOf text shape) (accepted : IsAccepted shape) (params : Row) (old new : state.State) (t : ℕ) (place : IsTableIn old.now.schema shape.table t) where
+module _ (text : List ℕ) (shape : UpdateShape) (it : IsUpdateOf text shape) (params : Row) (old new : state.State) (t : ℕ) (place : IsTableIn old.now.schema shape.table t) where
   pub made : IsUnreferred old.now.schema t → (count : ℕ) → Executes text params old new (Ok count) → Updated old.now.schema (in_tree shape t) (tests_in shape) shape.row params old new
   made apart count h =
       let s = old.now.schema in
-      let means = means_update text shape it accepted s t place in
+      let means = means_update text shape it s t place in
       updates text params old new s refl place.at (in_tree shape t) (record { place = place.there; uncounted = it.uncounted; timeless = it.timeless; unreferred = nothing_acts s t apart [] })
       (nothing_acts s t apart) (record { lets = []; body = plain_query t (tests_in shape) shape.row }) (tests_in shape) shape.row means.0 (refl, refl) means.1 (rw place.stored) count h
 
 -- ---- what it leaves of the records
 
-module _ {R : Type 0} (fields : R → Row) (same : R → R → Bool) (set : R → R → R) (params : R → Row) (text : List ℕ) (shape : UpdateShape) (it : IsUpdateOf text shape) (accepted : IsAccepted shape) (keyless : shape.table.key ≡ None) (r : R) where
+module _ {R : Type 0} (fields : R → Row) (same : R → R → Bool) (set : R → R → R) (params : R → Row) (text : List ℕ) (shape : UpdateShape) (it : IsUpdateOf text shape) (keyless : shape.table.key ≡ None) (r : R) where
   -- whether a row of these fields passes
   abbrev pub test : Row → Bool
   test c = list_all (holds (params r ∷ (Null ∷ c) ∷ [])) (tests_in shape)
@@ -174,5 +156,26 @@ module _ {R : Type 0} (fields : R → Row) (same : R → R → Bool) (set : R �
 
     pub set_so : IsUnreferred old.now.schema t → (count : ℕ) → Executes text (params r) old new (Ok count) → HasSet (Holds 1 fields) same set r t old.now new.now
     set_so apart count h =
-        let done = made text shape it accepted (params r) old new t place apart count h in
+        let done = made text shape it (params r) old new t place apart count h in
         record { sound = done.sound; schema = done.schema_is; rows = sets_row done; others = done.tables }
+
+-- ---- a record of a table whose rows are records in any order
+
+module _ {R : Type 0} (same : R → R → Bool) (set : R → R → R) (params : R → Row) (text : List ℕ) (shape : UpdateShape) (it : IsUpdateOf text shape) (part : Part R shape.table) where
+  -- the record of the key passes alone
+  abbrev pub Decides : Type 0
+  Decides = (r was : R) → test part.fields same set params text shape it part.keyless r (part.fields was) ≡ same r was
+
+  -- the one row is replaced by that with the new fields
+  abbrev pub Edits : Type 0
+  Edits = (r : R) (db : Trees) (t : ℕ) (was : R) (id : ℤ) (hits : List Row) → hits ≡ eval_all shape.row (params r ∷ (Int id ∷ part.fields was) ∷ []) ∷ []
+      → edit_of db (in_tree shape t) (ids_of hits) Given 1 hits ≡ record { table = in_tree shape t; gone = id ∷ []; news = (Int id ∷ part.fields (set r was)) ∷ [] }
+
+  pub updates_record : Decides → Edits → Executing text params (λ r. Rewrites part same set (write.Update r))
+  updates_record decides edits r (Err e) old new h = (tt, tt)
+  updates_record decides edits r (Ok count) old new h = (
+    h.1.mode,
+    λ t l was rest held hit apart.
+        let done = set_so part.fields same set params text shape it part.keyless r (decides r) (edits r) old new (part.tree old.now t l) (part.place old.now t l) (part.alone old.now t l) count h.0 in
+        part.changed old.now new.now t l done.schema done.sound done.others (set r was ∷ rest) (done.rows was rest (held_so part.fields _ (part.records t) (was ∷ rest) (part.holds old.now t l) held) hit apart),
+  )

@@ -1,18 +1,11 @@
 -- UPDATE of a table that the schema has at some place.
 use Rattle.std.proofs.Common.{◌≡◌, ℕ, List, [], ◌∷◌, ◌++◌, true, false, Option, Some, None, Ok, find, ◌==◌, refl}
+use Rattle.mq_tables.proofs.Words.{Compiled, Context, Expr, Name, Parsed, Row, Schema, Table, Term, Update, accepts_program, col, command, compiled, first, fresh, max_budget, meaning, planned, returning, same_name, shows, table_named, timed, understood, update, with_command}
 use Rattle.std.specs.Prelude.{slice_get}
 use Rattle.std.specs.List.{AllByRecursion, flat_map, filter_map}
-use Rattle.sqlite_ast.specs.declared.Expr.{Expr}
 use Rattle.sqlite_ast.specs.declared.Statement.TheVariants as written
-use Rattle.sqlite_syntax.specs.declared.statement.Parsed.{Parsed}
-use Rattle.sqlite.specs.Schema.{Schema}
-use Rattle.sqlite.specs.Table.{Table}
-use Rattle.sqlite.specs.Order.{Row}
-use Rattle.sqlite.specs.Term.{Term, col}
-use Rattle.sqlite.specs.Command.TheVariants.{Update}
 use Rattle.sqlite_schema.specs.declared.schema.Keys.TheVariants.{Enforced}
 use Rattle.sqlite_schema.specs.declared.schema.Reference.{Reference}
-use Rattle.sqlite_schema.specs.Names.{table_named, same_name}
 use Rattle.sqlite_schema.specs.Rules.{ParentKey, parent_key, key_in, key_places, declared_order}
 use Rattle.sqlite_value.specs.declared.keys.Order.{Order}
 use Rattle.std.specs.Prelude.{option_map, option_and_then, length}
@@ -21,18 +14,12 @@ use Rattle.sqlite_rules.specs.declared.action.Deed.{Deed}
 use Rattle.sqlite_draft.specs.declared.join.Step.TheVariants.{Inner}
 use Rattle.sqlite_draft.specs.declared.query.Draft.{Draft}
 use Rattle.sqlite_draft.specs.Query.{query_of}
-use Rattle.sqlite_typing.specs.Types.{accepts_program}
 use Rattle.sqlite_resolve.specs.declared.state.State.{State}
-use Rattle.sqlite_resolve.specs.declared.compiled.Compiled.{Compiled}
-use Rattle.sqlite_resolve.specs.Lowering.{fresh, max_budget}
-use Rattle.sqlite_resolve.specs.Scope.{Name, Context}
 use Rattle.sqlite_resolve.specs.Body.{tests}
 use Rattle.sqlite_resolve.specs.Expr.{lower}
 use Rattle.sqlite_resolve.specs.Program.{program}
 use Rattle.sqlite_resolve.specs.Reach.{any_scans}
 use Rattle.sqlite_resolve.specs.Write.{over, sets, sets_from, with_place, assigned, picked, row, simple, updated_in, updated}
-use Rattle.sqlite_resolve.specs.Compile.{first, compiled, planned, meaning, returning, timed, command, update, shows, with_command}
-use Rattle.sqlite.specs.Listing.{understood}
 use Rattle.mq_tables.specs.Places.{refers, is_tree, IsUnreferred}
 use Rattle.mq_tables.proofs.Plain.{parsed_in}
 

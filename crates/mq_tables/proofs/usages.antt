@@ -1,5 +1,3 @@
-pub mod Reads
-pub mod Writes
 pub mod Days
 pub mod Earliest
 pub mod Following

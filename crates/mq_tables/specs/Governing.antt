@@ -1,10 +1,10 @@
 -- What is read of the limits of a login.
-use Rattle.std.specs.Prelude.{◌≡◌, ℕ, pos, List, [], ◌∷◌, Option, Some, None}
+use Rattle.std.specs.Prelude.{◌≡◌, ℕ, pos, List, [], ◌∷◌, Option}
 use Rattle.sqlite.specs.Order.{Row, column}
 use Rattle.sqlite.specs.declared.types.Value.TheVariants.{Int}
 use Rattle.mq_rows.specs.declared.record.LimitRecord.{LimitRecord}
 use Rattle.mq_rows.specs.Found.{IsGoverning}
-use Rattle.mq_tables.specs.Records.{IsFirstBy}
+use Rattle.mq_tables.specs.Records.{IsFirstBy, IsShownOne}
 
 -- what a query for limits shows
 abbrev pub limit_row : LimitRecord → Row
@@ -12,9 +12,7 @@ limit_row c = Int (pos c.day) ∷ Int (pos c.cap) ∷ []
 
 -- none is due, or the one row shows the latest
 abbrev pub IsGoverningShown : List ℕ → ℕ → List LimitRecord → List Row → Type 0
-IsGoverningShown login day all [] = IsGoverning login day all None
-IsGoverningShown login day all (row ∷ more) =
-    (c : LimitRecord) × IsGoverning login day all (Some c) × (row ≡ limit_row c)
+IsGoverningShown login day = IsShownOne (IsGoverning login day) limit_row
 
 -- what the row of a limit of that login shows
 pub record IsLimitShown (l : List ℕ) (row : Row) (c : LimitRecord) : Type 0 where

@@ -129,6 +129,14 @@ pub record HasStarted (table : Table) (row : Row) (old new : State) : Type 0 whe
   pub others : AllByRecursion (λ t. new.now.trees t.tree ≡ old.now.trees t.tree) old.now.schema.tables
   pub counters : lacks_sequence new.now.schema ≡ false
 
+-- The same of what was begun where each table with AUTOINCREMENT had the table that counts for it.
+
+abbrev pub StartsTable : Table → Row → State → State → Type 0
+StartsTable table row old new = HasCounters old → HasStarted table row old new
+
+abbrev pub AddsTables : List Table → State → State → Type 0
+AddsTables tables old new = HasCounters old → HasAdded tables old new
+
 -- the rule is put into its table, where there is one
 abbrev pub PutsAny : Option (List ℕ) → State → State → Type 0
 PutsAny None old new = IsTrue new.in_transaction × (new.now ≡ old.now)

@@ -1,10 +1,10 @@
 -- What is read of the rows of a day.
-use Rattle.std.specs.Prelude.{◌≡◌, ℕ, pos, List, [], ◌∷◌, ◌++◌, Option, Some, None}
+use Rattle.std.specs.Prelude.{◌≡◌, ℕ, pos, List, [], ◌∷◌, ◌++◌, Option}
 use Rattle.sqlite.specs.Order.{Row, column}
 use Rattle.sqlite.specs.declared.types.Value.TheVariants.{Int, Blob}
 use Rattle.mq_rows.specs.declared.record.UsageRecord.{UsageRecord}
 use Rattle.mq_rows.specs.Listing.{IsNext}
-use Rattle.mq_tables.specs.Records.{IsFirstBy}
+use Rattle.mq_tables.specs.Records.{IsFirstBy, IsShownOne}
 
 -- the least text above that one in byte order
 abbrev pub just_above : List ℕ → List ℕ
@@ -20,8 +20,7 @@ next_row u = Blob u.login ∷ Int (pos u.settled) ∷ Int (pos u.reserved) ∷ [
 
 -- none is above, or the one row shows the next
 abbrev pub IsNextShown : ℕ → List ℕ → List UsageRecord → List Row → Type 0
-IsNextShown day after all [] = IsNext day after all None
-IsNextShown day after all (row ∷ more) = (u : UsageRecord) × IsNext day after all (Some u) × (row ≡ next_row u)
+IsNextShown day after = IsShownOne (IsNext day after) next_row
 
 -- what a row of that day shows
 pub record IsOfDayShown (d : ℕ) (row : Row) (u : UsageRecord) : Type 0 where

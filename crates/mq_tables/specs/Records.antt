@@ -75,3 +75,8 @@ IsOneOf test all (Some r) = Has all r × (test r ≡ true)
 abbrev pub IsFirstBy : {R : Type 0} → (Row → R → Type 0) → List Row → Option R → Type 0
 IsFirstBy Shows rows None = rows ≡ []
 IsFirstBy Shows rows (Some r) = (row : Row) × (more : List Row) × (rows ≡ row ∷ more) × Shows row r
+
+-- nothing is shown, or in one row the one that it is
+abbrev pub IsShownOne : {R A : Type 0} → (List R → Option A → Type 0) → (A → Row) → List R → List Row → Type 0
+IsShownOne Is show all [] = Is all None
+IsShownOne {R} {A} Is show all (row ∷ more) = (a : A) × Is all (Some a) × (row ≡ show a)

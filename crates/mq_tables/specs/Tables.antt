@@ -1,6 +1,6 @@
 -- The tables as the schema has them.
 use Rattle.sqlite.specs.Collation.TheVariants.{Binary}
-use Rattle.std.specs.Prelude.{true, false, [], ◌∷◌, Some, None, codes, List, ℕ}
+use Rattle.std.specs.Prelude.{true, false, [], ◌∷◌, Option, Some, None, codes, List, ℕ, map}
 use Rattle.sqlite.specs.declared.types.Value.TheVariants.{Null}
 use Rattle.sqlite.specs.Table.{Table}
 use Rattle.sqlite.specs.Kind.{Kind}
@@ -18,132 +18,70 @@ abbrev pub keyed : List ℕ → Column
 keyed name =
     record { name = name; kind = Integer; is_strict = true; not_null = false; default = Null; collation = Binary }
 
--- one row: what the ledger was made with, and how many answers it has
-abbrev pub setting_table : Table
-setting_table = record {
-  name = codes "setting";
+-- a table of these columns, of which none has a CHECK, refers to another table or is computed
+abbrev pub made_of : List ℕ → List Column → Option ℕ → List ℕ → List (List ℕ) → Table
+made_of name columns key primary uniques = record {
+  name = name;
   tree = 0;
-  columns =
-      keyed (codes "id") ∷ required (codes "version") Integer ∷ required (codes "minutes") Integer ∷
-      required (codes "cap") Integer ∷ required (codes "arrivals") Integer ∷ [];
-  key = Some 0;
-  primary = 0 ∷ [];
-  uniques = [];
-  orders = [];
+  columns = columns;
+  key = key;
+  primary = primary;
+  uniques = uniques;
+  orders = map (λ _. plain) uniques;
   checks = [];
   references = [];
   computed = [];
   stamps = record { places = []; terms = []; formats = [] };
   is_counted = false;
 }
+
+-- one row: what the ledger was made with, and how many answers it has
+abbrev pub setting_table : Table
+setting_table =
+    made_of (codes "setting")
+    (keyed (codes "id") ∷ required (codes "version") Integer ∷ required (codes "minutes") Integer ∷
+    required (codes "cap") Integer ∷ required (codes "arrivals") Integer ∷ []) (Some 0) (0 ∷ []) []
 
 -- a row for each entry of the history, by its place, and by the number of its request
 abbrev pub answer_table : Table
-answer_table = record {
-  name = codes "answer";
-  tree = 0;
-  columns =
-      keyed (codes "n") ∷ required (codes "host") Blob ∷ required (codes "run") Integer ∷
-      required (codes "seq") Integer ∷ required (codes "request") Blob ∷
-      required (codes "reply") Blob ∷ [];
-  key = Some 0;
-  primary = 0 ∷ [];
-  uniques = (2 ∷ 3 ∷ 4 ∷ []) ∷ [];
-  orders = plain ∷ [];
-  checks = [];
-  references = [];
-  computed = [];
-  stamps = record { places = []; terms = []; formats = [] };
-  is_counted = false;
-}
+answer_table =
+    made_of (codes "answer")
+    (keyed (codes "n") ∷ required (codes "host") Blob ∷ required (codes "run") Integer ∷
+    required (codes "seq") Integer ∷ required (codes "request") Blob ∷
+    required (codes "reply") Blob ∷ []) (Some 0) (0 ∷ []) ((2 ∷ 3 ∷ 4 ∷ []) ∷ [])
 
 -- a row for each transaction, by host, run and number
 abbrev pub trans_table : Table
-trans_table = record {
-  name = codes "trans";
-  tree = 0;
-  columns =
-      required (codes "host") Blob ∷ required (codes "run") Integer ∷ required (codes "txn") Integer ∷
-      required (codes "login") Blob ∷ required (codes "moment") Integer ∷
-      required (codes "day") Integer ∷ required (codes "held") Integer ∷
-      required (codes "settled") Integer ∷ required (codes "closed") Integer ∷ [];
-  key = None;
-  primary = 1 ∷ 2 ∷ 3 ∷ [];
-  uniques = (1 ∷ 2 ∷ 3 ∷ []) ∷ [];
-  orders = plain ∷ [];
-  checks = [];
-  references = [];
-  computed = [];
-  stamps = record { places = []; terms = []; formats = [] };
-  is_counted = false;
-}
+trans_table =
+    made_of (codes "trans")
+    (required (codes "host") Blob ∷ required (codes "run") Integer ∷ required (codes "txn") Integer ∷
+    required (codes "login") Blob ∷ required (codes "moment") Integer ∷
+    required (codes "day") Integer ∷ required (codes "held") Integer ∷
+    required (codes "settled") Integer ∷ required (codes "closed") Integer ∷ [])
+    None (1 ∷ 2 ∷ 3 ∷ []) ((1 ∷ 2 ∷ 3 ∷ []) ∷ [])
 
 -- a row for each login and day with a granted reserve
 abbrev pub usage_table : Table
-usage_table = record {
-  name = codes "usage";
-  tree = 0;
-  columns =
-      required (codes "login") Blob ∷ required (codes "day") Integer ∷
-      required (codes "settled") Integer ∷ required (codes "reserved") Integer ∷ [];
-  key = None;
-  primary = 1 ∷ 2 ∷ [];
-  uniques = (1 ∷ 2 ∷ []) ∷ [];
-  orders = plain ∷ [];
-  checks = [];
-  references = [];
-  computed = [];
-  stamps = record { places = []; terms = []; formats = [] };
-  is_counted = false;
-}
+usage_table =
+    made_of (codes "usage")
+    (required (codes "login") Blob ∷ required (codes "day") Integer ∷
+    required (codes "settled") Integer ∷ required (codes "reserved") Integer ∷ [])
+    None (1 ∷ 2 ∷ []) ((1 ∷ 2 ∷ []) ∷ [])
 
 -- a row for each login and from-day of a limit that was set
 abbrev pub ceiling_table : Table
-ceiling_table = record {
-  name = codes "ceiling";
-  tree = 0;
-  columns = required (codes "login") Blob ∷ required (codes "day") Integer ∷ required (codes "cap") Integer ∷ [];
-  key = None;
-  primary = 1 ∷ 2 ∷ [];
-  uniques = (1 ∷ 2 ∷ []) ∷ [];
-  orders = plain ∷ [];
-  checks = [];
-  references = [];
-  computed = [];
-  stamps = record { places = []; terms = []; formats = [] };
-  is_counted = false;
-}
+ceiling_table =
+    made_of (codes "ceiling")
+    (required (codes "login") Blob ∷ required (codes "day") Integer ∷ required (codes "cap") Integer ∷ [])
+    None (1 ∷ 2 ∷ []) ((1 ∷ 2 ∷ []) ∷ [])
 
 -- one row with the zone rule, or none with an offset
 abbrev pub rule_table : Table
-rule_table = record {
-  name = codes "rule";
-  tree = 0;
-  columns = keyed (codes "id") ∷ required (codes "bytes") Blob ∷ [];
-  key = Some 0;
-  primary = 0 ∷ [];
-  uniques = [];
-  orders = [];
-  checks = [];
-  references = [];
-  computed = [];
-  stamps = record { places = []; terms = []; formats = [] };
-  is_counted = false;
-}
+rule_table =
+    made_of (codes "rule") (keyed (codes "id") ∷ required (codes "bytes") Blob ∷ []) (Some 0) (0 ∷ []) []
 
 -- a row for the floor of each host that has one
 abbrev pub retired_table : Table
-retired_table = record {
-  name = codes "retired";
-  tree = 0;
-  columns = required (codes "host") Blob ∷ required (codes "run") Integer ∷ [];
-  key = None;
-  primary = 1 ∷ [];
-  uniques = (1 ∷ []) ∷ [];
-  orders = plain ∷ [];
-  checks = [];
-  references = [];
-  computed = [];
-  stamps = record { places = []; terms = []; formats = [] };
-  is_counted = false;
-}
+retired_table =
+    made_of (codes "retired") (required (codes "host") Blob ∷ required (codes "run") Integer ∷ [])
+    None (1 ∷ []) ((1 ∷ []) ∷ [])

@@ -1,14 +1,11 @@
 //! The table `answer`, which keeps each numbered request with its reply, in the order of arrival.
 
 ghost use Rattle.std.specs.List.Sorted.{IsPermutation};
-ghost use Rattle.std.specs.Prelude.{◌≡◌, ◌<◌, ◌^◌, map, filter, IsTrue, OnOk, IfOk};
-ghost use Rattle.sqlite.specs.Held.{state};
-ghost use Rattle.sqlite.specs.State.{HasCleanDisk, IsUnchanged};
+ghost use Rattle.std.specs.Prelude.{◌≡◌, ◌<◌, ◌^◌, map, filter, IfOk};
 ghost use Rattle.sqlite.specs.Values.{bound};
 ghost use Rattle.mq_request.specs.Same.{same_id};
-ghost use Rattle.mq_rows.specs.Tables.{Tables};
+ghost use Rattle.mq_tables.specs.Inside.{IsInside, ChangesNothing, Finds, Reads, Leads, StaysInside, OfLedger};
 ghost use Rattle.mq_tables.specs.Inside.{LeavesCommit};
-ghost use Rattle.mq_tables.specs.Ledger.{HasLedger};
 ghost use Rattle.mq_tables.specs.Lent.{answer_params, bodies_row, id_key, IsFirstAnswer};
 ghost use Rattle.mq_tables.specs.Records.{IsOneOf};
 ghost use Rattle.mq_tables.specs.Updates.{Appends};
@@ -24,12 +21,9 @@ pub fn append_answer<S: Alter>(
     answer: &AnswerRecord,
 ) -> Result<usize, Error>
     requires in_range { (answer.now.n < 2 ^ 63) × (answer.now.id.run < 2 ^ 63) }
-    requires inside { HasCleanDisk (state S.Store tx.old.conn.now)
-        → IsTrue (state S.Store tx.old.conn.now).in_transaction }
-    ensures inside { HasCleanDisk (state S.Store tx.new.conn.now)
-        → OnOk result (IsTrue (state S.Store tx.new.conn.now).in_transaction) }
-    ensures appended { HasCleanDisk (state S.Store tx.new.conn.now)
-        → OnOk result (Appends answer.now (state S.Store tx.old.conn.now) (state S.Store tx.new.conn.now)) }
+    requires inside { IsInside S.Store tx.old }
+    ensures inside { StaysInside S.Store tx.old tx.new result }
+    ensures appended { Leads S.Store tx.old tx.new result (Appends answer.now) }
     ensures leaves { LeavesCommit S.Store tx.old tx.new }
 {
     tx.execute(
@@ -65,12 +59,8 @@ fn id_params(id: &Id) -> [ValueRef<'_>; 3]
 
 fn answer_rows<S: Alter>(tx: &mut Transaction<'_, S>, id: &Id) -> Result<Vec<Row>, Error>
     requires { id.now.run < 2 ^ 63 }
-    ensures same { HasCleanDisk (state S.Store tx.new.conn.now)
-        → OnOk result (IsUnchanged (state S.Store tx.old.conn.now) (state S.Store tx.new.conn.now)) }
-    ensures found { HasCleanDisk (state S.Store tx.new.conn.now)
-        → IfOk result (λ rows. (t : Tables) → HasLedger (state S.Store tx.old.conn.now).now t
-        → IsPermutation (map bodies_row (filter (λ a. same_id id.now a.id) t.answers)) rows.items) }
-    ensures leaves { LeavesCommit S.Store tx.old tx.new }
+    ensures { Reads S.Store tx.old tx.new result (OfLedger (λ t rows.
+        IsPermutation (map bodies_row (filter (λ a. same_id id.now a.id) t.answers)) rows.items)) }
 {
     tx.query_all(
         "SELECT n, request, reply FROM answer WHERE host = ?1 AND run = ?2 AND seq = ?3",
@@ -99,11 +89,9 @@ pub fn find_answer<S: Alter>(
     id: &Id,
 ) -> Result<Option<AnswerRecord>, Error>
     requires { id.now.run < 2 ^ 63 }
-    ensures same { HasCleanDisk (state S.Store tx.new.conn.now)
-        → OnOk result (IsUnchanged (state S.Store tx.old.conn.now) (state S.Store tx.new.conn.now)) }
-    ensures found { HasCleanDisk (state S.Store tx.new.conn.now)
-        → IfOk result (λ found. (t : Tables) → HasLedger (state S.Store tx.old.conn.now).now t
-        → IsOneOf (λ a. same_id id.now a.id) t.answers found) }
+    ensures same { ChangesNothing S.Store tx.old tx.new result }
+    ensures found { Finds S.Store tx.old tx.new result (OfLedger (λ t found.
+        IsOneOf (λ a. same_id id.now a.id) t.answers found)) }
     ensures leaves { LeavesCommit S.Store tx.old tx.new }
 {
     let rows = answer_rows(tx, id)?;

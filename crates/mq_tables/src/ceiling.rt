@@ -1,17 +1,14 @@
 //! The table `ceiling`, which keeps the limits that were set.
 
 ghost use Rattle.std.specs.List.Sorted.{IsPermutation};
-ghost use Rattle.std.specs.Prelude.{◌≡◌, map, filter, IsTrue, OnOk, IfOk};
-ghost use Rattle.sqlite.specs.Held.{state};
-ghost use Rattle.sqlite.specs.State.{HasCleanDisk, IsUnchanged};
+ghost use Rattle.std.specs.Prelude.{◌≡◌, map, filter, IfOk};
 ghost use Rattle.sqlite.specs.Values.{bound};
 ghost use Rattle.mq_rows.specs.declared.plan.Write.TheVariants.{Insert, Update};
 ghost use Rattle.mq_rows.specs.Found.{IsGoverning};
 ghost use Rattle.mq_rows.specs.Rows.{is_limit};
-ghost use Rattle.mq_rows.specs.Tables.{Tables};
 ghost use Rattle.mq_tables.specs.Governing.{limit_row, IsGoverningShown, IsFirstLimit};
-ghost use Rattle.mq_tables.specs.Inside.{LeavesCommit};
-ghost use Rattle.mq_tables.specs.Ledger.{HasLedger};
+ghost use Rattle.mq_tables.specs.Inside.{IsInside, ChangesNothing, Finds, Reads, Leads, StaysInside, Writes};
+ghost use Rattle.mq_tables.specs.Inside.{OfLedger, LeavesCommit};
 ghost use Rattle.mq_tables.specs.Lent.{cap_params};
 ghost use Rattle.mq_tables.specs.Records.{limit_fields, IsOneOf};
 ghost use Rattle.mq_tables.specs.Updates.{WritesLimit};
@@ -43,14 +40,8 @@ fn cap_params(limit: &LimitRecord) -> [ValueRef<'_>; 3]
 }
 
 fn insert_limit<S: Alter>(tx: &mut Transaction<'_, S>, limit: &LimitRecord) -> Result<usize, Error>
-    requires inside { HasCleanDisk (state S.Store tx.old.conn.now)
-        → IsTrue (state S.Store tx.old.conn.now).in_transaction }
-    ensures inside { HasCleanDisk (state S.Store tx.new.conn.now)
-        → OnOk result (IsTrue (state S.Store tx.new.conn.now).in_transaction) }
-    ensures written { HasCleanDisk (state S.Store tx.new.conn.now)
-        → OnOk result (WritesLimit (Insert limit.now)
-        (state S.Store tx.old.conn.now) (state S.Store tx.new.conn.now)) }
-    ensures leaves { LeavesCommit S.Store tx.old tx.new }
+    requires inside { IsInside S.Store tx.old }
+    ensures { Writes S.Store tx.old tx.new result (WritesLimit (Insert limit.now)) }
 {
     tx.execute(
         "INSERT INTO ceiling (login, day, cap) VALUES (?1, ?2, ?3)",
@@ -59,14 +50,8 @@ fn insert_limit<S: Alter>(tx: &mut Transaction<'_, S>, limit: &LimitRecord) -> R
 }
 
 fn update_limit<S: Alter>(tx: &mut Transaction<'_, S>, limit: &LimitRecord) -> Result<usize, Error>
-    requires inside { HasCleanDisk (state S.Store tx.old.conn.now)
-        → IsTrue (state S.Store tx.old.conn.now).in_transaction }
-    ensures inside { HasCleanDisk (state S.Store tx.new.conn.now)
-        → OnOk result (IsTrue (state S.Store tx.new.conn.now).in_transaction) }
-    ensures written { HasCleanDisk (state S.Store tx.new.conn.now)
-        → OnOk result (WritesLimit (Update limit.now)
-        (state S.Store tx.old.conn.now) (state S.Store tx.new.conn.now)) }
-    ensures leaves { LeavesCommit S.Store tx.old tx.new }
+    requires inside { IsInside S.Store tx.old }
+    ensures { Writes S.Store tx.old tx.new result (WritesLimit (Update limit.now)) }
 {
     tx.execute(
         "UPDATE ceiling SET cap = ?1 WHERE login = ?2 AND day = ?3",
@@ -79,12 +64,9 @@ pub fn write_limit<S: Alter>(
     tx: &mut Transaction<'_, S>,
     write: &Write<LimitRecord>,
 ) -> Result<usize, Error>
-    requires inside { HasCleanDisk (state S.Store tx.old.conn.now)
-        → IsTrue (state S.Store tx.old.conn.now).in_transaction }
-    ensures inside { HasCleanDisk (state S.Store tx.new.conn.now)
-        → OnOk result (IsTrue (state S.Store tx.new.conn.now).in_transaction) }
-    ensures written { HasCleanDisk (state S.Store tx.new.conn.now)
-        → OnOk result (WritesLimit write.now (state S.Store tx.old.conn.now) (state S.Store tx.new.conn.now)) }
+    requires inside { IsInside S.Store tx.old }
+    ensures inside { StaysInside S.Store tx.old tx.new result }
+    ensures written { Leads S.Store tx.old tx.new result (WritesLimit write.now) }
     ensures leaves { LeavesCommit S.Store tx.old tx.new }
 {
     match write {
@@ -99,12 +81,8 @@ fn limit_rows<S: Alter>(
     login: &Login,
     day: u32,
 ) -> Result<Vec<Row>, Error>
-    ensures same { HasCleanDisk (state S.Store tx.new.conn.now)
-        → OnOk result (IsUnchanged (state S.Store tx.old.conn.now) (state S.Store tx.new.conn.now)) }
-    ensures found { HasCleanDisk (state S.Store tx.new.conn.now)
-        → IfOk result (λ rows. (t : Tables) → HasLedger (state S.Store tx.old.conn.now).now t
-        → IsPermutation (map limit_row (filter (is_limit login.now day) t.limits)) rows.items) }
-    ensures leaves { LeavesCommit S.Store tx.old tx.new }
+    ensures { Reads S.Store tx.old tx.new result (OfLedger (λ t rows.
+        IsPermutation (map limit_row (filter (is_limit login.now day) t.limits)) rows.items)) }
 {
     tx.query_all(
         "SELECT day, cap FROM ceiling WHERE login = ?1 AND day = ?2",
@@ -117,12 +95,8 @@ fn latest_rows<S: Alter>(
     login: &Login,
     day: u32,
 ) -> Result<Vec<Row>, Error>
-    ensures same { HasCleanDisk (state S.Store tx.new.conn.now)
-        → OnOk result (IsUnchanged (state S.Store tx.old.conn.now) (state S.Store tx.new.conn.now)) }
-    ensures found { HasCleanDisk (state S.Store tx.new.conn.now)
-        → IfOk result (λ rows. (t : Tables) → HasLedger (state S.Store tx.old.conn.now).now t
-        → IsGoverningShown login.now day t.limits rows.items) }
-    ensures leaves { LeavesCommit S.Store tx.old tx.new }
+    ensures { Reads S.Store tx.old tx.new result (OfLedger (λ t rows.
+        IsGoverningShown login.now day t.limits rows.items)) }
 {
     tx.query_all(
         "SELECT day, cap FROM ceiling WHERE login = ?1 AND day <= ?2 ORDER BY day DESC LIMIT 1",
@@ -150,11 +124,9 @@ pub fn find_limit<S: Alter>(
     login: &Login,
     day: u32,
 ) -> Result<Option<LimitRecord>, Error>
-    ensures same { HasCleanDisk (state S.Store tx.new.conn.now)
-        → OnOk result (IsUnchanged (state S.Store tx.old.conn.now) (state S.Store tx.new.conn.now)) }
-    ensures found { HasCleanDisk (state S.Store tx.new.conn.now)
-        → IfOk result (λ found. (t : Tables) → HasLedger (state S.Store tx.old.conn.now).now t
-        → IsOneOf (is_limit login.now day) t.limits found) }
+    ensures same { ChangesNothing S.Store tx.old tx.new result }
+    ensures found { Finds S.Store tx.old tx.new result (OfLedger (λ t found.
+        IsOneOf (is_limit login.now day) t.limits found)) }
     ensures leaves { LeavesCommit S.Store tx.old tx.new }
 {
     let rows = limit_rows(tx, login, day)?;
@@ -168,11 +140,9 @@ pub fn find_governing<S: Alter>(
     login: &Login,
     day: u32,
 ) -> Result<Option<LimitRecord>, Error>
-    ensures same { HasCleanDisk (state S.Store tx.new.conn.now)
-        → OnOk result (IsUnchanged (state S.Store tx.old.conn.now) (state S.Store tx.new.conn.now)) }
-    ensures found { HasCleanDisk (state S.Store tx.new.conn.now)
-        → IfOk result (λ found. (t : Tables) → HasLedger (state S.Store tx.old.conn.now).now t
-        → IsGoverning login.now day t.limits found) }
+    ensures same { ChangesNothing S.Store tx.old tx.new result }
+    ensures found { Finds S.Store tx.old tx.new result (OfLedger (λ t found.
+        IsGoverning login.now day t.limits found)) }
     ensures leaves { LeavesCommit S.Store tx.old tx.new }
 {
     let rows = latest_rows(tx, login, day)?;

@@ -6,11 +6,11 @@ ghost use Rattle.sqlite.specs.Held.{state};
 ghost use Rattle.sqlite.specs.Tree.{Trees};
 ghost use Rattle.sqlite.specs.Values.{bound};
 ghost use Rattle.mq_ledger.specs.Day.{rule_in};
-ghost use Rattle.mq_tables.specs.Inside.{Lasts, LeavesCommit};
+ghost use Rattle.mq_tables.specs.Inside.{IsInside, Leads, Turns, StaysInside, LeavesCommit, Lasts};
 ghost use Rattle.mq_tables.specs.Settings.{rule_fields};
 ghost use Rattle.mq_tables.specs.Tables.{setting_table, answer_table, trans_table, usage_table, ceiling_table, rule_table};
 ghost use Rattle.mq_tables.specs.Tables.{retired_table};
-ghost use Rattle.mq_tables.specs.Making.{Makes, Puts, PutsAny, HasCounters, HasStarted, HasAdded, IsMadeOver};
+ghost use Rattle.mq_tables.specs.Making.{Makes, Puts, PutsAny, StartsTable, AddsTables, IsMadeOver};
 ghost use Rattle.mq_tables.specs.Making.{AreMadeFor, IsMadeOverBy};
 ghost use Rattle.mq_tables.specs.Making.{AreMadeOver, four_tables, later_tables, other_tables, setting_row, setting_params, rule_params};
 
@@ -22,10 +22,8 @@ use sqlite::types::ValueRef;
 use sqlite::{Alter, Connection, Error, Transaction};
 
 fn create_setting<S: Alter>(tx: &mut Transaction<'_, S>) -> Result<usize, Error>
-    requires inside { HasCleanDisk (state S.Store tx.old.conn.now)
-        → IsTrue (state S.Store tx.old.conn.now).in_transaction }
-    ensures made { HasCleanDisk (state S.Store tx.new.conn.now)
-        → OnOk result (Makes setting_table (state S.Store tx.old.conn.now) (state S.Store tx.new.conn.now)) }
+    requires inside { IsInside S.Store tx.old }
+    ensures made { Leads S.Store tx.old tx.new result (Makes setting_table) }
     ensures leaves { LeavesCommit S.Store tx.old tx.new }
 {
     tx.execute(
@@ -36,10 +34,8 @@ fn create_setting<S: Alter>(tx: &mut Transaction<'_, S>) -> Result<usize, Error>
 }
 
 fn create_answer<S: Alter>(tx: &mut Transaction<'_, S>) -> Result<usize, Error>
-    requires inside { HasCleanDisk (state S.Store tx.old.conn.now)
-        → IsTrue (state S.Store tx.old.conn.now).in_transaction }
-    ensures made { HasCleanDisk (state S.Store tx.new.conn.now)
-        → OnOk result (Makes answer_table (state S.Store tx.old.conn.now) (state S.Store tx.new.conn.now)) }
+    requires inside { IsInside S.Store tx.old }
+    ensures made { Leads S.Store tx.old tx.new result (Makes answer_table) }
     ensures leaves { LeavesCommit S.Store tx.old tx.new }
 {
     tx.execute(
@@ -50,10 +46,8 @@ fn create_answer<S: Alter>(tx: &mut Transaction<'_, S>) -> Result<usize, Error>
 }
 
 fn create_trans<S: Alter>(tx: &mut Transaction<'_, S>) -> Result<usize, Error>
-    requires inside { HasCleanDisk (state S.Store tx.old.conn.now)
-        → IsTrue (state S.Store tx.old.conn.now).in_transaction }
-    ensures made { HasCleanDisk (state S.Store tx.new.conn.now)
-        → OnOk result (Makes trans_table (state S.Store tx.old.conn.now) (state S.Store tx.new.conn.now)) }
+    requires inside { IsInside S.Store tx.old }
+    ensures made { Leads S.Store tx.old tx.new result (Makes trans_table) }
     ensures leaves { LeavesCommit S.Store tx.old tx.new }
 {
     tx.execute(
@@ -66,10 +60,8 @@ fn create_trans<S: Alter>(tx: &mut Transaction<'_, S>) -> Result<usize, Error>
 }
 
 fn create_usage<S: Alter>(tx: &mut Transaction<'_, S>) -> Result<usize, Error>
-    requires inside { HasCleanDisk (state S.Store tx.old.conn.now)
-        → IsTrue (state S.Store tx.old.conn.now).in_transaction }
-    ensures made { HasCleanDisk (state S.Store tx.new.conn.now)
-        → OnOk result (Makes usage_table (state S.Store tx.old.conn.now) (state S.Store tx.new.conn.now)) }
+    requires inside { IsInside S.Store tx.old }
+    ensures made { Leads S.Store tx.old tx.new result (Makes usage_table) }
     ensures leaves { LeavesCommit S.Store tx.old tx.new }
 {
     tx.execute(
@@ -80,10 +72,8 @@ fn create_usage<S: Alter>(tx: &mut Transaction<'_, S>) -> Result<usize, Error>
 }
 
 fn create_ceiling<S: Alter>(tx: &mut Transaction<'_, S>) -> Result<usize, Error>
-    requires inside { HasCleanDisk (state S.Store tx.old.conn.now)
-        → IsTrue (state S.Store tx.old.conn.now).in_transaction }
-    ensures made { HasCleanDisk (state S.Store tx.new.conn.now)
-        → OnOk result (Makes ceiling_table (state S.Store tx.old.conn.now) (state S.Store tx.new.conn.now)) }
+    requires inside { IsInside S.Store tx.old }
+    ensures made { Leads S.Store tx.old tx.new result (Makes ceiling_table) }
     ensures leaves { LeavesCommit S.Store tx.old tx.new }
 {
     tx.execute(
@@ -94,10 +84,8 @@ fn create_ceiling<S: Alter>(tx: &mut Transaction<'_, S>) -> Result<usize, Error>
 }
 
 pub(crate) fn create_rule<S: Alter>(tx: &mut Transaction<'_, S>) -> Result<usize, Error>
-    requires inside { HasCleanDisk (state S.Store tx.old.conn.now)
-        → IsTrue (state S.Store tx.old.conn.now).in_transaction }
-    ensures made { HasCleanDisk (state S.Store tx.new.conn.now)
-        → OnOk result (Makes rule_table (state S.Store tx.old.conn.now) (state S.Store tx.new.conn.now)) }
+    requires inside { IsInside S.Store tx.old }
+    ensures made { Leads S.Store tx.old tx.new result (Makes rule_table) }
     ensures leaves { LeavesCommit S.Store tx.old tx.new }
 {
     tx.execute(
@@ -107,12 +95,9 @@ pub(crate) fn create_rule<S: Alter>(tx: &mut Transaction<'_, S>) -> Result<usize
 }
 
 pub(crate) fn create_retired<S: Alter>(tx: &mut Transaction<'_, S>) -> Result<usize, Error>
-    requires inside { HasCleanDisk (state S.Store tx.old.conn.now)
-        → IsTrue (state S.Store tx.old.conn.now).in_transaction }
-    ensures open { HasCleanDisk (state S.Store tx.new.conn.now)
-        → OnOk result (IsTrue (state S.Store tx.old.conn.now).is_open) }
-    ensures made { HasCleanDisk (state S.Store tx.new.conn.now)
-        → OnOk result (Makes retired_table (state S.Store tx.old.conn.now) (state S.Store tx.new.conn.now)) }
+    requires inside { IsInside S.Store tx.old }
+    ensures open { Leads S.Store tx.old tx.new result (λ before _. IsTrue before.is_open) }
+    ensures made { Leads S.Store tx.old tx.new result (Makes retired_table) }
     ensures leaves { LeavesCommit S.Store tx.old tx.new }
 {
     tx.execute(
@@ -128,11 +113,8 @@ fn rule_params(rule: &[u8]) -> [ValueRef<'_>; 1]
 }
 
 fn put_rule<S: Alter>(tx: &mut Transaction<'_, S>, rule: &[u8]) -> Result<usize, Error>
-    requires inside { HasCleanDisk (state S.Store tx.old.conn.now)
-        → IsTrue (state S.Store tx.old.conn.now).in_transaction }
-    ensures put { HasCleanDisk (state S.Store tx.new.conn.now)
-        → OnOk result (Puts rule_table (rule_fields rule.now) (state S.Store tx.old.conn.now)
-        (state S.Store tx.new.conn.now)) }
+    requires inside { IsInside S.Store tx.old }
+    ensures put { Leads S.Store tx.old tx.new result (Puts rule_table (rule_fields rule.now)) }
     ensures leaves { LeavesCommit S.Store tx.old tx.new }
 {
     tx.execute(
@@ -146,11 +128,8 @@ fn put_any_rule<S: Alter>(
     tx: &mut Transaction<'_, S>,
     made_with: &NewSetting,
 ) -> Result<usize, Error>
-    requires inside { HasCleanDisk (state S.Store tx.old.conn.now)
-        → IsTrue (state S.Store tx.old.conn.now).in_transaction }
-    ensures put { HasCleanDisk (state S.Store tx.new.conn.now)
-        → OnOk result (PutsAny (rule_in made_with.now.zone) (state S.Store tx.old.conn.now)
-        (state S.Store tx.new.conn.now)) }
+    requires inside { IsInside S.Store tx.old }
+    ensures put { Leads S.Store tx.old tx.new result (PutsAny (rule_in made_with.now.zone)) }
     ensures leaves { LeavesCommit S.Store tx.old tx.new }
 {
     match made_with.zone.rule() {
@@ -173,11 +152,8 @@ fn put_setting<S: Alter>(
     tx: &mut Transaction<'_, S>,
     made_with: &NewSetting,
 ) -> Result<usize, Error>
-    requires inside { HasCleanDisk (state S.Store tx.old.conn.now)
-        → IsTrue (state S.Store tx.old.conn.now).in_transaction }
-    ensures put { HasCleanDisk (state S.Store tx.new.conn.now)
-        → OnOk result (Puts setting_table (setting_row made_with.now) (state S.Store tx.old.conn.now)
-        (state S.Store tx.new.conn.now)) }
+    requires inside { IsInside S.Store tx.old }
+    ensures put { Leads S.Store tx.old tx.new result (Puts setting_table (setting_row made_with.now)) }
     ensures leaves { LeavesCommit S.Store tx.old tx.new }
 {
     tx.execute(
@@ -190,14 +166,9 @@ fn begin_setting<S: Alter>(
     tx: &mut Transaction<'_, S>,
     made_with: &NewSetting,
 ) -> Result<usize, Error>
-    requires inside { HasCleanDisk (state S.Store tx.old.conn.now)
-        → IsTrue (state S.Store tx.old.conn.now).in_transaction }
-    ensures inside { HasCleanDisk (state S.Store tx.new.conn.now)
-        → OnOk result (IsTrue (state S.Store tx.new.conn.now).in_transaction) }
-    ensures started { HasCleanDisk (state S.Store tx.new.conn.now)
-        → OnOk result (HasCounters (state S.Store tx.old.conn.now)
-        → HasStarted setting_table (setting_row made_with.now) (state S.Store tx.old.conn.now)
-        (state S.Store tx.new.conn.now)) }
+    requires inside { IsInside S.Store tx.old }
+    ensures inside { StaysInside S.Store tx.old tx.new result }
+    ensures started { Leads S.Store tx.old tx.new result (StartsTable setting_table (setting_row made_with.now)) }
     ensures leaves { LeavesCommit S.Store tx.old tx.new }
 {
     create_setting(tx)?;
@@ -205,13 +176,9 @@ fn begin_setting<S: Alter>(
 }
 
 fn create_four<S: Alter>(tx: &mut Transaction<'_, S>) -> Result<usize, Error>
-    requires inside { HasCleanDisk (state S.Store tx.old.conn.now)
-        → IsTrue (state S.Store tx.old.conn.now).in_transaction }
-    ensures inside { HasCleanDisk (state S.Store tx.new.conn.now)
-        → OnOk result (IsTrue (state S.Store tx.new.conn.now).in_transaction) }
-    ensures added { HasCleanDisk (state S.Store tx.new.conn.now)
-        → OnOk result (HasCounters (state S.Store tx.old.conn.now)
-        → HasAdded four_tables (state S.Store tx.old.conn.now) (state S.Store tx.new.conn.now)) }
+    requires inside { IsInside S.Store tx.old }
+    ensures inside { StaysInside S.Store tx.old tx.new result }
+    ensures added { Leads S.Store tx.old tx.new result (AddsTables four_tables) }
     ensures leaves { LeavesCommit S.Store tx.old tx.new }
 {
     create_answer(tx)?;
@@ -222,13 +189,9 @@ fn create_four<S: Alter>(tx: &mut Transaction<'_, S>) -> Result<usize, Error>
 
 /// The tables of later versions.
 fn create_later<S: Alter>(tx: &mut Transaction<'_, S>) -> Result<usize, Error>
-    requires inside { HasCleanDisk (state S.Store tx.old.conn.now)
-        → IsTrue (state S.Store tx.old.conn.now).in_transaction }
-    ensures inside { HasCleanDisk (state S.Store tx.new.conn.now)
-        → OnOk result (IsTrue (state S.Store tx.new.conn.now).in_transaction) }
-    ensures added { HasCleanDisk (state S.Store tx.new.conn.now)
-        → OnOk result (HasCounters (state S.Store tx.old.conn.now)
-        → HasAdded (later_tables false) (state S.Store tx.old.conn.now) (state S.Store tx.new.conn.now)) }
+    requires inside { IsInside S.Store tx.old }
+    ensures inside { StaysInside S.Store tx.old tx.new result }
+    ensures added { Leads S.Store tx.old tx.new result (AddsTables (later_tables false)) }
     ensures leaves { LeavesCommit S.Store tx.old tx.new }
 {
     create_rule(tx)?;
@@ -236,13 +199,9 @@ fn create_later<S: Alter>(tx: &mut Transaction<'_, S>) -> Result<usize, Error>
 }
 
 fn create_others<S: Alter>(tx: &mut Transaction<'_, S>) -> Result<usize, Error>
-    requires inside { HasCleanDisk (state S.Store tx.old.conn.now)
-        → IsTrue (state S.Store tx.old.conn.now).in_transaction }
-    ensures inside { HasCleanDisk (state S.Store tx.new.conn.now)
-        → OnOk result (IsTrue (state S.Store tx.new.conn.now).in_transaction) }
-    ensures added { HasCleanDisk (state S.Store tx.new.conn.now)
-        → OnOk result (HasCounters (state S.Store tx.old.conn.now)
-        → HasAdded other_tables (state S.Store tx.old.conn.now) (state S.Store tx.new.conn.now)) }
+    requires inside { IsInside S.Store tx.old }
+    ensures inside { StaysInside S.Store tx.old tx.new result }
+    ensures added { Leads S.Store tx.old tx.new result (AddsTables other_tables) }
     ensures leaves { LeavesCommit S.Store tx.old tx.new }
 {
     create_four(tx)?;
@@ -251,13 +210,9 @@ fn create_others<S: Alter>(tx: &mut Transaction<'_, S>) -> Result<usize, Error>
 
 /// Makes the seven tables of a ledger that has applied nothing.
 fn make_seven<S: Alter>(tx: &mut Transaction<'_, S>, made_with: &NewSetting) -> Result<usize, Error>
-    requires inside { HasCleanDisk (state S.Store tx.old.conn.now)
-        → IsTrue (state S.Store tx.old.conn.now).in_transaction }
-    ensures inside { HasCleanDisk (state S.Store tx.new.conn.now)
-        → OnOk result (IsTrue (state S.Store tx.new.conn.now).in_transaction) }
-    ensures made { HasCleanDisk (state S.Store tx.new.conn.now)
-        → OnOk result (AreMadeFor made_with.now (state S.Store tx.old.conn.now).now
-        (state S.Store tx.new.conn.now).now) }
+    requires inside { IsInside S.Store tx.old }
+    ensures inside { StaysInside S.Store tx.old tx.new result }
+    ensures made { Turns S.Store tx.old tx.new result (AreMadeFor made_with.now) }
     ensures leaves { LeavesCommit S.Store tx.old tx.new }
 {
     begin_setting(tx, made_with)?;
@@ -272,13 +227,9 @@ pub fn make_tables<S: Alter>(
     made_with: &NewSetting,
     indexed: bool,
 ) -> Result<usize, Error>
-    requires inside { HasCleanDisk (state S.Store tx.old.conn.now)
-        → IsTrue (state S.Store tx.old.conn.now).in_transaction }
-    ensures inside { HasCleanDisk (state S.Store tx.new.conn.now)
-        → OnOk result (IsTrue (state S.Store tx.new.conn.now).in_transaction) }
-    ensures made { HasCleanDisk (state S.Store tx.new.conn.now)
-        → OnOk result (IsMadeOverBy indexed made_with.now (state S.Store tx.old.conn.now).now
-        (state S.Store tx.new.conn.now).now) }
+    requires inside { IsInside S.Store tx.old }
+    ensures inside { StaysInside S.Store tx.old tx.new result }
+    ensures made { Turns S.Store tx.old tx.new result (IsMadeOverBy indexed made_with.now) }
     ensures leaves { LeavesCommit S.Store tx.old tx.new }
 {
     make_seven(tx, made_with)?;

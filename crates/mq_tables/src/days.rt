@@ -1,34 +1,20 @@
 //! The table `usage`: of which days its rows are.
 
-ghost use Rattle.std.specs.Prelude.{OnOk, IfOk};
-ghost use Rattle.sqlite.specs.Held.{state};
-ghost use Rattle.sqlite.specs.State.{HasCleanDisk, IsUnchanged};
+ghost use Rattle.std.specs.Prelude.{IfOk};
 ghost use Rattle.mq_rows.specs.Days.{IsOldest, IsNewest};
-ghost use Rattle.mq_rows.specs.Tables.{Tables};
 ghost use Rattle.mq_tables.specs.Days.{IsDayShown, IsFirstDay};
-ghost use Rattle.mq_tables.specs.Inside.{LeavesCommit};
-ghost use Rattle.mq_tables.specs.Ledger.{HasLedger};
+ghost use Rattle.mq_tables.specs.Inside.{ChangesNothing, Finds, Reads, OfLedger, LeavesCommit};
 
 use sqlite::{Alter, Error, Row, Transaction};
 
 fn oldest_rows<S: Alter>(tx: &mut Transaction<'_, S>) -> Result<Vec<Row>, Error>
-    ensures same { HasCleanDisk (state S.Store tx.new.conn.now)
-        → OnOk result (IsUnchanged (state S.Store tx.old.conn.now) (state S.Store tx.new.conn.now)) }
-    ensures found { HasCleanDisk (state S.Store tx.new.conn.now)
-        → IfOk result (λ rows. (t : Tables) → HasLedger (state S.Store tx.old.conn.now).now t
-        → IsDayShown IsOldest t.usage rows.items) }
-    ensures leaves { LeavesCommit S.Store tx.old tx.new }
+    ensures { Reads S.Store tx.old tx.new result (OfLedger (λ t rows. IsDayShown IsOldest t.usage rows.items)) }
 {
     tx.query_all("SELECT day FROM usage ORDER BY day LIMIT 1", &[])
 }
 
 fn newest_rows<S: Alter>(tx: &mut Transaction<'_, S>) -> Result<Vec<Row>, Error>
-    ensures same { HasCleanDisk (state S.Store tx.new.conn.now)
-        → OnOk result (IsUnchanged (state S.Store tx.old.conn.now) (state S.Store tx.new.conn.now)) }
-    ensures found { HasCleanDisk (state S.Store tx.new.conn.now)
-        → IfOk result (λ rows. (t : Tables) → HasLedger (state S.Store tx.old.conn.now).now t
-        → IsDayShown IsNewest t.usage rows.items) }
-    ensures leaves { LeavesCommit S.Store tx.old tx.new }
+    ensures { Reads S.Store tx.old tx.new result (OfLedger (λ t rows. IsDayShown IsNewest t.usage rows.items)) }
 {
     tx.query_all("SELECT day FROM usage ORDER BY day DESC LIMIT 1", &[])
 }
@@ -45,11 +31,8 @@ fn first_day(rows: &[Row]) -> Result<Option<u32>, Error>
 
 /// The earliest day of which there is a row; `None` where there is no row.
 pub fn oldest_day<S: Alter>(tx: &mut Transaction<'_, S>) -> Result<Option<u32>, Error>
-    ensures same { HasCleanDisk (state S.Store tx.new.conn.now)
-        → OnOk result (IsUnchanged (state S.Store tx.old.conn.now) (state S.Store tx.new.conn.now)) }
-    ensures found { HasCleanDisk (state S.Store tx.new.conn.now)
-        → IfOk result (λ found. (t : Tables) → HasLedger (state S.Store tx.old.conn.now).now t
-        → IsOldest t.usage found) }
+    ensures same { ChangesNothing S.Store tx.old tx.new result }
+    ensures found { Finds S.Store tx.old tx.new result (OfLedger (λ t found. IsOldest t.usage found)) }
     ensures leaves { LeavesCommit S.Store tx.old tx.new }
 {
     let rows = oldest_rows(tx)?;
@@ -58,11 +41,8 @@ pub fn oldest_day<S: Alter>(tx: &mut Transaction<'_, S>) -> Result<Option<u32>, 
 
 /// The latest day of which there is a row; `None` where there is no row.
 pub fn newest_day<S: Alter>(tx: &mut Transaction<'_, S>) -> Result<Option<u32>, Error>
-    ensures same { HasCleanDisk (state S.Store tx.new.conn.now)
-        → OnOk result (IsUnchanged (state S.Store tx.old.conn.now) (state S.Store tx.new.conn.now)) }
-    ensures found { HasCleanDisk (state S.Store tx.new.conn.now)
-        → IfOk result (λ found. (t : Tables) → HasLedger (state S.Store tx.old.conn.now).now t
-        → IsNewest t.usage found) }
+    ensures same { ChangesNothing S.Store tx.old tx.new result }
+    ensures found { Finds S.Store tx.old tx.new result (OfLedger (λ t found. IsNewest t.usage found)) }
     ensures leaves { LeavesCommit S.Store tx.old tx.new }
 {
     let rows = newest_rows(tx)?;

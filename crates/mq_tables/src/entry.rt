@@ -1,14 +1,10 @@
 //! The answers one by one, by their places in the order of arrival.
 
 ghost use Rattle.std.specs.List.Sorted.{IsPermutation};
-ghost use Rattle.std.specs.Prelude.{◌≡◌, ◌<◌, ◌^◌, ◌==◌, pos, [], ◌∷◌, map, filter, OnOk, IfOk};
-ghost use Rattle.sqlite.specs.Held.{state};
-ghost use Rattle.sqlite.specs.State.{HasCleanDisk, IsUnchanged};
+ghost use Rattle.std.specs.Prelude.{◌≡◌, ◌<◌, ◌^◌, ◌==◌, pos, [], ◌∷◌, map, filter, IfOk};
 ghost use Rattle.sqlite.specs.Values.{bound};
 ghost use Rattle.sqlite.specs.declared.types.Value.TheVariants.{Int};
-ghost use Rattle.mq_rows.specs.Tables.{Tables};
-ghost use Rattle.mq_tables.specs.Inside.{LeavesCommit};
-ghost use Rattle.mq_tables.specs.Ledger.{HasLedger};
+ghost use Rattle.mq_tables.specs.Inside.{ChangesNothing, Finds, Reads, OfLedger, LeavesCommit};
 ghost use Rattle.mq_tables.specs.Lent.{bodies_row};
 ghost use Rattle.mq_tables.specs.Entries.{IsFirstBodies, IsAnswerAt};
 
@@ -32,12 +28,8 @@ fn place_params(n: u64) -> [ValueRef<'static>; 1]
 
 fn rows_at<S: Alter>(tx: &mut Transaction<'_, S>, n: u64) -> Result<Vec<Row>, Error>
     requires { n < 2 ^ 63 }
-    ensures same { HasCleanDisk (state S.Store tx.new.conn.now)
-        → OnOk result (IsUnchanged (state S.Store tx.old.conn.now) (state S.Store tx.new.conn.now)) }
-    ensures found { HasCleanDisk (state S.Store tx.new.conn.now)
-        → IfOk result (λ rows. (t : Tables) → HasLedger (state S.Store tx.old.conn.now).now t
-        → IsPermutation (map bodies_row (filter (λ a. n == a.n) t.answers)) rows.items) }
-    ensures leaves { LeavesCommit S.Store tx.old tx.new }
+    ensures { Reads S.Store tx.old tx.new result (OfLedger (λ t rows.
+        IsPermutation (map bodies_row (filter (λ a. n == a.n) t.answers)) rows.items)) }
 {
     tx.query_all(
         "SELECT n, request, reply FROM answer WHERE n = ?1",
@@ -62,11 +54,8 @@ fn first_bodies(rows: &[Row]) -> Result<Option<Bodies>, Error>
 /// is the store's, or that of a row whose bodies aren't bytes.
 pub fn read_answer<S: Alter>(tx: &mut Transaction<'_, S>, n: u64) -> Result<Option<Bodies>, Error>
     requires { n < 2 ^ 63 }
-    ensures same { HasCleanDisk (state S.Store tx.new.conn.now)
-        → OnOk result (IsUnchanged (state S.Store tx.old.conn.now) (state S.Store tx.new.conn.now)) }
-    ensures found { HasCleanDisk (state S.Store tx.new.conn.now)
-        → IfOk result (λ found. (t : Tables) → HasLedger (state S.Store tx.old.conn.now).now t
-        → IsAnswerAt n t.answers found) }
+    ensures same { ChangesNothing S.Store tx.old tx.new result }
+    ensures found { Finds S.Store tx.old tx.new result (OfLedger (λ t found. IsAnswerAt n t.answers found)) }
     ensures leaves { LeavesCommit S.Store tx.old tx.new }
 {
     let rows = rows_at(tx, n)?;

@@ -1,18 +1,14 @@
 //! What the tables have about a numbered request.
 
-ghost use Rattle.std.specs.Prelude.{◌≡◌, ◌<◌, ◌^◌, find, OnOk, IfOk, IsSome};
-ghost use Rattle.sqlite.specs.Held.{state};
-ghost use Rattle.sqlite.specs.State.{HasCleanDisk, IsUnchanged};
+ghost use Rattle.std.specs.Prelude.{◌≡◌, ◌<◌, ◌^◌, find, IfOk, IsSome};
 ghost use Rattle.mq_request.specs.Range.{IsRequest};
 ghost use Rattle.mq_ledger.specs.Arrivals.{id_of};
 ghost use Rattle.mq_ledger.specs.Day.{day_of};
 ghost use Rattle.mq_rows.specs.Found.{IsFound};
 ghost use Rattle.mq_rows.specs.Rows.{is_host};
 ghost use Rattle.mq_rows.specs.Storable.{AreStorableIf, IsStorableFloor};
-ghost use Rattle.mq_rows.specs.Tables.{Tables};
 ghost use Rattle.mq_tables.specs.Finding.{AreKeyed, IsTransactionFound, IsReserveFound, IsLimitFound};
-ghost use Rattle.mq_tables.specs.Inside.{LeavesCommit};
-ghost use Rattle.mq_tables.specs.Ledger.{HasLedger, IsCurrent};
+ghost use Rattle.mq_tables.specs.Inside.{ChangesNothing, Finds, OfLedger, OfCurrent, LeavesCommit};
 
 use crate::ceiling::{find_governing, find_limit};
 use crate::floor::find_floor;
@@ -43,11 +39,9 @@ fn find_named<S: Alter>(
     day: u32,
 ) -> Result<Found, Error>
     requires { id.now.run < 2 ^ 63 }
-    ensures same { HasCleanDisk (state S.Store tx.new.conn.now)
-        → OnOk result (IsUnchanged (state S.Store tx.old.conn.now) (state S.Store tx.new.conn.now)) }
-    ensures found { HasCleanDisk (state S.Store tx.new.conn.now)
-        → IfOk result (λ found. (t : Tables) → HasLedger (state S.Store tx.old.conn.now).now t → AreKeyed t
-        → IsTransactionFound id.now txn login.now day t found) }
+    ensures same { ChangesNothing S.Store tx.old tx.new result }
+    ensures found { Finds S.Store tx.old tx.new result (OfLedger (λ t found.
+        AreKeyed t → IsTransactionFound id.now txn login.now day t found)) }
     ensures storable { IfOk result (λ found. AreStorableIf found.transaction) }
     ensures storable_floor { IfOk result (λ found. IsStorableFloor found.floor) }
     ensures leaves { LeavesCommit S.Store tx.old tx.new }
@@ -73,11 +67,9 @@ fn find_for_reserve<S: Alter>(
     day: u32,
 ) -> Result<Found, Error>
     requires { id.now.run < 2 ^ 63 }
-    ensures same { HasCleanDisk (state S.Store tx.new.conn.now)
-        → OnOk result (IsUnchanged (state S.Store tx.old.conn.now) (state S.Store tx.new.conn.now)) }
-    ensures found { HasCleanDisk (state S.Store tx.new.conn.now)
-        → IfOk result (λ found. (t : Tables) → HasLedger (state S.Store tx.old.conn.now).now t → AreKeyed t
-        → IsReserveFound id.now txn login.now day t found) }
+    ensures same { ChangesNothing S.Store tx.old tx.new result }
+    ensures found { Finds S.Store tx.old tx.new result (OfLedger (λ t found.
+        AreKeyed t → IsReserveFound id.now txn login.now day t found)) }
     ensures storable { IfOk result (λ found. AreStorableIf found.transaction) }
     ensures storable_floor { IfOk result (λ found. IsStorableFloor found.floor) }
     ensures leaves { LeavesCommit S.Store tx.old tx.new }
@@ -94,11 +86,9 @@ fn find_for_limit<S: Alter>(
     from_day: u32,
     cap: u32,
 ) -> Result<Found, Error>
-    ensures same { HasCleanDisk (state S.Store tx.new.conn.now)
-        → OnOk result (IsUnchanged (state S.Store tx.old.conn.now) (state S.Store tx.new.conn.now)) }
-    ensures found { HasCleanDisk (state S.Store tx.new.conn.now)
-        → IfOk result (λ found. (t : Tables) → HasLedger (state S.Store tx.old.conn.now).now t → AreKeyed t
-        → IsLimitFound login.now from_day cap t found) }
+    ensures same { ChangesNothing S.Store tx.old tx.new result }
+    ensures found { Finds S.Store tx.old tx.new result (OfLedger (λ t found.
+        AreKeyed t → IsLimitFound login.now from_day cap t found)) }
     ensures storable { IfOk result (λ found. AreStorableIf found.transaction) }
     ensures storable_floor { IfOk result (λ found. IsStorableFloor found.floor) }
     ensures leaves { LeavesCommit S.Store tx.old tx.new }
@@ -117,11 +107,9 @@ fn find_for_limit<S: Alter>(
 
 /// The floor of a retire's host.
 fn find_for_retire<S: Alter>(tx: &mut Transaction<'_, S>, id: &Id) -> Result<Found, Error>
-    ensures same { HasCleanDisk (state S.Store tx.new.conn.now)
-        → OnOk result (IsUnchanged (state S.Store tx.old.conn.now) (state S.Store tx.new.conn.now)) }
-    ensures found { HasCleanDisk (state S.Store tx.new.conn.now)
-        → IfOk result (λ found. (t : Tables) → HasLedger (state S.Store tx.old.conn.now).now t × IsCurrent t
-        → AreKeyed t → found.floor ≡ find (is_host id.now.host) t.retired) }
+    ensures same { ChangesNothing S.Store tx.old tx.new result }
+    ensures found { Finds S.Store tx.old tx.new result (OfCurrent (λ t found.
+        AreKeyed t → found.floor ≡ find (is_host id.now.host) t.retired)) }
     ensures storable { IfOk result (λ found. AreStorableIf found.transaction) }
     ensures storable_floor { IfOk result (λ found. IsStorableFloor found.floor) }
     ensures leaves { LeavesCommit S.Store tx.old tx.new }
@@ -147,11 +135,9 @@ pub fn find<S: Alter>(
 ) -> Result<Found, Error>
     requires in_range { IsRequest request.now }
     requires numbered { IsSome (id_of request.now) }
-    ensures same { HasCleanDisk (state S.Store tx.new.conn.now)
-        → OnOk result (IsUnchanged (state S.Store tx.old.conn.now) (state S.Store tx.new.conn.now)) }
-    ensures found { HasCleanDisk (state S.Store tx.new.conn.now)
-        → IfOk result (λ found. (t : Tables) → HasLedger (state S.Store tx.old.conn.now).now t × IsCurrent t
-        → AreKeyed t → IsFound (day_of zone) t request.now found) }
+    ensures same { ChangesNothing S.Store tx.old tx.new result }
+    ensures found { Finds S.Store tx.old tx.new result (OfCurrent (λ t found.
+        AreKeyed t → IsFound (day_of zone) t request.now found)) }
     ensures storable { IfOk result (λ found. AreStorableIf found.transaction) }
     ensures storable_floor { IfOk result (λ found. IsStorableFloor found.floor) }
     ensures leaves { LeavesCommit S.Store tx.old tx.new }

@@ -3,16 +3,16 @@
 ghost use Rattle.std.specs.List.Sorted.{IsPermutation};
 ghost use Rattle.std.specs.Prelude.{◌≡◌, ◌<◌, ◌^◌, List, None, false, map, filter, IsTrue, OnOk, IfOk};
 ghost use Rattle.sqlite.specs.Held.{state};
-ghost use Rattle.sqlite.specs.State.{HasCleanDisk, IsUnchanged};
+ghost use Rattle.sqlite.specs.State.{HasCleanDisk};
 ghost use Rattle.sqlite.specs.Values.{bound};
 ghost use Rattle.mq_rows.specs.declared.plan.Write.TheVariants.{Insert, Update};
 ghost use Rattle.mq_rows.specs.Rows.{is_host};
 ghost use Rattle.mq_rows.specs.Storable.{IsStorableFloor, IsStorableRun};
-ghost use Rattle.mq_rows.specs.Tables.{Tables};
 ghost use Rattle.mq_rows.specs.declared.record.RetiredRecord.{RetiredRecord as Floor};
 ghost use Rattle.mq_tables.specs.Floors.{is_floor, are_floors, AreFloorsOf};
-ghost use Rattle.mq_tables.specs.Inside.{LeavesCommit};
-ghost use Rattle.mq_tables.specs.Ledger.{HasFloors, HasLedger, IsCurrent};
+ghost use Rattle.mq_tables.specs.Inside.{IsInside, ChangesNothing, Finds, Reads, Leads, StaysInside, Writes};
+ghost use Rattle.mq_tables.specs.Inside.{OfCurrent, LeavesCommit};
+ghost use Rattle.mq_tables.specs.Ledger.{HasFloors};
 ghost use Rattle.mq_tables.specs.Lent.{host_params, floor_params, floor_row, IsFirstFloor};
 ghost use Rattle.mq_tables.specs.Records.{retired_fields, IsOneOf};
 ghost use Rattle.mq_tables.specs.Reading.{AreFloorsRead, Spares};
@@ -47,10 +47,7 @@ pub fn read_floors<S: Alter>(connection: &mut Connection<S>) -> Result<Vec<Row>,
 {
     connection.set_step_limit(None);
     let _settled = connection.is_autocommit();
-    match connection.query_all("SELECT host, run FROM retired", &[]) {
-        Ok(rows) => Ok(rows),
-        Err(error) => Err(error),
-    }
+    connection.query_all("SELECT host, run FROM retired", &[])
 }
 
 fn is_floor(row: &Row) -> bool
@@ -76,12 +73,8 @@ fn host_params(host: &Host) -> [ValueRef<'_>; 1]
 }
 
 fn floor_rows<S: Alter>(tx: &mut Transaction<'_, S>, host: &Host) -> Result<Vec<Row>, Error>
-    ensures same { HasCleanDisk (state S.Store tx.new.conn.now)
-        → OnOk result (IsUnchanged (state S.Store tx.old.conn.now) (state S.Store tx.new.conn.now)) }
-    ensures found { HasCleanDisk (state S.Store tx.new.conn.now)
-        → IfOk result (λ rows. (t : Tables) → HasLedger (state S.Store tx.old.conn.now).now t × IsCurrent t
-        → IsPermutation (map floor_row (filter (is_host host.now) t.retired)) rows.items) }
-    ensures leaves { LeavesCommit S.Store tx.old tx.new }
+    ensures { Reads S.Store tx.old tx.new result (OfCurrent (λ t rows.
+        IsPermutation (map floor_row (filter (is_host host.now) t.retired)) rows.items)) }
 {
     tx.query_all(
         "SELECT run FROM retired WHERE host = ?1",
@@ -108,11 +101,9 @@ pub fn find_floor<S: Alter>(
     tx: &mut Transaction<'_, S>,
     host: &Host,
 ) -> Result<Option<RetiredRecord>, Error>
-    ensures same { HasCleanDisk (state S.Store tx.new.conn.now)
-        → OnOk result (IsUnchanged (state S.Store tx.old.conn.now) (state S.Store tx.new.conn.now)) }
-    ensures found { HasCleanDisk (state S.Store tx.new.conn.now)
-        → IfOk result (λ found. (t : Tables) → HasLedger (state S.Store tx.old.conn.now).now t × IsCurrent t
-        → IsOneOf (is_host host.now) t.retired found) }
+    ensures same { ChangesNothing S.Store tx.old tx.new result }
+    ensures found { Finds S.Store tx.old tx.new result (OfCurrent (λ t found.
+        IsOneOf (is_host host.now) t.retired found)) }
     ensures storable { IfOk result IsStorableFloor }
     ensures leaves { LeavesCommit S.Store tx.old tx.new }
 {
@@ -135,13 +126,8 @@ fn insert_floor<S: Alter>(
     floor: &RetiredRecord,
 ) -> Result<usize, Error>
     requires in_range { floor.now.run < 2 ^ 63 }
-    requires inside { HasCleanDisk (state S.Store tx.old.conn.now)
-        → IsTrue (state S.Store tx.old.conn.now).in_transaction }
-    ensures inside { HasCleanDisk (state S.Store tx.new.conn.now)
-        → OnOk result (IsTrue (state S.Store tx.new.conn.now).in_transaction) }
-    ensures written { HasCleanDisk (state S.Store tx.new.conn.now)
-        → OnOk result (WritesFloor (Insert floor.now) (state S.Store tx.old.conn.now) (state S.Store tx.new.conn.now)) }
-    ensures leaves { LeavesCommit S.Store tx.old tx.new }
+    requires inside { IsInside S.Store tx.old }
+    ensures { Writes S.Store tx.old tx.new result (WritesFloor (Insert floor.now)) }
 {
     tx.execute(
         "INSERT INTO retired (host, run) VALUES (?1, ?2)",
@@ -164,13 +150,8 @@ fn update_floor<S: Alter>(
     floor: &RetiredRecord,
 ) -> Result<usize, Error>
     requires in_range { floor.now.run < 2 ^ 63 }
-    requires inside { HasCleanDisk (state S.Store tx.old.conn.now)
-        → IsTrue (state S.Store tx.old.conn.now).in_transaction }
-    ensures inside { HasCleanDisk (state S.Store tx.new.conn.now)
-        → OnOk result (IsTrue (state S.Store tx.new.conn.now).in_transaction) }
-    ensures written { HasCleanDisk (state S.Store tx.new.conn.now)
-        → OnOk result (WritesFloor (Update floor.now) (state S.Store tx.old.conn.now) (state S.Store tx.new.conn.now)) }
-    ensures leaves { LeavesCommit S.Store tx.old tx.new }
+    requires inside { IsInside S.Store tx.old }
+    ensures { Writes S.Store tx.old tx.new result (WritesFloor (Update floor.now)) }
 {
     tx.execute(
         "UPDATE retired SET run = ?1 WHERE host = ?2",
@@ -184,12 +165,9 @@ pub fn write_floor<S: Alter>(
     write: &Write<RetiredRecord>,
 ) -> Result<usize, Error>
     requires in_range { IsStorableRun write.now }
-    requires inside { HasCleanDisk (state S.Store tx.old.conn.now)
-        → IsTrue (state S.Store tx.old.conn.now).in_transaction }
-    ensures inside { HasCleanDisk (state S.Store tx.new.conn.now)
-        → OnOk result (IsTrue (state S.Store tx.new.conn.now).in_transaction) }
-    ensures written { HasCleanDisk (state S.Store tx.new.conn.now)
-        → OnOk result (WritesFloor write.now (state S.Store tx.old.conn.now) (state S.Store tx.new.conn.now)) }
+    requires inside { IsInside S.Store tx.old }
+    ensures inside { StaysInside S.Store tx.old tx.new result }
+    ensures written { Leads S.Store tx.old tx.new result (WritesFloor write.now) }
     ensures leaves { LeavesCommit S.Store tx.old tx.new }
 {
     match write {

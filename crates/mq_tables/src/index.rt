@@ -8,21 +8,16 @@ ghost use Rattle.sqlite.specs.Held.{state};
 ghost use Rattle.sqlite.specs.State.{HasCleanDisk};
 ghost use Rattle.sqlite.specs.Tree.{Trees};
 ghost use Rattle.mq_tables.specs.Indexing.{Indexes, IndexesIf, IsIndexed, AreIndexed};
-ghost use Rattle.mq_tables.specs.Inside.{Lasts, LeavesCommit};
+ghost use Rattle.mq_tables.specs.Inside.{IsInside, Leads, Turns, StaysInside, LeavesCommit, Lasts};
 
 use sqlite::{Alter, Connection, Error, Transaction};
 
 fn create_index<S: Alter>(tx: &mut Transaction<'_, S>) -> Result<usize, Error>
-    requires inside { HasCleanDisk (state S.Store tx.old.conn.now)
-        → IsTrue (state S.Store tx.old.conn.now).in_transaction }
-    ensures open { HasCleanDisk (state S.Store tx.new.conn.now)
-        → OnOk result (IsTrue (state S.Store tx.old.conn.now).is_open) }
-    ensures inside { HasCleanDisk (state S.Store tx.new.conn.now)
-        → OnOk result (IsTrue (state S.Store tx.new.conn.now).in_transaction) }
-    ensures indexed { HasCleanDisk (state S.Store tx.new.conn.now)
-        → OnOk result (IsIndexed (state S.Store tx.old.conn.now).now (state S.Store tx.new.conn.now).now) }
-    ensures made { HasCleanDisk (state S.Store tx.new.conn.now)
-        → OnOk result (Indexes (state S.Store tx.old.conn.now) (state S.Store tx.new.conn.now)) }
+    requires inside { IsInside S.Store tx.old }
+    ensures open { Leads S.Store tx.old tx.new result (λ before _. IsTrue before.is_open) }
+    ensures inside { StaysInside S.Store tx.old tx.new result }
+    ensures indexed { Turns S.Store tx.old tx.new result IsIndexed }
+    ensures made { Leads S.Store tx.old tx.new result Indexes }
     ensures leaves { LeavesCommit S.Store tx.old tx.new }
 {
     tx.execute("CREATE INDEX usage_by_day ON usage (day, login)", &[])
@@ -33,10 +28,8 @@ pub(crate) fn add_index<S: Alter>(
     tx: &mut Transaction<'_, S>,
     is_wanted: bool,
 ) -> Result<usize, Error>
-    requires inside { HasCleanDisk (state S.Store tx.old.conn.now)
-        → IsTrue (state S.Store tx.old.conn.now).in_transaction }
-    ensures made { HasCleanDisk (state S.Store tx.new.conn.now)
-        → OnOk result (IndexesIf is_wanted (state S.Store tx.old.conn.now) (state S.Store tx.new.conn.now)) }
+    requires inside { IsInside S.Store tx.old }
+    ensures made { Leads S.Store tx.old tx.new result (IndexesIf is_wanted) }
     ensures leaves { LeavesCommit S.Store tx.old tx.new }
 {
     if is_wanted { create_index(tx) } else { Ok(0) }

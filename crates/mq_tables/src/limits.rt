@@ -1,12 +1,10 @@
 //! All limits that a ledger has, whatever their columns hold.
 
 ghost use Rattle.std.specs.List.Sorted.{IsPermutation};
-ghost use Rattle.std.specs.Prelude.{◌≡◌, map, OnOk, IfOk};
-ghost use Rattle.sqlite.specs.Held.{state};
-ghost use Rattle.sqlite.specs.State.{HasCleanDisk, IsUnchanged};
+ghost use Rattle.std.specs.Prelude.{◌≡◌, map, IfOk};
 ghost use Rattle.mq_rows.specs.Audit.{Figures};
 ghost use Rattle.mq_tables.specs.Figures.{HasFigures, limit_cells, limit_columns};
-ghost use Rattle.mq_tables.specs.Inside.{LeavesCommit};
+ghost use Rattle.mq_tables.specs.Inside.{ChangesNothing, Finds, Reads, LeavesCommit};
 
 use crate::figures::{Table, limit_of};
 use mq_rows::LimitFigures;
@@ -14,12 +12,8 @@ use sqlite::{Alter, Error, Row, Transaction};
 use std::alloc::Global;
 
 fn limits_rows<S: Alter>(tx: &mut Transaction<'_, S>) -> Result<Vec<Row>, Error>
-    ensures same { HasCleanDisk (state S.Store tx.new.conn.now)
-        → OnOk result (IsUnchanged (state S.Store tx.old.conn.now) (state S.Store tx.new.conn.now)) }
-    ensures found { HasCleanDisk (state S.Store tx.new.conn.now)
-        → IfOk result (λ rows. (f : Figures) → HasFigures (state S.Store tx.old.conn.now).now f
+    ensures { Reads S.Store tx.old tx.new result (λ db rows. (f : Figures) → HasFigures db f
         → IsPermutation (map limit_cells f.limits) rows.items) }
-    ensures leaves { LeavesCommit S.Store tx.old tx.new }
 {
     tx.query_all(Table::Limits.text(), &[])
 }
@@ -39,10 +33,8 @@ pub fn read_limits<S: Alter>(
     alloc: Global,
     tx: &mut Transaction<'_, S>,
 ) -> Result<Vec<LimitFigures>, Error>
-    ensures same { HasCleanDisk (state S.Store tx.new.conn.now)
-        → OnOk result (IsUnchanged (state S.Store tx.old.conn.now) (state S.Store tx.new.conn.now)) }
-    ensures found { HasCleanDisk (state S.Store tx.new.conn.now)
-        → IfOk result (λ read. (f : Figures) → HasFigures (state S.Store tx.old.conn.now).now f
+    ensures same { ChangesNothing S.Store tx.old tx.new result }
+    ensures found { Finds S.Store tx.old tx.new result (λ db read. (f : Figures) → HasFigures db f
         → IsPermutation f.limits read.items) }
     ensures leaves { LeavesCommit S.Store tx.old tx.new }
 {

@@ -1,13 +1,9 @@
 //! The table `usage`: on which day a login has used more than a limit allows.
 
 ghost use Rattle.std.specs.List.Sorted.{IsPermutation};
-ghost use Rattle.std.specs.Prelude.{◌≡◌, map, filter, OnOk, IfOk};
-ghost use Rattle.sqlite.specs.Held.{state};
-ghost use Rattle.sqlite.specs.State.{HasCleanDisk, IsUnchanged};
+ghost use Rattle.std.specs.Prelude.{◌≡◌, map, filter, IfOk};
 ghost use Rattle.mq_rows.specs.Found.{IsFirstOver};
-ghost use Rattle.mq_rows.specs.Tables.{Tables};
-ghost use Rattle.mq_tables.specs.Inside.{LeavesCommit};
-ghost use Rattle.mq_tables.specs.Ledger.{HasLedger};
+ghost use Rattle.mq_tables.specs.Inside.{ChangesNothing, Finds, Reads, OfLedger, LeavesCommit};
 ghost use Rattle.mq_tables.specs.Over.{day_row, is_from, is_past, earlier, IsTotalsShown, IsEarliest, IsFirstShown};
 
 use crate::usage::key_params;
@@ -60,12 +56,8 @@ fn rows_from<S: Alter>(
     login: &Login,
     from_day: u32,
 ) -> Result<Vec<Row>, Error>
-    ensures same { HasCleanDisk (state S.Store tx.new.conn.now)
-        → OnOk result (IsUnchanged (state S.Store tx.old.conn.now) (state S.Store tx.new.conn.now)) }
-    ensures found { HasCleanDisk (state S.Store tx.new.conn.now)
-        → IfOk result (λ rows. (t : Tables) → HasLedger (state S.Store tx.old.conn.now).now t
-        → IsPermutation (map day_row (filter (is_from login.now from_day) t.usage)) rows.items) }
-    ensures leaves { LeavesCommit S.Store tx.old tx.new }
+    ensures { Reads S.Store tx.old tx.new result (OfLedger (λ t rows.
+        IsPermutation (map day_row (filter (is_from login.now from_day) t.usage)) rows.items)) }
 {
     tx.query_all(
         "SELECT day, settled, reserved FROM usage WHERE login = ?1 AND day >= ?2",
@@ -107,11 +99,9 @@ pub fn find_over<S: Alter>(
     from_day: u32,
     cap: u32,
 ) -> Result<Option<UsageRecord>, Error>
-    ensures same { HasCleanDisk (state S.Store tx.new.conn.now)
-        → OnOk result (IsUnchanged (state S.Store tx.old.conn.now) (state S.Store tx.new.conn.now)) }
-    ensures found { HasCleanDisk (state S.Store tx.new.conn.now)
-        → IfOk result (λ found. (t : Tables) → HasLedger (state S.Store tx.old.conn.now).now t
-        → IsFirstOver login.now from_day cap t.usage found) }
+    ensures same { ChangesNothing S.Store tx.old tx.new result }
+    ensures found { Finds S.Store tx.old tx.new result (OfLedger (λ t found.
+        IsFirstOver login.now from_day cap t.usage found)) }
     ensures leaves { LeavesCommit S.Store tx.old tx.new }
 {
     let rows = rows_from(tx, login, from_day)?;

@@ -1,13 +1,9 @@
 //! The table `usage`, from row to row of a day.
 
-ghost use Rattle.std.specs.Prelude.{◌≡◌, OnOk, IfOk};
-ghost use Rattle.sqlite.specs.Held.{state};
-ghost use Rattle.sqlite.specs.State.{HasCleanDisk, IsUnchanged};
+ghost use Rattle.std.specs.Prelude.{◌≡◌, IfOk};
 ghost use Rattle.sqlite.specs.Values.{bound};
 ghost use Rattle.mq_rows.specs.Listing.{IsNext};
-ghost use Rattle.mq_rows.specs.Tables.{Tables};
-ghost use Rattle.mq_tables.specs.Inside.{LeavesCommit};
-ghost use Rattle.mq_tables.specs.Ledger.{HasLedger};
+ghost use Rattle.mq_tables.specs.Inside.{ChangesNothing, Finds, Reads, OfLedger, LeavesCommit};
 ghost use Rattle.mq_tables.specs.Paging.{just_above, from_params, IsNextShown, IsFirstOfDay};
 
 use mq_request::Login;
@@ -36,12 +32,7 @@ fn next_rows<S: Alter>(
     day: u32,
     after: &Login,
 ) -> Result<Vec<Row>, Error>
-    ensures same { HasCleanDisk (state S.Store tx.new.conn.now)
-        → OnOk result (IsUnchanged (state S.Store tx.old.conn.now) (state S.Store tx.new.conn.now)) }
-    ensures found { HasCleanDisk (state S.Store tx.new.conn.now)
-        → IfOk result (λ rows. (t : Tables) → HasLedger (state S.Store tx.old.conn.now).now t
-        → IsNextShown day after.now t.usage rows.items) }
-    ensures leaves { LeavesCommit S.Store tx.old tx.new }
+    ensures { Reads S.Store tx.old tx.new result (OfLedger (λ t rows. IsNextShown day after.now t.usage rows.items)) }
 {
     let from = just_above(after)?;
     tx.query_all(
@@ -74,11 +65,8 @@ pub fn next_usage<S: Alter>(
     day: u32,
     after: &Login,
 ) -> Result<Option<UsageRecord>, Error>
-    ensures same { HasCleanDisk (state S.Store tx.new.conn.now)
-        → OnOk result (IsUnchanged (state S.Store tx.old.conn.now) (state S.Store tx.new.conn.now)) }
-    ensures found { HasCleanDisk (state S.Store tx.new.conn.now)
-        → IfOk result (λ found. (t : Tables) → HasLedger (state S.Store tx.old.conn.now).now t
-        → IsNext day after.now t.usage found) }
+    ensures same { ChangesNothing S.Store tx.old tx.new result }
+    ensures found { Finds S.Store tx.old tx.new result (OfLedger (λ t found. IsNext day after.now t.usage found)) }
     ensures leaves { LeavesCommit S.Store tx.old tx.new }
 {
     let rows = next_rows(tx, day, after)?;

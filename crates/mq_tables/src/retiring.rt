@@ -1,15 +1,12 @@
 //! What a retire reads of the runs that it gives up: their open transactions, and the places of their answers.
 
 ghost use Rattle.std.specs.List.Sorted.{IsPermutation};
-ghost use Rattle.std.specs.Prelude.{◌≡◌, ◌<◌, ◌^◌, map, filter, All, IsTrue, OnOk, IfOk};
-ghost use Rattle.sqlite.specs.Held.{state};
-ghost use Rattle.sqlite.specs.State.{HasCleanDisk, IsUnchanged};
+ghost use Rattle.std.specs.Prelude.{◌≡◌, ◌<◌, ◌^◌, map, filter, All, IfOk};
 ghost use Rattle.sqlite.specs.Values.{bound};
 ghost use Rattle.mq_rows.specs.Plan.{is_among, is_open_in};
 ghost use Rattle.mq_rows.specs.Storable.{IsStorable};
-ghost use Rattle.mq_rows.specs.Tables.{Tables};
+ghost use Rattle.mq_tables.specs.Inside.{IsInside, ChangesNothing, Finds, Reads, Leads, StaysInside, OfLedger};
 ghost use Rattle.mq_tables.specs.Inside.{LeavesCommit};
-ghost use Rattle.mq_tables.specs.Ledger.{HasLedger};
 ghost use Rattle.mq_tables.specs.Retiring.{open_params, open_row, open_columns, IsOpenRead, IsOpenOf};
 ghost use Rattle.mq_tables.specs.Retiring.{runs_params, place_row, clear_params, ClearsAt};
 
@@ -34,12 +31,8 @@ fn open_params(runs: &Runs) -> [ValueRef<'_>; 4]
 
 fn open_rows<S: Alter>(tx: &mut Transaction<'_, S>, runs: &Runs) -> Result<Vec<Row>, Error>
     requires in_range { (runs.now.from < 2 ^ 63) × (runs.now.to < 2 ^ 63) }
-    ensures same { HasCleanDisk (state S.Store tx.new.conn.now)
-        → OnOk result (IsUnchanged (state S.Store tx.old.conn.now) (state S.Store tx.new.conn.now)) }
-    ensures found { HasCleanDisk (state S.Store tx.new.conn.now)
-        → IfOk result (λ rows. (t : Tables) → HasLedger (state S.Store tx.old.conn.now).now t
-        → IsPermutation (map open_row (filter (is_open_in runs.now) t.transactions)) rows.items) }
-    ensures leaves { LeavesCommit S.Store tx.old tx.new }
+    ensures { Reads S.Store tx.old tx.new result (OfLedger (λ t rows.
+        IsPermutation (map open_row (filter (is_open_in runs.now) t.transactions)) rows.items)) }
 {
     tx.query_all(
         "SELECT run, txn, login, moment, day, held, settled FROM trans \
@@ -87,11 +80,9 @@ pub fn find_open<S: Alter>(
     runs: &Runs,
 ) -> Result<Vec<TransactionRecord>, Error>
     requires in_range { (runs.now.from < 2 ^ 63) × (runs.now.to < 2 ^ 63) }
-    ensures same { HasCleanDisk (state S.Store tx.new.conn.now)
-        → OnOk result (IsUnchanged (state S.Store tx.old.conn.now) (state S.Store tx.new.conn.now)) }
-    ensures found { HasCleanDisk (state S.Store tx.new.conn.now)
-        → IfOk result (λ found. (t : Tables) → HasLedger (state S.Store tx.old.conn.now).now t
-        → IsPermutation found.items (filter (is_open_in runs.now) t.transactions)) }
+    ensures same { ChangesNothing S.Store tx.old tx.new result }
+    ensures found { Finds S.Store tx.old tx.new result (OfLedger (λ t found.
+        IsPermutation found.items (filter (is_open_in runs.now) t.transactions))) }
     ensures storable { IfOk result (λ found. All IsStorable found.items) }
     ensures leaves { LeavesCommit S.Store tx.old tx.new }
 {
@@ -113,11 +104,9 @@ fn runs_params(runs: &Runs) -> [ValueRef<'_>; 3]
 /// The places of the answers of these runs, in any order: one number a row.
 pub fn answer_places<S: Alter>(tx: &mut Transaction<'_, S>, runs: &Runs) -> Result<Vec<Row>, Error>
     requires in_range { (runs.now.from < 2 ^ 63) × (runs.now.to < 2 ^ 63) }
-    ensures same { HasCleanDisk (state S.Store tx.new.conn.now)
-        → OnOk result (IsUnchanged (state S.Store tx.old.conn.now) (state S.Store tx.new.conn.now)) }
-    ensures found { HasCleanDisk (state S.Store tx.new.conn.now)
-        → IfOk result (λ rows. (t : Tables) → HasLedger (state S.Store tx.old.conn.now).now t
-        → IsPermutation (map place_row (filter (λ a. is_among runs.now a.id.host a.id.run) t.answers)) rows.items) }
+    ensures same { ChangesNothing S.Store tx.old tx.new result }
+    ensures found { Finds S.Store tx.old tx.new result (OfLedger (λ t rows.
+        IsPermutation (map place_row (filter (λ a. is_among runs.now a.id.host a.id.run) t.answers)) rows.items)) }
     ensures leaves { LeavesCommit S.Store tx.old tx.new }
 {
     tx.query_all(
@@ -136,12 +125,9 @@ fn clear_params(n: u64) -> [ValueRef<'static>; 2]
 /// Clears the reply of the answer at that place, which is below 2 to the 63rd.
 pub fn clear_reply<S: Alter>(tx: &mut Transaction<'_, S>, n: u64) -> Result<usize, Error>
     requires in_range { n < 2 ^ 63 }
-    requires inside { HasCleanDisk (state S.Store tx.old.conn.now)
-        → IsTrue (state S.Store tx.old.conn.now).in_transaction }
-    ensures inside { HasCleanDisk (state S.Store tx.new.conn.now)
-        → OnOk result (IsTrue (state S.Store tx.new.conn.now).in_transaction) }
-    ensures cleared { HasCleanDisk (state S.Store tx.new.conn.now)
-        → OnOk result (ClearsAt n (state S.Store tx.old.conn.now) (state S.Store tx.new.conn.now)) }
+    requires inside { IsInside S.Store tx.old }
+    ensures inside { StaysInside S.Store tx.old tx.new result }
+    ensures cleared { Leads S.Store tx.old tx.new result (ClearsAt n) }
     ensures leaves { LeavesCommit S.Store tx.old tx.new }
 {
     tx.execute(

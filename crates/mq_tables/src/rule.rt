@@ -33,10 +33,7 @@ pub fn read_rule<S: Alter>(connection: &mut Connection<S>) -> Result<Row, Error>
 {
     connection.set_step_limit(None);
     let _settled = connection.is_autocommit();
-    match connection.query_row("SELECT bytes FROM rule WHERE id = 1", &[]) {
-        Ok(row) => Ok(row),
-        Err(error) => Err(error),
-    }
+    connection.query_row("SELECT bytes FROM rule WHERE id = 1", &[])
 }
 
 /// The text of the rule in the row; `None` where no bytes stand there.

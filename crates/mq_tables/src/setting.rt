@@ -3,13 +3,12 @@
 ghost use Rattle.std.specs.Prelude.{◌≡◌, ◌<◌, ◌^◌, pos, None, IsTrue, OnOk, IfOk, [], ◌∷◌, false};
 ghost use Rattle.sqlite.specs.Held.{state};
 ghost use Rattle.sqlite.specs.Order.{column};
-ghost use Rattle.sqlite.specs.State.{HasCleanDisk, IsUnchanged};
+ghost use Rattle.sqlite.specs.State.{HasCleanDisk};
 ghost use Rattle.sqlite.specs.Values.{bound};
 ghost use Rattle.sqlite.specs.declared.types.Value.TheVariants.{Int};
 ghost use Rattle.sqlite_value.specs.Value.{owned};
-ghost use Rattle.mq_rows.specs.Tables.{Tables};
+ghost use Rattle.mq_tables.specs.Inside.{IsInside, ChangesNothing, Finds, Reads, Leads, StaysInside, OfLedger};
 ghost use Rattle.mq_tables.specs.Inside.{LeavesCommit};
-ghost use Rattle.mq_tables.specs.Ledger.{HasLedger};
 ghost use Rattle.mq_tables.specs.Lent.{IsNaturalAt, IsFirstNatural};
 ghost use Rattle.mq_tables.specs.Reading.{IsRead, Spares};
 ghost use Rattle.mq_tables.specs.Settings.{SettingRow, HasSetting, IsOf, setting_of};
@@ -103,12 +102,8 @@ pub fn natural_at(row: &Row, at: usize) -> Result<u64, Error>
 }
 
 fn arrivals_rows<S: Alter>(tx: &mut Transaction<'_, S>) -> Result<Vec<Row>, Error>
-    ensures same { HasCleanDisk (state S.Store tx.new.conn.now)
-        → OnOk result (IsUnchanged (state S.Store tx.old.conn.now) (state S.Store tx.new.conn.now)) }
-    ensures found { HasCleanDisk (state S.Store tx.new.conn.now)
-        → IfOk result (λ rows. (t : Tables) → HasLedger (state S.Store tx.old.conn.now).now t
-        → rows.items ≡ (Int (pos t.setting.arrivals) ∷ []) ∷ []) }
-    ensures leaves { LeavesCommit S.Store tx.old tx.new }
+    ensures { Reads S.Store tx.old tx.new result (OfLedger (λ t rows.
+        rows.items ≡ (Int (pos t.setting.arrivals) ∷ []) ∷ [])) }
 {
     tx.query_all("SELECT arrivals FROM setting WHERE id = 1", &[])
 }
@@ -127,11 +122,8 @@ fn first_natural(rows: &[Row]) -> Result<u64, Error>
 /// An error is the store's: `QueryReturnedNoRows` where the row is absent, `InvalidColumnType` where no
 /// whole number stands there, and `IntegralValueOutOfRange` where it is below 0.
 pub fn read_arrivals<S: Alter>(tx: &mut Transaction<'_, S>) -> Result<u64, Error>
-    ensures same { HasCleanDisk (state S.Store tx.new.conn.now)
-        → OnOk result (IsUnchanged (state S.Store tx.old.conn.now) (state S.Store tx.new.conn.now)) }
-    ensures found { HasCleanDisk (state S.Store tx.new.conn.now)
-        → IfOk result (λ arrivals. (t : Tables) → HasLedger (state S.Store tx.old.conn.now).now t
-        → arrivals ≡ t.setting.arrivals) }
+    ensures same { ChangesNothing S.Store tx.old tx.new result }
+    ensures found { Finds S.Store tx.old tx.new result (OfLedger (λ t arrivals. arrivals ≡ t.setting.arrivals)) }
     ensures in_range { IfOk result (λ arrivals. arrivals < 2 ^ 63) }
     ensures leaves { LeavesCommit S.Store tx.old tx.new }
 {
@@ -142,12 +134,9 @@ pub fn read_arrivals<S: Alter>(tx: &mut Transaction<'_, S>) -> Result<u64, Error
 /// Writes the count of arrivals, which is below 2 to the 63rd.
 pub fn set_arrivals<S: Alter>(tx: &mut Transaction<'_, S>, arrivals: u64) -> Result<usize, Error>
     requires in_range { arrivals < 2 ^ 63 }
-    requires inside { HasCleanDisk (state S.Store tx.old.conn.now)
-        → IsTrue (state S.Store tx.old.conn.now).in_transaction }
-    ensures inside { HasCleanDisk (state S.Store tx.new.conn.now)
-        → OnOk result (IsTrue (state S.Store tx.new.conn.now).in_transaction) }
-    ensures counted { HasCleanDisk (state S.Store tx.new.conn.now)
-        → OnOk result (CountsArrivals arrivals (state S.Store tx.old.conn.now) (state S.Store tx.new.conn.now)) }
+    requires inside { IsInside S.Store tx.old }
+    ensures inside { StaysInside S.Store tx.old tx.new result }
+    ensures counted { Leads S.Store tx.old tx.new result (CountsArrivals arrivals) }
     ensures leaves { LeavesCommit S.Store tx.old tx.new }
 {
     tx.execute(

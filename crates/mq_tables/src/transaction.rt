@@ -1,16 +1,13 @@
 //! The table `trans`, which keeps how each transaction stands.
 
 ghost use Rattle.std.specs.List.Sorted.{IsPermutation};
-ghost use Rattle.std.specs.Prelude.{◌≡◌, ◌<◌, ◌^◌, map, filter, IsTrue, OnOk, IfOk};
-ghost use Rattle.sqlite.specs.Held.{state};
-ghost use Rattle.sqlite.specs.State.{HasCleanDisk, IsUnchanged};
+ghost use Rattle.std.specs.Prelude.{◌≡◌, ◌<◌, ◌^◌, map, filter, IfOk};
 ghost use Rattle.sqlite.specs.Values.{bound};
 ghost use Rattle.mq_rows.specs.Rows.{is_transaction};
 ghost use Rattle.mq_rows.specs.Storable.{IsStorable, AreStorableIf, AreStorable};
-ghost use Rattle.mq_rows.specs.Tables.{Tables};
 ghost use Rattle.mq_rows.specs.declared.plan.Write.TheVariants.{Insert, Update};
-ghost use Rattle.mq_tables.specs.Inside.{LeavesCommit};
-ghost use Rattle.mq_tables.specs.Ledger.{HasLedger};
+ghost use Rattle.mq_tables.specs.Inside.{IsInside, ChangesNothing, Finds, Reads, Leads, StaysInside, Writes};
+ghost use Rattle.mq_tables.specs.Inside.{OfLedger, LeavesCommit};
 ghost use Rattle.mq_tables.specs.Lent.{standing_params, standing_row, transaction_key, IsFirstTransaction};
 ghost use Rattle.mq_tables.specs.Records.{IsOneOf, transaction_fields};
 ghost use Rattle.mq_tables.specs.Updates.{WritesTransaction};
@@ -39,13 +36,9 @@ fn transaction_rows<S: Alter>(
     txn: u32,
 ) -> Result<Vec<Row>, Error>
     requires { run < 2 ^ 63 }
-    ensures same { HasCleanDisk (state S.Store tx.new.conn.now)
-        → OnOk result (IsUnchanged (state S.Store tx.old.conn.now) (state S.Store tx.new.conn.now)) }
-    ensures found { HasCleanDisk (state S.Store tx.new.conn.now)
-        → IfOk result (λ rows. (t : Tables) → HasLedger (state S.Store tx.old.conn.now).now t
-        → IsPermutation (map standing_row (filter
-        (is_transaction (record { host = host.now; run = run; txn = txn })) t.transactions)) rows.items) }
-    ensures leaves { LeavesCommit S.Store tx.old tx.new }
+    ensures { Reads S.Store tx.old tx.new result (OfLedger (λ t rows.
+        IsPermutation (map standing_row
+        (filter (is_transaction (record { host = host.now; run = run; txn = txn })) t.transactions)) rows.items)) }
 {
     tx.query_all(
         "SELECT login, moment, day, held, settled, closed FROM trans WHERE host = ?1 AND run = ?2 AND txn = ?3",
@@ -89,11 +82,9 @@ pub fn find_transaction<S: Alter>(
     txn: u32,
 ) -> Result<Option<TransactionRecord>, Error>
     requires { run < 2 ^ 63 }
-    ensures same { HasCleanDisk (state S.Store tx.new.conn.now)
-        → OnOk result (IsUnchanged (state S.Store tx.old.conn.now) (state S.Store tx.new.conn.now)) }
-    ensures found { HasCleanDisk (state S.Store tx.new.conn.now)
-        → IfOk result (λ found. (t : Tables) → HasLedger (state S.Store tx.old.conn.now).now t
-        → IsOneOf (is_transaction (record { host = host.now; run = run; txn = txn })) t.transactions found) }
+    ensures same { ChangesNothing S.Store tx.old tx.new result }
+    ensures found { Finds S.Store tx.old tx.new result (OfLedger (λ t found.
+        IsOneOf (is_transaction (record { host = host.now; run = run; txn = txn })) t.transactions found)) }
     ensures storable { IfOk result AreStorableIf }
     ensures leaves { LeavesCommit S.Store tx.old tx.new }
 {
@@ -137,14 +128,8 @@ fn insert_transaction<S: Alter>(
     transaction: &TransactionRecord,
 ) -> Result<usize, Error>
     requires storable { IsStorable transaction.now }
-    requires inside { HasCleanDisk (state S.Store tx.old.conn.now)
-        → IsTrue (state S.Store tx.old.conn.now).in_transaction }
-    ensures inside { HasCleanDisk (state S.Store tx.new.conn.now)
-        → OnOk result (IsTrue (state S.Store tx.new.conn.now).in_transaction) }
-    ensures written { HasCleanDisk (state S.Store tx.new.conn.now)
-        → OnOk result (WritesTransaction (Insert transaction.now)
-        (state S.Store tx.old.conn.now) (state S.Store tx.new.conn.now)) }
-    ensures leaves { LeavesCommit S.Store tx.old tx.new }
+    requires inside { IsInside S.Store tx.old }
+    ensures { Writes S.Store tx.old tx.new result (WritesTransaction (Insert transaction.now)) }
 {
     tx.execute(
         "INSERT INTO trans (host, run, txn, login, moment, day, held, settled, closed) \
@@ -158,14 +143,8 @@ fn update_transaction<S: Alter>(
     transaction: &TransactionRecord,
 ) -> Result<usize, Error>
     requires storable { IsStorable transaction.now }
-    requires inside { HasCleanDisk (state S.Store tx.old.conn.now)
-        → IsTrue (state S.Store tx.old.conn.now).in_transaction }
-    ensures inside { HasCleanDisk (state S.Store tx.new.conn.now)
-        → OnOk result (IsTrue (state S.Store tx.new.conn.now).in_transaction) }
-    ensures written { HasCleanDisk (state S.Store tx.new.conn.now)
-        → OnOk result (WritesTransaction (Update transaction.now)
-        (state S.Store tx.old.conn.now) (state S.Store tx.new.conn.now)) }
-    ensures leaves { LeavesCommit S.Store tx.old tx.new }
+    requires inside { IsInside S.Store tx.old }
+    ensures { Writes S.Store tx.old tx.new result (WritesTransaction (Update transaction.now)) }
 {
     tx.execute(
         "UPDATE trans SET held = ?1, settled = ?2, closed = ?3 WHERE host = ?4 AND run = ?5 AND txn = ?6",
@@ -180,12 +159,9 @@ pub fn write_transaction<S: Alter>(
     write: &Write<TransactionRecord>,
 ) -> Result<usize, Error>
     requires storable { AreStorable write.now }
-    requires inside { HasCleanDisk (state S.Store tx.old.conn.now)
-        → IsTrue (state S.Store tx.old.conn.now).in_transaction }
-    ensures inside { HasCleanDisk (state S.Store tx.new.conn.now)
-        → OnOk result (IsTrue (state S.Store tx.new.conn.now).in_transaction) }
-    ensures written { HasCleanDisk (state S.Store tx.new.conn.now)
-        → OnOk result (WritesTransaction write.now (state S.Store tx.old.conn.now) (state S.Store tx.new.conn.now)) }
+    requires inside { IsInside S.Store tx.old }
+    ensures inside { StaysInside S.Store tx.old tx.new result }
+    ensures written { Leads S.Store tx.old tx.new result (WritesTransaction write.now) }
     ensures leaves { LeavesCommit S.Store tx.old tx.new }
 {
     match write {

@@ -1,15 +1,12 @@
 //! The table `usage`, which keeps what each login has on each day.
 
 ghost use Rattle.std.specs.List.Sorted.{IsPermutation};
-ghost use Rattle.std.specs.Prelude.{◌≡◌, map, filter, IsTrue, OnOk, IfOk};
-ghost use Rattle.sqlite.specs.Held.{state};
-ghost use Rattle.sqlite.specs.State.{HasCleanDisk, IsUnchanged};
+ghost use Rattle.std.specs.Prelude.{◌≡◌, map, filter, IfOk};
 ghost use Rattle.sqlite.specs.Values.{bound};
 ghost use Rattle.mq_rows.specs.Rows.{is_usage};
-ghost use Rattle.mq_rows.specs.Tables.{Tables};
 ghost use Rattle.mq_rows.specs.declared.plan.Write.TheVariants.{Insert, Update};
-ghost use Rattle.mq_tables.specs.Inside.{LeavesCommit};
-ghost use Rattle.mq_tables.specs.Ledger.{HasLedger};
+ghost use Rattle.mq_tables.specs.Inside.{IsInside, ChangesNothing, Finds, Reads, Leads, StaysInside, Writes};
+ghost use Rattle.mq_tables.specs.Inside.{OfLedger, LeavesCommit};
 ghost use Rattle.mq_tables.specs.Lent.{key_params, totals_params, totals_row, IsFirst};
 ghost use Rattle.mq_tables.specs.Records.{IsOneOf, usage_fields};
 ghost use Rattle.mq_tables.specs.Updates.{WritesUsage};
@@ -33,12 +30,8 @@ fn usage_rows<S: Alter>(
     login: &Login,
     day: u32,
 ) -> Result<Vec<Row>, Error>
-    ensures same { HasCleanDisk (state S.Store tx.new.conn.now)
-        → OnOk result (IsUnchanged (state S.Store tx.old.conn.now) (state S.Store tx.new.conn.now)) }
-    ensures found { HasCleanDisk (state S.Store tx.new.conn.now)
-        → IfOk result (λ rows. (t : Tables) → HasLedger (state S.Store tx.old.conn.now).now t
-        → IsPermutation (map totals_row (filter (is_usage login.now day) t.usage)) rows.items) }
-    ensures leaves { LeavesCommit S.Store tx.old tx.new }
+    ensures { Reads S.Store tx.old tx.new result (OfLedger (λ t rows.
+        IsPermutation (map totals_row (filter (is_usage login.now day) t.usage)) rows.items)) }
 {
     tx.query_all(
         "SELECT settled, reserved FROM usage WHERE login = ?1 AND day = ?2",
@@ -67,11 +60,9 @@ pub fn find_usage<S: Alter>(
     login: &Login,
     day: u32,
 ) -> Result<Option<UsageRecord>, Error>
-    ensures same { HasCleanDisk (state S.Store tx.new.conn.now)
-        → OnOk result (IsUnchanged (state S.Store tx.old.conn.now) (state S.Store tx.new.conn.now)) }
-    ensures found { HasCleanDisk (state S.Store tx.new.conn.now)
-        → IfOk result (λ found. (t : Tables) → HasLedger (state S.Store tx.old.conn.now).now t
-        → IsOneOf (is_usage login.now day) t.usage found) }
+    ensures same { ChangesNothing S.Store tx.old tx.new result }
+    ensures found { Finds S.Store tx.old tx.new result (OfLedger (λ t found.
+        IsOneOf (is_usage login.now day) t.usage found)) }
     ensures leaves { LeavesCommit S.Store tx.old tx.new }
 {
     let rows = usage_rows(tx, login, day)?;
@@ -90,13 +81,8 @@ fn usage_params(usage: &UsageRecord) -> [ValueRef<'_>; 4]
 }
 
 fn insert_usage<S: Alter>(tx: &mut Transaction<'_, S>, usage: &UsageRecord) -> Result<usize, Error>
-    requires inside { HasCleanDisk (state S.Store tx.old.conn.now)
-        → IsTrue (state S.Store tx.old.conn.now).in_transaction }
-    ensures inside { HasCleanDisk (state S.Store tx.new.conn.now)
-        → OnOk result (IsTrue (state S.Store tx.new.conn.now).in_transaction) }
-    ensures written { HasCleanDisk (state S.Store tx.new.conn.now)
-        → OnOk result (WritesUsage (Insert usage.now) (state S.Store tx.old.conn.now) (state S.Store tx.new.conn.now)) }
-    ensures leaves { LeavesCommit S.Store tx.old tx.new }
+    requires inside { IsInside S.Store tx.old }
+    ensures { Writes S.Store tx.old tx.new result (WritesUsage (Insert usage.now)) }
 {
     tx.execute(
         "INSERT INTO usage (login, day, settled, reserved) VALUES (?1, ?2, ?3, ?4)",
@@ -116,13 +102,8 @@ fn totals_params(usage: &UsageRecord) -> [ValueRef<'_>; 4]
 }
 
 fn update_usage<S: Alter>(tx: &mut Transaction<'_, S>, usage: &UsageRecord) -> Result<usize, Error>
-    requires inside { HasCleanDisk (state S.Store tx.old.conn.now)
-        → IsTrue (state S.Store tx.old.conn.now).in_transaction }
-    ensures inside { HasCleanDisk (state S.Store tx.new.conn.now)
-        → OnOk result (IsTrue (state S.Store tx.new.conn.now).in_transaction) }
-    ensures written { HasCleanDisk (state S.Store tx.new.conn.now)
-        → OnOk result (WritesUsage (Update usage.now) (state S.Store tx.old.conn.now) (state S.Store tx.new.conn.now)) }
-    ensures leaves { LeavesCommit S.Store tx.old tx.new }
+    requires inside { IsInside S.Store tx.old }
+    ensures { Writes S.Store tx.old tx.new result (WritesUsage (Update usage.now)) }
 {
     tx.execute(
         "UPDATE usage SET settled = ?1, reserved = ?2 WHERE login = ?3 AND day = ?4",
@@ -135,12 +116,9 @@ pub fn write_usage<S: Alter>(
     tx: &mut Transaction<'_, S>,
     write: &Write<UsageRecord>,
 ) -> Result<usize, Error>
-    requires inside { HasCleanDisk (state S.Store tx.old.conn.now)
-        → IsTrue (state S.Store tx.old.conn.now).in_transaction }
-    ensures inside { HasCleanDisk (state S.Store tx.new.conn.now)
-        → OnOk result (IsTrue (state S.Store tx.new.conn.now).in_transaction) }
-    ensures written { HasCleanDisk (state S.Store tx.new.conn.now)
-        → OnOk result (WritesUsage write.now (state S.Store tx.old.conn.now) (state S.Store tx.new.conn.now)) }
+    requires inside { IsInside S.Store tx.old }
+    ensures inside { StaysInside S.Store tx.old tx.new result }
+    ensures written { Leads S.Store tx.old tx.new result (WritesUsage write.now) }
     ensures leaves { LeavesCommit S.Store tx.old tx.new }
 {
     match write {

@@ -5,7 +5,7 @@ ghost use Rattle.sqlite.specs.State.{HasCleanDisk};
 ghost use Rattle.sqlite.specs.Held.{state};
 ghost use Rattle.sqlite.specs.Tree.{Trees};
 ghost use Rattle.sqlite.specs.Values.{bound};
-ghost use Rattle.mq_tables.specs.Inside.{Lasts, LeavesCommit};
+ghost use Rattle.mq_tables.specs.Inside.{IsInside, Leads, Turns, StaysInside, Writes, LeavesCommit, Lasts};
 ghost use Rattle.mq_tables.specs.Migrating.{version_params, AddsRule, SetsVersion, IsMigratedBy, IsMigrated, AreMigrated};
 
 use crate::create::{create_retired, create_rule};
@@ -22,13 +22,8 @@ fn version_params() -> [ValueRef<'static>; 1]
 }
 
 fn set_version<S: Alter>(tx: &mut Transaction<'_, S>) -> Result<usize, Error>
-    requires inside { HasCleanDisk (state S.Store tx.old.conn.now)
-        → IsTrue (state S.Store tx.old.conn.now).in_transaction }
-    ensures inside { HasCleanDisk (state S.Store tx.new.conn.now)
-        → OnOk result (IsTrue (state S.Store tx.new.conn.now).in_transaction) }
-    ensures set { HasCleanDisk (state S.Store tx.new.conn.now)
-        → OnOk result (SetsVersion (state S.Store tx.old.conn.now).now (state S.Store tx.new.conn.now).now) }
-    ensures leaves { LeavesCommit S.Store tx.old tx.new }
+    requires inside { IsInside S.Store tx.old }
+    ensures { Writes S.Store tx.old tx.new result (λ before after. SetsVersion before.now after.now) }
 {
     tx.execute(
         "UPDATE setting SET version = ?1 WHERE id = 1",
@@ -38,12 +33,9 @@ fn set_version<S: Alter>(tx: &mut Transaction<'_, S>) -> Result<usize, Error>
 
 /// Makes the table of the rule, where it isn't there yet.
 fn add_rule<S: Alter>(tx: &mut Transaction<'_, S>, has_rule_table: bool) -> Result<usize, Error>
-    requires inside { HasCleanDisk (state S.Store tx.old.conn.now)
-        → IsTrue (state S.Store tx.old.conn.now).in_transaction }
-    ensures inside { HasCleanDisk (state S.Store tx.new.conn.now)
-        → OnOk result (IsTrue (state S.Store tx.new.conn.now).in_transaction) }
-    ensures added { HasCleanDisk (state S.Store tx.new.conn.now)
-        → OnOk result (AddsRule has_rule_table (state S.Store tx.old.conn.now) (state S.Store tx.new.conn.now)) }
+    requires inside { IsInside S.Store tx.old }
+    ensures inside { StaysInside S.Store tx.old tx.new result }
+    ensures added { Leads S.Store tx.old tx.new result (AddsRule has_rule_table) }
     ensures leaves { LeavesCommit S.Store tx.old tx.new }
 {
     if has_rule_table {
@@ -58,15 +50,10 @@ fn migrate_tables<S: Alter>(
     tx: &mut Transaction<'_, S>,
     has_rule_table: bool,
 ) -> Result<usize, Error>
-    requires inside { HasCleanDisk (state S.Store tx.old.conn.now)
-        → IsTrue (state S.Store tx.old.conn.now).in_transaction }
-    ensures inside { HasCleanDisk (state S.Store tx.new.conn.now)
-        → OnOk result (IsTrue (state S.Store tx.new.conn.now).in_transaction) }
-    ensures open { HasCleanDisk (state S.Store tx.new.conn.now)
-        → OnOk result (IsTrue (state S.Store tx.old.conn.now).is_open) }
-    ensures migrated { HasCleanDisk (state S.Store tx.new.conn.now)
-        → OnOk result (IsMigratedBy false has_rule_table (state S.Store tx.old.conn.now).now
-        (state S.Store tx.new.conn.now).now) }
+    requires inside { IsInside S.Store tx.old }
+    ensures inside { StaysInside S.Store tx.old tx.new result }
+    ensures open { Leads S.Store tx.old tx.new result (λ before _. IsTrue before.is_open) }
+    ensures migrated { Turns S.Store tx.old tx.new result (IsMigratedBy false has_rule_table) }
     ensures leaves { LeavesCommit S.Store tx.old tx.new }
 {
     add_rule(tx, has_rule_table)?;
@@ -80,15 +67,10 @@ fn migrate_all<S: Alter>(
     has_rule_table: bool,
     indexed: bool,
 ) -> Result<usize, Error>
-    requires inside { HasCleanDisk (state S.Store tx.old.conn.now)
-        → IsTrue (state S.Store tx.old.conn.now).in_transaction }
-    ensures inside { HasCleanDisk (state S.Store tx.new.conn.now)
-        → OnOk result (IsTrue (state S.Store tx.new.conn.now).in_transaction) }
-    ensures open { HasCleanDisk (state S.Store tx.new.conn.now)
-        → OnOk result (IsTrue (state S.Store tx.old.conn.now).is_open) }
-    ensures migrated { HasCleanDisk (state S.Store tx.new.conn.now)
-        → OnOk result (IsMigratedBy indexed has_rule_table (state S.Store tx.old.conn.now).now
-        (state S.Store tx.new.conn.now).now) }
+    requires inside { IsInside S.Store tx.old }
+    ensures inside { StaysInside S.Store tx.old tx.new result }
+    ensures open { Leads S.Store tx.old tx.new result (λ before _. IsTrue before.is_open) }
+    ensures migrated { Turns S.Store tx.old tx.new result (IsMigratedBy indexed has_rule_table) }
     ensures leaves { LeavesCommit S.Store tx.old tx.new }
 {
     migrate_tables(tx, has_rule_table)?;

@@ -1,12 +1,6 @@
 -- The INSERT of an answer, over any schema that has the table at some place.
-use Rattle.std.proofs.Common.{append-nil, ◌≡◌, ℕ, pos, List, [], ◌∷◌, ◌++◌, IsTrue, Ok, Err, Result, OnOk, codes, refl, ap, ◌∙◌}
-use Rattle.sqlite.specs.declared.error.Error.{Error}
-use Rattle.sqlite.specs.declared.types.Value.TheVariants.{Null}
-use Rattle.sqlite.specs.Tree.{put_row}
-use Rattle.sqlite.specs.Term.{lit, col}
-use Rattle.sqlite.specs.State.{State, ExecutesInside}
-use Rattle.sqlite_tied.specs.Compute.{everything}
-use Rattle.mq_rows.specs.declared.record.AnswerRecord.{AnswerRecord}
+use Rattle.std.proofs.Common.{append-nil, ◌≡◌, ℕ, pos, List, [], ◌∷◌, ◌++◌, Ok, Err, codes, refl, ap, ◌∙◌}
+use Rattle.mq_tables.proofs.Words.{AnswerRecord, Null, State, col, everything, lit, put_row}
 use Rattle.mq_tables.specs.Lent.{answer_params}
 use Rattle.mq_tables.specs.Places.{IsAnswerIn}
 use Rattle.mq_tables.specs.Records.{answer_fields}
@@ -15,6 +9,7 @@ use Rattle.mq_tables.specs.Updates.{Appends}
 use Rattle.mq_tables.proofs.Changes.{answers_changed}
 use Rattle.mq_tables.proofs.InsertShape.{InsertShape, IsInsertOf, new_row, inserted}
 use Rattle.mq_tables.proofs.Casts.{cast_int, cast_null}
+use Rattle.mq_tables.proofs.Parts.{Executing}
 use Rattle.mq_tables.proofs.answers.Numbered.{appended, numbered_on}
 
 abbrev pub append_text : List ℕ
@@ -30,9 +25,9 @@ is_insert = record { parsed = refl; insert = record { name = _; columns = _; row
 row_is : (old new : State) (a : AnswerRecord) (tree : ℕ) (place : IsAnswerIn old.now.schema tree) → new_row append_text shape is_insert (answer_params a) old new tree place.at place.named place.there ≡ answer_fields a
 row_is old new a tree place = rw (cast_int (pos a.n), cast_null, cast_int (pos a.id.run), cast_int (pos a.id.number)) refl
 
-pub appends : (old new : State) (a : AnswerRecord) (r : Result ℕ Error) → ExecutesInside 0 append_text (answer_params a) old new r → OnOk r (IsTrue new.in_transaction) × OnOk r (Appends a old new)
-appends old new a (Err e) h = (tt, tt)
-appends old new a (Ok count) h = (
+pub appends : Executing append_text answer_params Appends
+appends a (Err e) old new h = (tt, tt)
+appends a (Ok count) old new h = (
   h.1.mode,
   λ t l next.
       let tree = l.at.answer in

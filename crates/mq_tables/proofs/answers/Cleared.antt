@@ -1,25 +1,13 @@
 -- An UPDATE of some rows of answers comes to setting each where it is.
 use Rattle.std.proofs.Common.{◌≡◌, ℕ, ℤ, pos, ◌+◌, Bool, true, false, not, List, [], ◌∷◌, map, drop, filter, Less, is_eq, refl, sym, ap, ap₂, subst, ◌∙◌, inl, inr, true≢false}
+use Rattle.mq_tables.proofs.Words.{AllByRecursion, AnswerRecord, Has, Int, IsPermutation, IsPermutation-sym, Row, all-permutation, are_fresh, id_in, ids_of, not-true, ordering_reverse, put_all, row_at, value_cmp, value_cmp_total, without_all}
 use Rattle.std.specs.Prelude.{if◌then◌else◌}
-use Rattle.std.specs.Ordering.{ordering_reverse}
-use Rattle.std.specs.List.{AllByRecursion}
-use Rattle.std.specs.List.Sorted.{IsPermutation}
-use Rattle.std.proofs.lemmas.Bool.{not-true}
 use Rattle.std.proofs.lemmas.Cmp.{tied_itself}
-use Rattle.std.proofs.lemmas.List.Sorted.{IsPermutation-sym}
-use Rattle.sqlite.specs.declared.types.Value.TheVariants.{Int}
-use Rattle.sqlite.specs.Order.{Row, value_cmp}
-use Rattle.sqlite.specs.Edit.{put_all, without_all, are_fresh, row_at, id_in}
-use Rattle.sqlite_value.proofs.OrderLemmas.{value_cmp_total}
 use Rattle.sqlite_trees.specs.Tree.{rowid, IsTable, has_rowid, without_rowid}
-use Rattle.sqlite_trees.proofs.ListLemmas.{all-permutation}
-use Rattle.sqlite_rules.specs.Lists.{Has}
-use Rattle.sqlite_rules.specs.Calls.{ids_of}
 use Rattle.sqlite_rules.proofs.ListLemmas.{all_has, all_from, has_filtered, has_kept}
 use Rattle.sqlite_rules.proofs.ProbeLemmas.{has_mapped, mapped_has}
 use Rattle.sqlite_rules.proofs.TableLemmas.{put_all_has, put_all_keeps, put_all_adds, without_all_has}
 use Rattle.sqlite_rules.proofs.PlaceLemmas.{left_or_taken, row_at_is}
-use Rattle.mq_rows.specs.declared.record.AnswerRecord.{AnswerRecord}
 use Rattle.mq_tables.specs.Records.{answer_fields, AreNumbered}
 use Rattle.mq_tables.specs.Retiring.{without_reply, cleared_where}
 

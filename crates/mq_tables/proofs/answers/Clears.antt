@@ -1,33 +1,13 @@
 -- The UPDATE that clears the reply of an answer, over any schema that has the table at some place.
-use Rattle.std.proofs.Common.{IsTrue, append-nil, ◌≡◌, ℕ, ℤ, ◌+◌, ◌<◌, ◌<ℤ◌, pos, List, [], ◌∷◌, ◌==◌, drop, map, filter, Bool, true, false, Ordering, Less, Equal, Greater, inl, inr, Ok, Err, Result, OnOk, codes, arith, refl, sym, ap, ap₂, subst, ◌∙◌}
-use Rattle.std.specs.List.{AllByRecursion, list_all}
-use Rattle.std.specs.List.Sorted.{IsPermutation}
-use Rattle.std.specs.Ordering.{int_cmp, MatchOrdering}
-use Rattle.std.specs.Cmp.{int_ranks}
-use Rattle.std.proofs.Math.Bool.{and-true}
-use Rattle.sqlite.specs.Order.{Row}
-use Rattle.sqlite.specs.declared.types.Value.TheVariants.{Null, Int}
-use Rattle.sqlite.specs.declared.error.Error.{Error}
+use Rattle.std.proofs.Common.{append-nil, ◌≡◌, ℕ, ℤ, ◌+◌, ◌<◌, ◌<ℤ◌, pos, List, [], ◌∷◌, ◌==◌, drop, map, filter, Bool, true, false, Ordering, Less, Equal, Greater, inl, inr, Ok, Err, codes, arith, refl, sym, ap, ap₂, subst, ◌∙◌}
+use Rattle.mq_tables.proofs.Words.{AllByRecursion, AnswerRecord, Given, Has, Int, IsPermutation, MatchOrdering, Null, Row, Table, and-true, are_fresh, ascending-filter, col, edit_of, everything, holds, ids_of, int_cmp, int_ranks, list_all, lit, put_all, put_row, rowid, same_name, value_cmp-Int, without_all, without_rowid}
 use Rattle.sqlite.specs.Cast.{cast_row}
-use Rattle.sqlite.specs.Table.{Table}
-use Rattle.sqlite.specs.Edit.{edit_of, are_fresh, put_all, without_all}
-use Rattle.sqlite.specs.Rowids.TheVariants.{Given}
-use Rattle.sqlite.specs.State.{ExecutesInside}
 use Rattle.sqlite.specs.State as state
-use Rattle.sqlite.specs.Term.{lit, col, holds}
-use Rattle.sqlite.specs.Tree.{put_row, rowid, without_rowid}
-use Rattle.sqlite_rules.specs.Calls.{ids_of}
-use Rattle.sqlite_rules.specs.Lists.{Has}
 use Rattle.sqlite_rules.proofs.ProbeLemmas.{has_mapped}
 use Rattle.sqlite_rules.proofs.PlaceLemmas.{given}
-use Rattle.sqlite_schema.specs.Names.{same_name}
-use Rattle.sqlite_tied.specs.Compute.{everything}
 use Rattle.sqlite_trees.specs.Tree.{IsTable}
-use Rattle.sqlite_trees.proofs.ListLemmas.{ascending-filter}
 use Rattle.sqlite_trees.proofs.TreeLemmas.{IsTable-put_row}
 use Rattle.sqlite_value.specs.Order.{value_cmp}
-use Rattle.sqlite_value.proofs.OrderLemmas.{value_cmp-Int}
-use Rattle.mq_rows.specs.declared.record.AnswerRecord.{AnswerRecord}
 use Rattle.mq_tables.specs.Places.{IsAnswerIn}
 use Rattle.mq_tables.specs.Records.{answer_fields, AreNumbered, HoldsAnswers}
 use Rattle.mq_tables.specs.Retiring.{clear_params, without_reply, cleared_where, ClearsAt}
@@ -36,10 +16,11 @@ use Rattle.mq_tables.specs.Written.{chosen as chosen_rows, Updated}
 use Rattle.mq_tables.proofs.Changes.{answers_changed}
 use Rattle.mq_tables.proofs.answers.Cleared.{shown, set_many, still_numbered, has_permuted}
 use Rattle.mq_tables.proofs.Casts.{cast_int, cast_null}
+use Rattle.mq_tables.proofs.Parts.{Executing}
 use Rattle.mq_tables.proofs.TermShape.{field, against}
 use Rattle.mq_tables.proofs.TermShape.Relation.{Same}
 use Rattle.mq_tables.proofs.Tests.{day_test}
-use Rattle.mq_tables.proofs.UpdateShape.{UpdateShape, IsUpdateOf, IsAccepted, in_tree, tests_in, made}
+use Rattle.mq_tables.proofs.UpdateShape.{UpdateShape, IsUpdateOf, in_tree, tests_in, made}
 
 abbrev pub clear_text : List ℕ
 clear_text = codes "UPDATE answer SET reply = ?1 WHERE n = ?2"
@@ -55,10 +36,7 @@ shape = record {
 
 is_update : IsUpdateOf clear_text shape
 unfolding everything same_name
-is_update = record { parsed = refl; statement = refl; formats = refl; placed = λ t. refl; laid = λ t. refl; known = λ t. refl; short = refl; uncounted = refl; timeless = λ params. append-nil params }
-
-accepted : IsAccepted shape
-accepted s t low found = rw (low, found)
+is_update = record { parsed = refl; statement = refl; formats = refl; placed = λ t. refl; laid = λ t. refl; known = λ t. refl; short = refl; uncounted = refl; timeless = λ params. append-nil params; accepted = λ s t low found. rw (low, found) }
 
 -- ---- rows that are numbered rise
 
@@ -139,11 +117,11 @@ module _ (old new : state.State) (n : ℕ) (t : ℕ) (place' : IsAnswerIn old.no
         numbered = still_numbered (passes n) 1 answers held.numbered;
       }
 
-pub clears_reply : (old new : state.State) (n : ℕ) (outcome : Result ℕ Error) → ExecutesInside 0 clear_text (clear_params n) old new outcome → OnOk outcome (IsTrue new.in_transaction) × OnOk outcome (ClearsAt n old new)
-clears_reply old new n (Err e) h = (tt, tt)
-clears_reply old new n (Ok count) h = (
+pub clears_reply : Executing clear_text clear_params ClearsAt
+clears_reply n (Err e) old new h = (tt, tt)
+clears_reply n (Ok count) old new h = (
   h.1.mode,
   λ t l.
-      let done = made clear_text shape is_update accepted (clear_params n) old new l.at.answer l.tables.answer l.tables.answer_alone count h.0 in
+      let done = made clear_text shape is_update (clear_params n) old new l.at.answer l.tables.answer l.tables.answer_alone count h.0 in
       answers_changed old.now new.now t l done.schema_is done.sound done.tables (cleared_where (passes n) t.answers) (clears old new n l.at.answer l.tables.answer done t.answers l.holds.answers),
 )

@@ -1,12 +1,8 @@
 -- One more answer after those that are there.
 use Rattle.std.proofs.Common.{◌≡◌, ℕ, ◌+◌, ◌<◌, pos, List, [], ◌∷◌, ◌++◌, map, length, arith, refl, ap, ◌∙◌}
 use Rattle.std.proofs.Common.{Less}
-use Rattle.std.proofs.lemmas.Bool.{lt-ltb}
-use Rattle.sqlite.specs.declared.types.Value.TheVariants.{Int}
+use Rattle.mq_tables.proofs.Words.{AnswerRecord, Int, lt-ltb, put_row, value_cmp-Int}
 use Rattle.sqlite_value.specs.Order.{value_cmp}
-use Rattle.sqlite_value.proofs.OrderLemmas.{value_cmp-Int}
-use Rattle.sqlite.specs.Tree.{put_row}
-use Rattle.mq_rows.specs.declared.record.AnswerRecord.{AnswerRecord}
 use Rattle.mq_tables.specs.Records.{answer_fields, AreNumbered}
 
 ascends : (a b : ℕ) → a < b → value_cmp (Int (pos a)) (Int (pos b)) ≡ Less

@@ -1,16 +1,6 @@
 -- What the queries for an audit answer of the figures.
 use Rattle.std.proofs.Common.{◌≡◌, pos, ℕ, List, [], ◌∷◌, codes, map, None, Ok, Err, Result, refl, sym, ap, subst, ◌∙◌}
-use Rattle.std.specs.Prelude.{Vec, IfOk}
-use Rattle.std.specs.declared.alloc.Global.{Global}
-use Rattle.sqlite.specs.declared.error.Error.{Error}
-use Rattle.sqlite.specs.Listing.{listing_schema}
-use Rattle.sqlite.specs.Order.{Row}
-use Rattle.sqlite.specs.State.{State, Shown}
-use Rattle.sqlite_schema.specs.Names.{same_name}
-use Rattle.sqlite_tied.specs.Compute.{everything}
-use Rattle.std.specs.List.Sorted.{IsPermutation}
-use Rattle.sqlite_trees.proofs.ListLemmas.{map-map}
-use Rattle.sqlite.specs.declared.types.Value.TheVariants.{Int, Blob}
+use Rattle.mq_tables.proofs.Words.{Blob, Error, Global, IfOk, Int, IsPermutation, Row, Shown, State, Vec, everything, listing_schema, map-map, same_name}
 use Rattle.mq_rows.specs.declared.audited.LimitFigures.{LimitFigures}
 use Rattle.mq_rows.specs.declared.audited.TransactionFigures.{TransactionFigures}
 use Rattle.mq_rows.specs.declared.audited.UsageFigures.{UsageFigures}
@@ -18,7 +8,7 @@ use Rattle.mq_rows.specs.Audit.{Figures}
 use Rattle.mq_tables.specs.Figures.{HasFigures, WholeTransaction, whole_cells, usage_cells, transaction_cells, limit_cells, IsUsageRead, IsTransactionRead, IsLimitRead, usage_columns, transaction_columns, limit_columns}
 use Rattle.mq_tables.specs.Tables.{trans_table, usage_table, ceiling_table}
 use Rattle.mq_tables.proofs.Finds.{all_pass, all_read}
-use Rattle.mq_tables.proofs.SelectShape.{SelectShape, IsSelect, IsAccepted}
+use Rattle.mq_tables.proofs.SelectShape.{SelectShape, IsSelect}
 use Rattle.mq_tables.proofs.Selected.{shows_all}
 use Rattle.mq_tables.proofs.TermShape.{field}
 
@@ -37,14 +27,11 @@ usage_shape = record {
 
 pub usage_select : IsSelect usage_text usage_shape
 unfolding everything listing_schema same_name
-usage_select = record { parsed = refl; statement = refl; timeless = refl; unlisted = refl; known = λ t. refl; short = refl }
-
-usage_accepted : IsAccepted usage_shape
-usage_accepted s t low found = rw (low, found)
+usage_select = record { parsed = refl; statement = refl; timeless = refl; unlisted = refl; known = λ t. refl; short = refl; accepted = λ s t low found. rw (low, found) }
 
 pub usage_shown : (old new : State) (rows : List Row) → Shown usage_text [] old new rows → (f : Figures) → HasFigures old.now f → IsPermutation (map usage_cells f.usage) rows
 usage_shown old new rows h f l =
-    let all = shows_all usage_cells usage_text usage_shape usage_select usage_accepted refl [] old new l.tables.usage_tree l.tables.usage rows h f.usage refl l.holds_usage in
+    let all = shows_all usage_cells usage_text usage_shape usage_select refl [] old new l.tables.usage_tree l.tables.usage rows h f.usage refl l.holds_usage in
     subst (λ xs. IsPermutation (map usage_cells xs) rows) (all_pass f.usage) all
 
 abbrev usage_back : Row → UsageFigures
@@ -72,14 +59,11 @@ transactions_shape = record {
 
 pub transactions_select : IsSelect transactions_text transactions_shape
 unfolding everything listing_schema same_name
-transactions_select = record { parsed = refl; statement = refl; timeless = refl; unlisted = refl; known = λ t. refl; short = refl }
-
-transactions_accepted : IsAccepted transactions_shape
-transactions_accepted s t low found = rw (low, found)
+transactions_select = record { parsed = refl; statement = refl; timeless = refl; unlisted = refl; known = λ t. refl; short = refl; accepted = λ s t low found. rw (low, found) }
 
 pub transactions_shown : (old new : State) (rows : List Row) → Shown transactions_text [] old new rows → (f : Figures) → HasFigures old.now f → IsPermutation (map transaction_cells f.transactions) rows
 transactions_shown old new rows h f l =
-    let all = shows_all whole_cells transactions_text transactions_shape transactions_select transactions_accepted refl [] old new l.tables.trans_tree l.tables.trans rows h l.whole refl l.holds_trans in
+    let all = shows_all whole_cells transactions_text transactions_shape transactions_select refl [] old new l.tables.trans_tree l.tables.trans rows h l.whole refl l.holds_trans in
     let kept : IsPermutation (map (λ (w : WholeTransaction). transaction_cells w.figures) l.whole) rows = subst (λ ws. IsPermutation (map (λ (w : WholeTransaction). transaction_cells w.figures) ws) rows) (all_pass l.whole) all in
     let same : map (λ (w : WholeTransaction). transaction_cells w.figures) l.whole ≡ map transaction_cells f.transactions = sym (map-map transaction_cells (λ (w : WholeTransaction). w.figures) l.whole) ∙ ap (map transaction_cells) (sym l.transactions) in
     subst (λ xs. IsPermutation xs rows) same kept
@@ -109,14 +93,11 @@ limits_shape = record {
 
 pub limits_select : IsSelect limits_text limits_shape
 unfolding everything listing_schema same_name
-limits_select = record { parsed = refl; statement = refl; timeless = refl; unlisted = refl; known = λ t. refl; short = refl }
-
-limits_accepted : IsAccepted limits_shape
-limits_accepted s t low found = rw (low, found)
+limits_select = record { parsed = refl; statement = refl; timeless = refl; unlisted = refl; known = λ t. refl; short = refl; accepted = λ s t low found. rw (low, found) }
 
 pub limits_shown : (old new : State) (rows : List Row) → Shown limits_text [] old new rows → (f : Figures) → HasFigures old.now f → IsPermutation (map limit_cells f.limits) rows
 limits_shown old new rows h f l =
-    let all = shows_all limit_cells limits_text limits_shape limits_select limits_accepted refl [] old new l.tables.ceiling_tree l.tables.ceiling rows h f.limits refl l.holds_ceiling in
+    let all = shows_all limit_cells limits_text limits_shape limits_select refl [] old new l.tables.ceiling_tree l.tables.ceiling rows h f.limits refl l.holds_ceiling in
     subst (λ xs. IsPermutation (map limit_cells xs) rows) (all_pass f.limits) all
 
 abbrev limits_back : Row → LimitFigures

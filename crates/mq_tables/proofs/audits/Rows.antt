@@ -1,19 +1,10 @@
 -- Rows that are given to the books, one after another.
 use Rattle.std.proofs.Common.{◌≡◌, ◌⊎◌, inl, inr, List, [], ◌∷◌, ◌++◌, append-nil, append_assoc, IsSome, true≢false, Ok, Err, Result, refl, sym, ap₂, subst, ◌∙◌}
-use Rattle.std.specs.List.Sorted.{IsPermutation}
+use Rattle.mq_tables.proofs.Words.{CommitsShowing, Compiled, Database, Error, FailsToQuery, HasCleanDisk, Held, IsPermutation, IsRolledBack, IsSourceOf, IsUnchanged, Row, Schema, Shown, ShowsRows, State, Survives, reads_listing, state, unchanged_then, understood}
 use Rattle.sqlite.specs.Given.{Returns, HasGiven, HasBegun}
-use Rattle.sqlite.specs.Held.{Held, state}
-use Rattle.sqlite.specs.declared.error.Error.{Error}
 use Rattle.sqlite.specs.Clock.{timed}
-use Rattle.sqlite.specs.Effect.{Database}
-use Rattle.sqlite.specs.Listing.{understood, reads_listing, IsSourceOf}
-use Rattle.sqlite.specs.Order.{Row}
-use Rattle.sqlite.specs.Schema.{Schema}
-use Rattle.sqlite.specs.State.{State, Survives, Shown, ShowsRows, IsUnchanged, IsRolledBack, FailsToQuery, CommitsShowing, HasCleanDisk}
 use Rattle.std.specs.Prelude.{OnOk, OnErr, IsTrue}
-use Rattle.sqlite.proofs.Callers.{unchanged_then}
 use Rattle.sqlite.proofs.StateLemmas.{survives_weaker}
-use Rattle.sqlite_resolve.specs.declared.compiled.Compiled.{Compiled}
 use Rattle.sqlite_resolve.specs.declared.error.CompileError.{CompileError}
 use Rattle.sqlite_trees.specs.declared.store.Store as store
 use Rattle.mq_rows.specs.declared.audited.LimitFigures.{LimitFigures}

@@ -1,20 +1,10 @@
 -- What the rows of a strict table hold, none of whose columns may be NULL.
 use Rattle.std.proofs.Common.{◌≡◌, ℕ, ℤ, ◌+◌, suc, zero, List, [], ◌∷◌, drop, map, Bool, true, false, not, ◌||◌, None, true≢false, arith, refl, sym, ap, ap₂, subst, ◌∙◌}
+use Rattle.mq_tables.proofs.Words.{AllByRecursion, Blob, Database, Int, IsDatabase, IsPermutation, IsPermutation-refl, Null, Real, Row, Schema, Table, Text, Trees, all-slice_get, all_weaker, and_parts, column}
 use Rattle.std.specs.Prelude.{if◌then◌else◌}
-use Rattle.std.specs.List.{AllByRecursion}
-use Rattle.std.proofs.lemmas.Bool.{and_parts}
-use Rattle.std.proofs.lemmas.List.Sorted.{IsPermutation-refl}
-use Rattle.std.specs.List.Sorted.{IsPermutation}
-use Rattle.sqlite_trees.proofs.ListLemmas.{all-slice_get, all_weaker}
 use Rattle.sqlite.specs.declared.types.Value.{Value}
-use Rattle.sqlite.specs.declared.types.Value.TheVariants.{Null, Int, Real, Text, Blob}
-use Rattle.sqlite.specs.Effect.{Database, IsDatabase}
 use Rattle.sqlite.specs.Kind.{Kind}
 use Rattle.sqlite.specs.Kind.TheVariants as kind
-use Rattle.sqlite.specs.Order.{Row, column}
-use Rattle.sqlite.specs.Schema.{Schema}
-use Rattle.sqlite.specs.Table.{Table}
-use Rattle.sqlite.specs.Tree.{Trees}
 use Rattle.sqlite_sql.specs.Ops.{is_null}
 use Rattle.sqlite_schema.specs.declared.schema.Column.{Column}
 use Rattle.sqlite_schema.specs.declared.schema.Constraint.{Constraint}

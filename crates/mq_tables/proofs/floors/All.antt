@@ -1,17 +1,6 @@
 -- What the query for all floors answers, over a store that has their table at any place.
 use Rattle.std.proofs.Common.{◌≡◌, List, [], ◌∷◌, map, codes, ◌&&◌, true, None, Ok, Err, Result, refl, ap₂, subst}
-use Rattle.std.specs.Prelude.{Vec}
-use Rattle.std.specs.declared.alloc.Global.{Global}
-use Rattle.std.specs.List.{AllByRecursion}
-use Rattle.std.specs.List.Sorted.{IsPermutation}
-use Rattle.sqlite_trees.proofs.ListLemmas.{all-permutation}
-use Rattle.sqlite.specs.declared.error.Error.{Error}
-use Rattle.sqlite.specs.Listing.{listing_schema}
-use Rattle.sqlite.specs.Order.{Row}
-use Rattle.sqlite.specs.State.{State, Shown}
-use Rattle.sqlite_schema.specs.Names.{same_name}
-use Rattle.sqlite_tied.specs.Compute.{everything}
-use Rattle.mq_rows.specs.declared.record.RetiredRecord.{RetiredRecord}
+use Rattle.mq_tables.proofs.Words.{AllByRecursion, Error, FailsToQuery, Global, IfErr, IfOk, IsPermutation, RetiredRecord, Row, Shown, State, Vec, all-permutation, everything, listing_schema, same_name}
 use Rattle.mq_tables.specs.Floors.{is_floor, are_floors, AreFloorsOf}
 use Rattle.mq_tables.specs.Ledger.{HasFloors}
 use Rattle.mq_tables.specs.Reading.{floors_text, unlimited, AreFloorsRead}
@@ -19,7 +8,7 @@ use Rattle.mq_tables.specs.Records.{retired_fields}
 use Rattle.mq_tables.specs.Tables.{retired_table}
 use Rattle.mq_tables.proofs.Asked.{IsAlone, stops}
 use Rattle.mq_tables.proofs.Finds.{all_pass}
-use Rattle.mq_tables.proofs.SelectShape.{SelectShape, IsSelect, IsAccepted}
+use Rattle.mq_tables.proofs.SelectShape.{SelectShape, IsSelect}
 use Rattle.mq_tables.proofs.Selected.{shows_all}
 use Rattle.mq_tables.proofs.TermShape.{field}
 
@@ -33,10 +22,7 @@ floors_shape = record {
 
 pub floors_select : IsSelect floors_text floors_shape
 unfolding everything listing_schema same_name
-floors_select = record { parsed = refl; statement = refl; timeless = refl; unlisted = refl; known = λ t. refl; short = refl }
-
-floors_accepted : IsAccepted floors_shape
-floors_accepted s t low found = rw (low, found)
+floors_select = record { parsed = refl; statement = refl; timeless = refl; unlisted = refl; known = λ t. refl; short = refl; accepted = λ s t low found. rw (low, found) }
 
 floors_alone : IsAlone floors_text
 unfolding everything
@@ -50,12 +36,17 @@ all_are : (rows : List Row) → AllByRecursion (λ row. is_floor row ≡ true) r
 all_are [] h = refl
 all_are (row ∷ rows) h = ap₂ (λ a b. a && b) h.0 (all_are rows h.1)
 
+-- what is answered, row by row or by an error
+pub floors_read : (old new : State) (answer : Result (Vec Row Global) Error) → IfOk answer (λ rows. Shown floors_text [] (unlimited old) new rows.items) → IfErr answer (FailsToQuery floors_text [] (unlimited old) new) → AreFloorsRead old new answer
+floors_read old new (Ok rows) ok err = ok
+floors_read old new (Err e) ok err = err
+
 module _ (old new : State) (floors : List RetiredRecord) (has : HasFloors old.now floors) where
   shows : (rows : List Row) → Shown floors_text [] (unlimited old) new rows → IsPermutation (map retired_fields floors) rows
   shows rows h =
-      let all = shows_all retired_fields floors_text floors_shape floors_select floors_accepted refl [] (unlimited old) new has.tree has.table rows h floors refl has.holds.same in
+      let all = shows_all retired_fields floors_text floors_shape floors_select refl [] (unlimited old) new has.tree has.table rows h floors refl has.holds.same in
       subst (λ xs. IsPermutation (map retired_fields xs) rows) (all_pass floors) all
 
   pub floors_answered : (answer : Result (Vec Row Global) Error) → AreFloorsRead old new answer → AreFloorsOf answer
   floors_answered (Ok rows) h = all_are rows.items (all-permutation (λ row. is_floor row ≡ true) (map retired_fields floors) rows.items (shows rows.items h) (each_is floors))
-  floors_answered (Err e) h = stops floors_text floors_shape floors_select floors_accepted refl floors_alone old new has.tree has.table e h
+  floors_answered (Err e) h = stops floors_text floors_shape floors_select refl floors_alone old new has.tree has.table e h

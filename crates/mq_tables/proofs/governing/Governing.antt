@@ -1,34 +1,17 @@
 -- What the query for the latest limit answers of the records.
-use Rattle.std.proofs.Common.{◌≡◌, inl, inr, ℕ, pos, ◌<◌, ◌≤◌, ◌<ℤ◌, ◌&&◌, nat_le, suc, List, [], ◌∷◌, codes, true, false, Option, Some, None, Ok, Err, Result, Contains, arith, Ordering, Less, Equal, Greater, refl, sym, ap, subst, ◌∙◌}
-use Rattle.std.specs.Prelude.{Vec, IfOk}
-use Rattle.std.specs.declared.alloc.Global.{Global}
-use Rattle.sqlite.specs.declared.error.Error.{Error}
-use Rattle.sqlite.specs.Listing.{listing_schema}
-use Rattle.sqlite.specs.Order.{Row, column}
-use Rattle.sqlite.specs.State.{State, Shown}
-use Rattle.sqlite_schema.specs.Names.{same_name}
-use Rattle.sqlite_tied.specs.Compute.{everything}
-use Rattle.std.specs.Ordering.{is_lt, int_cmp, ordering_then, MatchOrdering}
-use Rattle.std.specs.Cmp.{int_ranks, unsigned_Decides}
-use Rattle.std.proofs.Math.Bool.{and-true}
-use Rattle.std.proofs.lemmas.Bool.{and_parts}
-use Rattle.std.proofs.lemmas.Slice.Eq.{slice_eq-Decides}
-use Rattle.sqlite_trees.proofs.ListLemmas.{all_weaker}
-use Rattle.sqlite_value.proofs.OrderLemmas.{value_cmp-Int}
-use Rattle.sqlite_rules.specs.Lists.{Has}
-use Rattle.mq_request.specs.Same.{same_text}
-use Rattle.mq_rows.specs.declared.record.LimitRecord.{LimitRecord}
+use Rattle.std.proofs.Common.{◌≡◌, inl, inr, ℕ, pos, ◌<◌, ◌≤◌, ◌<ℤ◌, ◌&&◌, nat_le, suc, List, [], ◌∷◌, codes, true, false, Some, None, Contains, arith, Ordering, Less, Equal, Greater, refl, sym, ap, ◌∙◌}
+use Rattle.mq_tables.proofs.Words.{Has, LimitRecord, MatchOrdering, Row, all_weaker, and-true, and_parts, column, everything, int_cmp, int_ranks, is_lt, listing_schema, ordering_then, same_name, same_text, slice_eq-Decides, unsigned_Decides, value_cmp-Int}
 use Rattle.mq_rows.specs.Found.{is_due, IsGoverning}
-use Rattle.mq_rows.specs.Tables.{Tables}
 use Rattle.mq_tables.specs.Governing.{limit_row, IsGoverningShown, IsLimitShown, IsFirstLimit}
 use Rattle.mq_tables.specs.Ledger.{HasLedger}
 use Rattle.mq_tables.specs.Lent.{key_params}
 use Rattle.mq_tables.specs.Records.{limit_fields}
 use Rattle.mq_tables.specs.Tables.{ceiling_table}
-use Rattle.mq_tables.proofs.Finds.{int_same}
+use Rattle.mq_tables.proofs.Finds.{Following, int_same, one_after}
 use Rattle.mq_tables.proofs.Firsts as firsts
-use Rattle.mq_tables.proofs.SelectShape.{SelectShape, Sorting, IsSelect, IsAccepted, filter_in, shown_in, order_by}
-use Rattle.mq_tables.proofs.Selected.{pass, shows_first}
+use Rattle.mq_tables.proofs.SelectShape.{SelectShape, Sorting, IsSelect, filter_in, shown_in, order_by}
+use Rattle.mq_tables.proofs.Parts.{limits_part}
+use Rattle.mq_tables.proofs.Selected.{Finding, pass, finds_first}
 use Rattle.mq_tables.proofs.TermShape.{field, against}
 use Rattle.mq_tables.proofs.TermShape.Relation.{Same, AtMost}
 use Rattle.mq_tables.proofs.Tests.{text_test, until_test}
@@ -54,10 +37,7 @@ latest_shape = record {
 
 pub latest_select : IsSelect latest_text latest_shape
 unfolding everything listing_schema same_name
-latest_select = record { parsed = refl; statement = refl; timeless = refl; unlisted = refl; known = λ t. refl; short = refl }
-
-latest_accepted : IsAccepted latest_shape
-latest_accepted s t low found = rw (low, found)
+latest_select = record { parsed = refl; statement = refl; timeless = refl; unlisted = refl; known = λ t. refl; short = refl; accepted = λ s t low found. rw (low, found) }
 
 -- a later day comes first
 pub not_later : (a b : ℕ) → is_lt (int_cmp (pos a) (pos b)) ≡ false → b ≤ a
@@ -77,7 +57,7 @@ module _ (login : List ℕ) (day : ℕ) where
   abbrev params : Row
   params = key_params login day
 
-  decides : (c : LimitRecord) → pass limit_fields latest_text latest_shape latest_select latest_accepted refl params c ≡ is_due login day c
+  decides : (c : LimitRecord) → pass limit_fields latest_shape params c ≡ is_due login day c
   decides c = rw (text_test c.login login, until_test c.day day) (ap (λ b. same_text login c.login && b) (and-true (nat_le c.day day)))
 
   abbrev IsFirst : ℕ → List LimitRecord → List Row → Type 0
@@ -101,11 +81,8 @@ module _ (login : List ℕ) (day : ℕ) where
     is,
   )
 
-  pub found_governing : (old new : State) (outcome : Result (Vec Row Global) Error) → IfOk outcome (λ rows. Shown latest_text (key_params login day) old new rows.items)
-      → IfOk outcome (λ rows. (t : Tables) → HasLedger old.now t → IsGoverningShown login day t.limits rows.items)
-  found_governing old new (Ok rows) h = λ t l.
-      governing l.at.ceiling t.limits rows.items (shows_first limit_fields latest_text latest_shape latest_select latest_accepted refl params old new l.at.ceiling l.tables.ceiling rows.items h t.limits latest refl l.holds.limits)
-  found_governing old new (Err e) h = tt
+  pub found_governing : Finding latest_text params HasLedger (λ t. IsGoverningShown login day t.limits)
+  found_governing = finds_first latest_text latest_shape latest_select limits_part params latest refl (IsGoverningShown login day) governing
 
   -- the row shows that limit, whose login is known
   pub limit_is : (row : Row) (u v : LimitRecord) → IsLimitShown login row u → login ≡ v.login → row ≡ limit_row v → v ≡ u
@@ -118,16 +95,5 @@ module _ (login : List ℕ) (day : ℕ) where
   due_login : (c : LimitRecord) → is_due login day c ≡ true → login ≡ c.login
   due_login c hit = (slice_eq-Decides unsigned_Decides login c.login _ refl).0 (and_parts _ _ hit).0
 
-  governing_so : (all : List LimitRecord) (rows : List Row) (found : Option LimitRecord) → IsGoverningShown login day all rows → IsFirstLimit login rows found → IsGoverning login day all found
-  governing_so all [] None shown first = shown
-  governing_so all (row ∷ more) None shown first = absurd cc
-  governing_so all [] (Some u) shown first = absurd (let e = first.2 in cc)
-  governing_so all (row ∷ more) (Some u) (c, it, is) (r, rest, whole, shown) =
-      let head : r ≡ row = cc in
-      let same = limit_is r u c shown (due_login c it.1) (head ∙ is) in
-      subst (λ x. IsGoverning login day all (Some x)) same it
-
-  pub governing_after : (Held : Tables → Type 0) (rows : List Row) (outcome : Result (Option LimitRecord) Error) → ((t : Tables) → Held t → IsGoverningShown login day t.limits rows)
-      → IfOk outcome (IsFirstLimit login rows) → IfOk outcome (λ found. (t : Tables) → Held t → IsGoverning login day t.limits found)
-  governing_after Held rows (Ok found) shown first = λ t l. governing_so t.limits rows found (shown t l) first
-  governing_after Held rows (Err e) shown first = tt
+  pub governing_after : Following (λ t. IsGoverningShown login day t.limits) (IsFirstLimit login) (λ t. IsGoverning login day t.limits)
+  governing_after = one_after (IsGoverning login day) limit_row (IsLimitShown login) (λ all row u v shown it is. limit_is row u v shown (due_login v it.1) is) (λ t. t.limits)

@@ -1,23 +1,14 @@
 -- One more table leaves a ledger where it is; so the tables of later versions come to one of an older version.
 use Rattle.std.proofs.Common.{◌≡◌, ◌≢◌, ℕ, ◌<◌, ◌==◌, find, List, [], ◌∷◌, ◌++◌, Bool, true, false, Some, None, Ok, Err, Result, OnOk, arith, refl, sym, ap, subst, ◌∙◌}
 use Rattle.std.proofs.Common.{IsTrue, nat_le, true≢false}
+use Rattle.mq_tables.proofs.Words.{AllByRecursion, Error, Schema, State, Table, Tables, all-slice_get, all_weaker, created, lacks_sequence, next_tree, same_name}
 use Rattle.std.specs.Prelude.{if◌then◌else◌}
-use Rattle.std.specs.List.{AllByRecursion}
-use Rattle.sqlite_trees.proofs.ListLemmas.{all_weaker, all-slice_get}
-use Rattle.sqlite.specs.declared.error.Error.{Error}
 use Rattle.sqlite_schema.specs.declared.schema.Reference.{Reference}
-use Rattle.sqlite_schema.specs.Names.{same_name}
-use Rattle.sqlite.specs.Schema.{Schema}
-use Rattle.sqlite.specs.Table.{Table}
-use Rattle.sqlite.specs.Change.{created, next_tree}
-use Rattle.sqlite.specs.Does.{lacks_sequence}
-use Rattle.sqlite.specs.State.{State}
-use Rattle.mq_rows.specs.Tables.{Tables}
-use Rattle.mq_tables.specs.Tables.{setting_table, answer_table, trans_table, usage_table, ceiling_table, rule_table, retired_table}
+use Rattle.mq_tables.specs.Tables.{rule_table, retired_table}
 use Rattle.mq_tables.specs.Settings.{rule_rows}
 use Rattle.mq_tables.specs.Places.{IsTableIn, IsUnreferred, IsUnnamed, is_tree, refers}
-use Rattle.mq_tables.specs.Records.{retired_fields, HoldsAnswers, HoldsTransactions, HoldsUsage, HoldsLimits, HoldsRetired}
-use Rattle.mq_tables.specs.Ledger.{IsThere, HasRule, HasFloors, HasNoFloors, Since, HasLedger}
+use Rattle.mq_tables.specs.Records.{retired_fields, HoldsRetired}
+use Rattle.mq_tables.specs.Ledger.{IsThere, HasRule, HasFloors, Since, HasLedger}
 use Rattle.mq_tables.specs.Written.{Created}
 use Rattle.mq_tables.specs.Making.{Makes, chain, later_tables}
 use Rattle.mq_tables.specs.Indexing.{with_day_index, IndexesIf}
@@ -25,10 +16,9 @@ use Rattle.mq_tables.specs.Updates.{KeepsOthers}
 use Rattle.mq_tables.proofs.Chains.{all_joined, all_split, all_both, of_chain}
 use Rattle.mq_tables.proofs.making.Found.{IsFound, apart, begun, still_all, in_database}
 use Rattle.mq_tables.proofs.making.Places.{all_below}
-use Rattle.mq_tables.proofs.making.Indexed.{ledger_indexed}
-use Rattle.mq_rows.specs.declared.record.RetiredRecord.{RetiredRecord}
+use Rattle.mq_tables.proofs.making.Indexed as indexed
 use Rattle.mq_tables.specs.Migrating.{AddsRule, SetsVersion, HasMigrated, IsMigratedBy, migrated}
-use Rattle.mq_tables.proofs.Changes.{since, is_since}
+use Rattle.mq_tables.proofs.Changes.{is_since, Stays, rule_kept, with_rows, ledger_stays}
 use Rattle.mq_tables.proofs.making.NewLedger.{names_selves, find_apart, holds_none}
 
 -- ---- one more table leaves a ledger where it is
@@ -79,56 +69,16 @@ module _ (old new : State) (t : Table) (none : t.references ≡ []) (it : Create
   alone_in : (made : Table) (tree : ℕ) → IsTableIn old.now.schema made tree → IsUnreferred old.now.schema tree → IsUnreferred new.now.schema tree
   alone_in made tree p h = subst (λ x. IsUnreferred x tree) (sym it.schema_is) (still_alone old.now.schema t none made tree p h)
 
-  rule_stays : (rows : Tables) → IsThere old.now rule_table (rule_rows rows.setting.rule) → IsThere new.now rule_table (rule_rows rows.setting.rule)
-  rule_stays rows h = record { tree = h.tree; table = still_in rule_table h.tree h.table; holds = same_rows rule_table h.tree h.table ∙ h.holds }
-
-  floors_stay : (rows : List RetiredRecord) → HasFloors old.now rows → HasFloors new.now rows
-  floors_stay rows h = record {
-    tree = h.tree;
-    table = still_in retired_table h.tree h.table;
-    alone = alone_in retired_table h.tree h.table h.alone;
-    holds = subst (λ rs. HoldsRetired rs rows) (sym (same_rows retired_table h.tree h.table)) h.holds;
-  }
-
-  no_floors : (rows : List RetiredRecord) → HasNoFloors old.now rows → HasNoFloors new.now rows
-  no_floors rows h = record {
-    none = h.none;
-    unnamed = subst (λ x. IsUnnamed x retired_table.name) (sym it.schema_is)
-        (all_joined (λ (x : Table). AllByRecursion (λ ref. same_name retired_table.name ref.parent ≡ false) x.references) old.now.schema.tables (record t { tree = next_tree old.now.schema } ∷ []) h.unnamed
-        (subst (AllByRecursion (λ ref. same_name retired_table.name ref.parent ≡ false)) (sym none) tt, tt));
-  }
-
-  pub ledger_stays : (rows : Tables) → HasLedger old.now rows → HasLedger new.now rows
-  ledger_stays rows l = record {
+  pub stays : Stays (λ name. true) old.now new.now
+  stays = record {
     sound = it.sound;
-    at = l.at;
-    tables = record {
-      setting = still_in setting_table _ l.tables.setting;
-      answer = still_in answer_table _ l.tables.answer;
-      trans = still_in trans_table _ l.tables.trans;
-      usage = still_in usage_table _ l.tables.usage;
-      ceiling = still_in ceiling_table _ l.tables.ceiling;
-      setting_alone = alone_in setting_table _ l.tables.setting l.tables.setting_alone;
-      answer_alone = alone_in answer_table _ l.tables.answer l.tables.answer_alone;
-      trans_alone = alone_in trans_table _ l.tables.trans l.tables.trans_alone;
-      usage_alone = alone_in usage_table _ l.tables.usage l.tables.usage_alone;
-      ceiling_alone = alone_in ceiling_table _ l.tables.ceiling l.tables.ceiling_alone;
-    };
-    holds = record {
-      setting = same_rows setting_table _ l.tables.setting ∙ l.holds.setting;
-      answers = subst (λ rs. HoldsAnswers rs rows.answers) (sym (same_rows answer_table _ l.tables.answer)) l.holds.answers;
-      transactions = subst (λ rs. HoldsTransactions rs rows.transactions) (sym (same_rows trans_table _ l.tables.trans)) l.holds.transactions;
-      usage = subst (λ rs. HoldsUsage rs rows.usage) (sym (same_rows usage_table _ l.tables.usage)) l.holds.usage;
-      limits = subst (λ rs. HoldsLimits rs rows.limits) (sym (same_rows ceiling_table _ l.tables.ceiling)) l.holds.limits;
-    };
-    later = record {
-      rule = since _ _ _ _ (nat_le 2 rows.setting.version) (rule_stays rows) (λ none. none) l.later.rule;
-      retired = since _ _ _ _ (nat_le 3 rows.setting.version) (floors_stay rows.retired) (no_floors rows.retired) l.later.retired;
-    };
+    still = still_in;
+    alone = alone_in;
+    unnamed = λ h. subst (λ x. IsUnnamed x retired_table.name) (sym it.schema_is)
+        (all_joined (λ (x : Table). AllByRecursion (λ ref. same_name retired_table.name ref.parent ≡ false) x.references) old.now.schema.tables (record t { tree = next_tree old.now.schema } ∷ []) h
+        (subst (AllByRecursion (λ ref. same_name retired_table.name ref.parent ≡ false)) (sym none) tt, tt));
+    rows = λ made tree there k. same_rows made tree there;
   }
-
-  pub rule_kept : (rows : Tables) → IsThere old.now rule_table (rule_rows rows.setting.rule) → IsThere new.now rule_table (rule_rows rows.setting.rule)
-  rule_kept = rule_stays
 
   -- the new one is there, and empty
   pub empty_made : same_name t.name t.name ≡ true → IsThere new.now t []
@@ -165,7 +115,7 @@ before_made P s more t is h = (all_split P s.tables (record t { tree = next_tree
 -- the table of the floors is made, and the version set
 module _ (b c d : State) (t : Tables) (old : nat_le 3 t.setting.version ≡ false) (q : Makes retired_table b c) (s : SetsVersion c.now d.now) where
   floors_added : (l : HasLedger b.now t) → HasRule b.now t.setting.rule → lacks_sequence b.now.schema ≡ false → HasLedger d.now (migrated t) × (d.now.schema ≡ created b.now.schema retired_table) × KeepsOthers b.now.schema l.at.setting b.now.trees d.now.trees
-  unfolding empty_made ledger_stays
+  unfolding empty_made ledger_stays with_rows
   floors_added l rule counters =
       let two = (q.1 counters).0 in
       let before = was_before _ _ (nat_le 3 t.setting.version) old l.later.retired in
@@ -175,12 +125,12 @@ module _ (b c d : State) (t : Tables) (old : nat_le 3 t.setting.version ≡ fals
         alone = subst (λ x. IsUnreferred x (next_tree b.now.schema)) (sym two.schema_is) (new_alone b.now.schema before.unnamed);
         holds = subst (HoldsRetired (c.now.trees (next_tree b.now.schema))) (sym before.none) (holds_none retired_fields _ two.empty);
       } in
-      let set = s t (ledger_stays b c retired_table refl two t l) (rule_kept b c retired_table refl two t rule) floors in
+      let set = s t (ledger_stays (stays b c retired_table refl two) t l) (rule_kept (stays b c retired_table refl two) _ refl rule) floors in
       let kept = before_made (λ (x : Table). x.tree ≢ l.at.setting → d.now.trees x.tree ≡ c.now.trees x.tree) b.now.schema c.now.schema retired_table two.schema_is set.2 in
       (set.0, set.1 ∙ two.schema_is, all_both _ _ _ (λ x same was apart. same apart ∙ was) b.now.schema.tables kept two.tables)
 
 migrates_from : (has_rule : Bool) (a b c d : State) → AddsRule has_rule a b → Makes retired_table b c → SetsVersion c.now d.now → IsMigratedBy false has_rule a.now d.now
-unfolding ledger_stays
+unfolding ledger_stays with_rows
 migrates_from true a b c d p q s = record {
   made = λ counters t l is old.
       subst (λ db. lacks_sequence db.schema ≡ false → (l : HasLedger db t) → HasMigrated false true t l.at.setting db d.now) p.1
@@ -194,7 +144,7 @@ migrates_from false a b c d p q s = record {
       let one = p.1 counters in
       let none : t.setting.rule ≡ None = was_before _ _ (nat_le 2 t.setting.version) is l.later.rule in
       let rule : HasRule b.now t.setting.rule = subst (λ r. IsThere b.now rule_table (rule_rows r)) (sym none) (empty_made a b rule_table refl one.0 names_selves.5) in
-      let added = floors_added b c d t old q s (ledger_stays a b rule_table refl one.0 t l) rule one.1 in
+      let added = floors_added b c d t old q s (ledger_stays (stays a b rule_table refl one.0) t l) rule one.1 in
       let kept = before_made (λ (x : Table). x.tree ≢ l.at.setting → d.now.trees x.tree ≡ b.now.trees x.tree) a.now.schema b.now.schema rule_table one.0.schema_is added.2 in
       record { ledger = added.0; schema = added.1 ∙ ap (λ x. created x retired_table) one.0.schema_is; others = all_both _ _ _ (λ x same was apart. same apart ∙ was) a.now.schema.tables kept one.0.tables };
 }
@@ -206,7 +156,7 @@ migrates has_rule a b c d (Ok count) p q s = migrates_from has_rule a b c d p q 
 -- ---- and the index
 
 migrated_indexed : (indexed has_rule : Bool) (a d e : State) → IsMigratedBy false has_rule a.now d.now → IndexesIf indexed d e → IsMigratedBy indexed has_rule a.now e.now
-unfolding ledger_indexed
+unfolding ledger_stays with_rows
 migrated_indexed true has_rule a d e p q = record {
   made = λ counters t l is old.
       let m = p.made counters t l is old in
@@ -215,7 +165,7 @@ migrated_indexed true has_rule a d e p q = record {
       let kept : AllByRecursion (λ t. e.now.trees t.tree ≡ d.now.trees t.tree) (chain a.now.schema (later_tables has_rule)).tables = subst (λ (x : Schema). AllByRecursion (λ t. e.now.trees t.tree ≡ d.now.trees t.tree) x.tables) m.schema more.rows in
       let before = (of_chain (λ n. e.now.trees n ≡ d.now.trees n) (later_tables has_rule) a.now.schema kept).0 in
       record {
-        ledger = ledger_indexed tree d.now e.now more (migrated t) m.ledger;
+        ledger = ledger_stays (indexed.stays tree d.now e.now more) (migrated t) m.ledger;
         schema = more.schema ∙ ap (with_day_index tree) m.schema;
         others = all_both _ _ _ (λ x same was apart. same ∙ was apart) a.now.schema.tables before m.others;
       };

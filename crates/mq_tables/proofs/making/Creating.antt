@@ -1,30 +1,14 @@
 -- CREATE TABLE over any schema.
 use Rattle.std.proofs.Common.{◌≡◌, ℕ, ◌+◌, suc, zero, List, [], ◌∷◌, ◌++◌, length, Bool, true, false, not, ◌&&◌, ◌||◌, Option, Some, None, is_some, Ok, Err, true≢false, codes, refl, sym, ap, subst, ◌∙◌}
+use Rattle.mq_tables.proofs.Words.{Checked, Compiled, CreateTable, Executes, ExecutesIn, IsPlain, Name, Nothing, Parsed, Schema, State, Table, and_then, command, command_of, compiled, create_table, created, creates, everything, first, if_select, index_named, is_attached, is_reserved, lacks_sequence, list_any, listing_schema, meaning, planned, position_from, reads_listing, returning, sequence, statement_of, table_named, timed, understood, view_named, with_command}
 use Rattle.std.specs.Prelude.{if◌then◌else◌, slice_range, slice_get, option_and_then, ◌==◌}
-use Rattle.std.specs.List.{list_any, position_from}
 use Rattle.std.specs.Option.{option_or}
 use Rattle.sqlite_ast.specs.declared.Statement.TheVariants as written
 use Rattle.sqlite_ast.specs.declared.CreateTable.{CreateTable as Definition}
-use Rattle.sqlite_syntax.specs.declared.statement.Parsed.{Parsed}
-use Rattle.sqlite.specs.Schema.{Schema}
-use Rattle.sqlite.specs.Table.{Table}
-use Rattle.sqlite.specs.Change.{created}
-use Rattle.sqlite.specs.Does.{lacks_sequence}
-use Rattle.sqlite.specs.Rows.{sequence}
 use Rattle.sqlite.specs.Command.{Command}
-use Rattle.sqlite.specs.Command.TheVariants.{CreateTable, Nothing}
-use Rattle.sqlite.specs.State.{State, Executes, ExecutesIn}
 use Rattle.sqlite.specs.Compile.{table_defined_by}
-use Rattle.sqlite_schema.specs.Names.{table_named, view_named, index_named}
-use Rattle.sqlite_resolve.specs.declared.compiled.Compiled.{Compiled}
 use Rattle.sqlite_resolve.specs.declared.error.CompileError.TheVariants.{NoSuchTable, Unsupported, Misuse, Exists}
-use Rattle.sqlite_resolve.specs.Lowering.{Checked, and_then}
-use Rattle.sqlite_resolve.specs.Scope.{Name}
 use Rattle.sqlite_resolve.specs.Define as define
-use Rattle.sqlite_resolve.specs.Compile.{first, compiled, planned, meaning, returning, timed, command, create_table, creates, is_attached, is_reserved, with_command}
-use Rattle.sqlite.specs.Listing.{understood, reads_listing, if_select, listing_schema}
-use Rattle.sqlite.proofs.Callers.{IsPlain, command_of, statement_of}
-use Rattle.sqlite_tied.specs.Compute.{everything}
 use Rattle.mq_tables.specs.Tables.{setting_table, answer_table, trans_table, usage_table, ceiling_table, rule_table, retired_table}
 use Rattle.mq_tables.specs.Written.{Created}
 use Rattle.mq_tables.proofs.Plain.{parsed_in}

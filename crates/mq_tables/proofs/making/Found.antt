@@ -1,17 +1,9 @@
 -- A table that was made is found in each schema that was made from there.
 use Rattle.std.proofs.Common.{◌≡◌, inl, inr, ℕ, suc, zero, ◌+◌, ◌<◌, ◌^◌, ◌==◌, nat_le, find, List, [], ◌∷◌, ◌++◌, Bool, true, false, Option, Some, true≢false, arith, slice_get, refl, ap, subst, ◌∙◌}
-use Rattle.std.proofs.lemmas.Bool.{eq-eqb, lt-leb}
+use Rattle.mq_tables.proofs.Words.{AllByRecursion, AllZip, Database, IsDatabase, Row, Schema, Table, created, eq-eqb, is_used, lt-leb, next_tree, position_from, same_name}
 use Rattle.std.proofs.lemmas.Bool.Decides.{eqb_tells}
 use Rattle.std.specs.Prelude.{if◌then◌else◌}
-use Rattle.std.specs.List.{AllByRecursion, AllZip, position_from}
-use Rattle.sqlite.specs.Order.{Row}
-use Rattle.sqlite.specs.Schema.{Schema}
-use Rattle.sqlite.specs.Table.{Table}
-use Rattle.sqlite.specs.Change.{created, next_tree}
-use Rattle.sqlite.specs.Effect.{Database, IsDatabase}
-use Rattle.sqlite_catalog.specs.Change.{is_used}
 use Rattle.sqlite_catalog.specs.Listing.{IsTableRow}
-use Rattle.sqlite_schema.specs.Names.{same_name}
 use Rattle.mq_tables.specs.Places.{IsTableIn}
 use Rattle.mq_tables.specs.Making.{chain}
 use Rattle.mq_tables.proofs.making.Creating.{place_kept, get_kept}

@@ -1,37 +1,25 @@
 -- CREATE INDEX over any schema that has our table at some place.
 use Rattle.std.proofs.Common.{◌≡◌, ℕ, List, [], ◌∷◌, Bool, true, false, not, Option, Some, None, is_some, Ok, Err, Result, OnOk, IsTrue, true≢false, codes, refl, sym, ap, subst, ◌∙◌}
+use Rattle.mq_tables.proofs.Words.{Checked, Compiled, CreateIndex, Database, Error, IsPlain, Nothing, Parsed, Schema, Table, Tally, and_then, command, command_of, compiled, create_index, creates, everything, first, if_select, index_named, is_reserved, listing_schema, meaning, planned, reads_listing, returning, runs_as, same_name, statement_of, table_named, timed, understood, view_named, with_command}
 use Rattle.std.specs.Prelude.{if◌then◌else◌, slice_range, slice_get}
 use Rattle.std.specs.Option.{option_or}
 use Rattle.sqlite_ast.specs.declared.Statement.TheVariants as written
 use Rattle.sqlite_ast.specs.declared.CreateIndex.{CreateIndex as Definition}
-use Rattle.sqlite_syntax.specs.declared.statement.Parsed.{Parsed}
-use Rattle.sqlite.specs.declared.error.Error.{Error}
-use Rattle.sqlite.specs.Schema.{Schema}
-use Rattle.sqlite.specs.Table.{Table}
-use Rattle.sqlite.specs.Effect.{Database}
-use Rattle.sqlite.specs.Does.{Tally}
 use Rattle.sqlite.specs.Command.{Command}
-use Rattle.sqlite.specs.Command.TheVariants.{CreateIndex, Nothing}
 use Rattle.sqlite.specs.State.{State, Executes, ExecutesIn, ExecutesInside, Writes}
 use Rattle.sqlite.specs.Compile.{index_defined_by}
 use Rattle.sqlite_catalog.specs.Change.{is_used, indexed as indexed_in, KeepsRows}
 use Rattle.sqlite_schema.specs.declared.schema.Index.{Index}
-use Rattle.sqlite_schema.specs.Names.{same_name, table_named, view_named, index_named}
-use Rattle.sqlite_resolve.specs.declared.compiled.Compiled.{Compiled}
 use Rattle.sqlite_resolve.specs.declared.error.CompileError.TheVariants.{NoSuchTable, Misuse, Exists}
-use Rattle.sqlite_resolve.specs.Lowering.{Checked, and_then}
 use Rattle.sqlite_resolve.specs.Define as define
-use Rattle.sqlite_resolve.specs.Compile.{first, compiled, planned, meaning, returning, timed, command, create_index, creates, is_reserved, with_command}
-use Rattle.sqlite.specs.Listing.{understood, reads_listing, if_select, listing_schema}
-use Rattle.sqlite.proofs.Callers.{IsPlain, command_of, statement_of, runs_as}
-use Rattle.sqlite_tied.specs.Compute.{everything}
 use Rattle.mq_tables.specs.Tables.{usage_table}
 use Rattle.mq_tables.specs.Places.{IsUsageIn}
 use Rattle.mq_tables.specs.Indexing.{day_index, Indexes, HasIndexed, IsIndexed}
 use Rattle.mq_tables.proofs.Plain.{parsed_in}
 use Rattle.mq_tables.proofs.Statements.{went, same_value}
 use Rattle.mq_tables.proofs.making.Creating.{one_plan}
-use Rattle.mq_tables.proofs.making.Indexed.{ledger_indexed}
+use Rattle.mq_tables.proofs.Changes.{ledger_stays}
+use Rattle.mq_tables.proofs.making.Indexed.{stays}
 use Rattle.mq_tables.proofs.making.Naming.{taken_by}
 
 abbrev pub index_text : List ℕ
@@ -135,7 +123,7 @@ indexes old new (Ok count) h = (h.1.mode, λ tree place. index_made old new tree
 -- so a ledger has it
 pub has_indexed : (old new : State) (r : Result ℕ Error) → OnOk r (Indexes old new) → OnOk r (IsIndexed old.now new.now)
 has_indexed old new (Err e) h = tt
-has_indexed old new (Ok count) h = record { made = λ t l. let it = h.1 l.at.usage l.tables.usage in (it, ledger_indexed l.at.usage old.now new.now it t l) }
+has_indexed old new (Ok count) h = record { made = λ t l. let it = h.1 l.at.usage l.tables.usage in (it, ledger_stays (stays l.at.usage old.now new.now it) t l) }
 
 pub index_inside : (old new : State) (r : Result ℕ Error) → OnOk r (Indexes old new) → OnOk r (IsTrue new.in_transaction)
 index_inside old new (Err e) h = tt

@@ -1,14 +1,6 @@
 -- What the statements of `create` leave, over any schema.
 use Rattle.std.proofs.Common.{IsTrue, ◌≡◌, ◌≢◌, ℕ, ◌+◌, List, [], ◌∷◌, true, false, Some, Ok, Err, Result, arith, OnOk, slice_get, sym, ap, subst, ◌∙◌}
-use Rattle.std.specs.List.{AllByRecursion}
-use Rattle.sqlite.specs.declared.error.Error.{Error}
-use Rattle.sqlite.specs.Order.{Row}
-use Rattle.sqlite.specs.Schema.{Schema}
-use Rattle.sqlite.specs.Table.{Table}
-use Rattle.sqlite.specs.Change.{created, next_tree}
-use Rattle.sqlite.specs.Does.{lacks_sequence}
-use Rattle.sqlite.specs.State.{State, ExecutesInside}
-use Rattle.sqlite_schema.specs.Names.{table_named, same_name}
+use Rattle.mq_tables.proofs.Words.{AllByRecursion, Error, ExecutesInside, Row, Schema, State, Table, created, lacks_sequence, next_tree, same_name, table_named}
 use Rattle.mq_tables.specs.Tables.{answer_table, trans_table, usage_table, ceiling_table, rule_table, retired_table}
 use Rattle.mq_tables.specs.Written.{Created}
 use Rattle.mq_tables.specs.Making.{Makes, Puts, HasCounters, HasAdded, HasStarted, four_tables, later_tables, other_tables}

@@ -1,10 +1,7 @@
 -- A name that isn't used is none that something has.
 use Rattle.std.proofs.Common.{◌≡◌, ℕ, ◌+◌, List, [], ◌∷◌, Bool, true, false, ◌||◌, Some, is_some, true≢false, refl}
+use Rattle.mq_tables.proofs.Words.{Schema, index_named, is_used, list_any, position_from, same_name, table_named, view_named}
 use Rattle.std.specs.Prelude.{if◌then◌else◌}
-use Rattle.std.specs.List.{list_any, position_from}
-use Rattle.sqlite.specs.Schema.{Schema}
-use Rattle.sqlite_schema.specs.Names.{same_name, table_named, index_named, view_named}
-use Rattle.sqlite_catalog.specs.Change.{is_used}
 use Rattle.mq_tables.specs.Indexing.{is_taken}
 
 has_place : {X : Type 0} (p : X → Bool) (n : ℕ) (xs : List X) → list_any p xs ≡ is_some (position_from p n xs)

@@ -1,25 +1,14 @@
 -- The five tables of a new ledger are found, and hold the rows of the empty history.
 use Rattle.std.proofs.Common.{◌≡◌, ℕ, pos, ◌<◌, ◌==◌, find, List, [], ◌∷◌, Bool, true, false, Some, None, true≢false, refl, sym, ap, subst, ◌∙◌}
+use Rattle.mq_tables.proofs.Words.{AllByRecursion, Database, IsDatabase, IsPermutation-refl, Row, Schema, State, Table, Tables, all_weaker, created, next_tree, or_parts, same_name}
 use Rattle.std.specs.Prelude.{if◌then◌else◌, ⊤}
-use Rattle.std.specs.List.{AllByRecursion}
-use Rattle.std.proofs.lemmas.Bool.{or_parts}
-use Rattle.std.proofs.lemmas.List.Sorted.{IsPermutation-refl}
-use Rattle.sqlite_trees.proofs.ListLemmas.{all_weaker}
 use Rattle.sqlite_schema.specs.declared.schema.Reference.{Reference}
-use Rattle.sqlite_schema.specs.Names.{same_name}
-use Rattle.sqlite.specs.Order.{Row}
-use Rattle.sqlite.specs.Schema.{Schema}
-use Rattle.sqlite.specs.Table.{Table}
-use Rattle.sqlite.specs.Change.{created, next_tree}
-use Rattle.sqlite.specs.Effect.{Database, IsDatabase}
-use Rattle.sqlite.specs.State.{State}
 use Rattle.mq_tables.specs.Tables.{setting_table, answer_table, trans_table, usage_table, ceiling_table, rule_table, retired_table}
 use Rattle.mq_tables.specs.declared.setting.NewSetting.{NewSetting}
 use Rattle.mq_tables.specs.Places.{IsTableIn, IsUnreferred, is_tree, refers}
 use Rattle.mq_tables.specs.Records.{Holds}
 use Rattle.mq_tables.specs.Ledger.{HasLedger, IsLedgerIn}
 use Rattle.mq_tables.specs.Settings.{HasSetting, setting_after}
-use Rattle.mq_rows.specs.Tables.{Tables}
 use Rattle.mq_tables.specs.Making.{chain, trees_for, is_ours, AllFree, AreUnnamed, other_tables, three_tables, five_tables, ledger_over, setting_row, new_rows, HasStarted, HasAdded}
 use Rattle.mq_tables.proofs.Chains.{all_joined, all_both, of_chain}
 use Rattle.mq_tables.proofs.making.Found.{IsFound, apart, begun, still_all, in_database}

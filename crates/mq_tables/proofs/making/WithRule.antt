@@ -1,13 +1,6 @@
 -- A new ledger with the rule of its zone, where it has one.
 use Rattle.std.proofs.Common.{◌≡◌, ◌≢◌, ◌<◌, ℕ, ℤ, Bool, true, false, List, [], ◌∷◌, Option, Some, None, Ok, Err, Result, OnOk, IsTrue, refl, sym, ap, subst, ◌∙◌, arith}
-use Rattle.std.specs.List.{AllByRecursion}
-use Rattle.sqlite.specs.declared.error.Error.{Error}
-use Rattle.sqlite.specs.Schema.{Schema}
-use Rattle.sqlite.specs.Table.{Table}
-use Rattle.sqlite.specs.Change.{created, next_tree}
-use Rattle.sqlite.specs.Effect.{Database}
-use Rattle.sqlite.specs.State.{State}
-use Rattle.sqlite_trees.proofs.ListLemmas.{all_weaker}
+use Rattle.mq_tables.proofs.Words.{AllByRecursion, Database, Error, Schema, State, Table, all_weaker, created, next_tree}
 use Rattle.mq_ledger.specs.Day.{ByOffset, ByRule, rule_in}
 use Rattle.mq_ledger.specs.declared.zone.Zone.{Zone}
 use Rattle.mq_tables.specs.declared.setting.NewSetting.{NewSetting}
@@ -15,11 +8,11 @@ use Rattle.mq_tables.specs.Tables.{setting_table, rule_table}
 use Rattle.mq_tables.specs.Settings.{rule_fields}
 use Rattle.mq_tables.specs.Making.{chain, trees_for, other_tables, five_tables, setting_row, IsMadeOverBy, three_tables, HasCounters, HasStarted, HasAdded, HasPut, PutsAny, IsMadeBy, AreMadeFor}
 use Rattle.mq_tables.proofs.Chains.{all_both, of_chain}
-use Rattle.mq_tables.proofs.Changes.{kept_of, rule_changed}
+use Rattle.mq_tables.proofs.Changes.{kept_of, rule_changed, ledger_stays}
 use Rattle.mq_tables.specs.Places.{IsSettingIn, IsUsageIn}
 use Rattle.mq_tables.proofs.making.NewLedger.{AreSeven, seven_made, without_rule}
 use Rattle.mq_tables.proofs.making.Places.{all_below}
-use Rattle.mq_tables.proofs.making.Indexed.{still_in, same_rows, ledger_indexed}
+use Rattle.mq_tables.proofs.making.Indexed.{still_in, same_rows, stays}
 use Rattle.mq_tables.specs.Indexing.{with_day_index, HasIndexed, IndexesIf}
 
 -- with an offset there is none
@@ -125,7 +118,7 @@ module _ (made_with : NewSetting) (old mid new : Database) (it : IsMadeBy false 
         rule = parts.1.1.1.1.1.1.0 ∙ it.rule;
         empty = all_both (λ n. new.trees n ≡ mid.trees n) (λ n. n ≢ next_tree (chain old.schema five_tables) → mid.trees n ≡ []) (λ n. n ≢ next_tree (chain old.schema five_tables) → new.trees n ≡ []) (λ n same none apart. same ∙ none apart) (trees_for (created old.schema setting_table) other_tables) parts.1.1 it.empty;
         setting = record { tree = set.tree; table = still_in _ mid new more setting_table set.tree set.table; row = same_rows _ mid new more setting_table set.tree set.table ∙ set.row };
-        ledger = λ unnamed. ledger_indexed _ mid new more _ (it.ledger unnamed);
+        ledger = λ unnamed. ledger_stays (stays _ mid new more) _ (it.ledger unnamed);
         others = all_both _ _ _ (λ t later before. later ∙ before) old.schema.tables parts.0 it.others;
       }
 

@@ -1,25 +1,14 @@
 -- What the query for the count of arrivals answers.
-use Rattle.std.proofs.Common.{◌≡◌, ℕ, pos, List, [], ◌∷◌, codes, None, Ok, Err, Result, refl, sym, ap, subst, ◌∙◌}
-use Rattle.std.specs.Prelude.{Vec, IfOk}
-use Rattle.std.specs.declared.alloc.Global.{Global}
-use Rattle.std.specs.List.Sorted.{IsPermutation}
-use Rattle.sqlite.specs.Order.{Row, column, value_cmp}
-use Rattle.sqlite.specs.Ops.{binary}
-use Rattle.sqlite.specs.declared.types.Value.TheVariants.{Int}
-use Rattle.sqlite.specs.declared.error.Error.{Error}
-use Rattle.sqlite.specs.Listing.{listing_schema}
-use Rattle.sqlite.specs.State.{State, Shown}
-use Rattle.sqlite.proofs.Callers.{one_permutation}
-use Rattle.sqlite_schema.specs.Names.{same_name}
-use Rattle.sqlite_tied.specs.Compute.{everything}
-use Rattle.mq_rows.specs.Tables.{Tables}
+use Rattle.std.proofs.Common.{◌≡◌, ℕ, pos, List, [], ◌∷◌, codes, None, Ok, Err, refl, sym, ap, subst, ◌∙◌}
+use Rattle.mq_tables.proofs.Words.{Int, IsPermutation, Row, binary, column, everything, listing_schema, one_permutation, same_name, value_cmp}
 use Rattle.mq_tables.specs.Ledger.{HasLedger, setting_in}
 use Rattle.mq_tables.specs.Settings.{SettingRow, setting_fields}
 use Rattle.mq_tables.specs.Lent.{IsFirstNatural}
 use Rattle.mq_tables.specs.Tables.{setting_table}
 use Rattle.mq_tables.specs.Written.{chosen}
-use Rattle.mq_tables.proofs.SelectShape.{SelectShape, IsSelect, IsAccepted, filter_in, shown_in}
-use Rattle.mq_tables.proofs.Selected.{shows_rows}
+use Rattle.mq_tables.proofs.Finds.{Following, follows}
+use Rattle.mq_tables.proofs.SelectShape.{SelectShape, IsSelect, filter_in, shown_in}
+use Rattle.mq_tables.proofs.Selected.{Finding, shows_rows}
 use Rattle.mq_tables.proofs.TermShape.{field}
 use Rattle.mq_tables.proofs.TermShape.Operand.{One}
 use Rattle.mq_tables.proofs.TermShape.Relation.{Same}
@@ -37,21 +26,17 @@ arrivals_shape = record {
 
 pub arrivals_select : IsSelect arrivals_text arrivals_shape
 unfolding everything listing_schema same_name
-arrivals_select = record { parsed = refl; statement = refl; timeless = refl; unlisted = refl; known = λ t. refl; short = refl }
-
-arrivals_accepted : IsAccepted arrivals_shape
-arrivals_accepted s t low found = rw (low, found)
+arrivals_select = record { parsed = refl; statement = refl; timeless = refl; unlisted = refl; known = λ t. refl; short = refl; accepted = λ s t low found. rw (low, found) }
 
 chosen_is : (s : SettingRow) → chosen (filter_in arrivals_shape) (shown_in arrivals_shape) [] (setting_fields s ∷ []) ≡ (Int s.arrivals ∷ []) ∷ []
 unfolding binary value_cmp lib.Ieee.is_nan lib.Ieee.lt
 chosen_is s = refl
 
-pub found_arrivals : (old new : State) (outcome : Result (Vec Row Global) Error) → IfOk outcome (λ rows. Shown arrivals_text [] old new rows.items)
-    → IfOk outcome (λ rows. (t : Tables) → HasLedger old.now t → rows.items ≡ (Int (pos t.setting.arrivals) ∷ []) ∷ [])
+pub found_arrivals : Finding arrivals_text [] HasLedger (λ t rows. rows ≡ (Int (pos t.setting.arrivals) ∷ []) ∷ [])
 found_arrivals old new (Ok rows) h = λ t l.
     one_permutation (Int (pos t.setting.arrivals) ∷ []) rows.items
     (subst (λ shown. IsPermutation shown rows.items) (ap (chosen (filter_in arrivals_shape) (shown_in arrivals_shape) []) l.holds.setting ∙ chosen_is (setting_in t.setting))
-    (shows_rows arrivals_text arrivals_shape arrivals_select arrivals_accepted [] old new l.at.setting l.tables.setting rows.items h refl))
+    (shows_rows arrivals_text arrivals_shape arrivals_select [] old new l.at.setting l.tables.setting rows.items h refl))
 found_arrivals old new (Err e) h = tt
 
 counted : (m n : ℕ) (rows : List Row) → rows ≡ (Int (pos m) ∷ []) ∷ [] → IsFirstNatural rows n → n ≡ m
@@ -60,7 +45,5 @@ counted m n rows is (row, more, whole, (at, low)) =
     let same : Int (pos n) ≡ Int (pos m) = sym at ∙ ap (λ r. column r 0) head in
     cc
 
-pub arrivals_after : (Held : Tables → Type 0) (rows : List Row) (outcome : Result ℕ Error) → ((t : Tables) → Held t → rows ≡ (Int (pos t.setting.arrivals) ∷ []) ∷ [])
-    → IfOk outcome (IsFirstNatural rows) → IfOk outcome (λ n. (t : Tables) → Held t → n ≡ t.setting.arrivals)
-arrivals_after Held rows (Ok n) same first = λ t l. counted t.setting.arrivals n rows (same t l) first
-arrivals_after Held rows (Err e) same first = tt
+pub arrivals_after : Following (λ t rows. rows ≡ (Int (pos t.setting.arrivals) ∷ []) ∷ []) IsFirstNatural (λ t n. n ≡ t.setting.arrivals)
+arrivals_after = follows _ _ _ (λ t rows n. counted t.setting.arrivals n rows)

@@ -1,13 +1,6 @@
 -- The INSERT of the row of settings and of that of a rule, each where its table is at some place and empty.
 use Rattle.std.proofs.Common.{append-nil, ◌≡◌, ℕ, pos, List, [], ◌∷◌, Some, Ok, Err, Result, OnOk, codes, slice_get, refl, ap, ◌∙◌}
-use Rattle.sqlite.specs.declared.error.Error.{Error}
-use Rattle.sqlite.specs.declared.types.Value.TheVariants.{Null, Int}
-use Rattle.sqlite.specs.Order.{Row}
-use Rattle.sqlite.specs.Tree.{put_row}
-use Rattle.sqlite.specs.Term.{lit, col}
-use Rattle.sqlite.specs.State.{State, ExecutesInside}
-use Rattle.sqlite_schema.specs.Names.{table_named}
-use Rattle.sqlite_tied.specs.Compute.{everything}
+use Rattle.mq_tables.proofs.Words.{Error, ExecutesInside, Int, Null, Row, State, col, everything, lit, put_row, table_named}
 use Rattle.mq_ledger.specs.Day.{minutes_in}
 use Rattle.mq_rows.specs.declared.setting.TheConstants.{VERSION}
 use Rattle.mq_tables.specs.declared.setting.NewSetting.{NewSetting}

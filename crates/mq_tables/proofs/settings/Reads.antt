@@ -1,22 +1,13 @@
 -- What is read of the settings, over a store that has their table at any place.
 use Rattle.std.proofs.Common.{◌≡◌, inl, inr, [], ◌∷◌, codes, None, Option, Ok, Err, Result, arith, refl, sym, ap, subst, ◌∙◌}
-use Rattle.std.proofs.lemmas.List.Sorted.{length_permutation}
-use Rattle.sqlite.specs.declared.types.Value.TheVariants.{Int}
-use Rattle.sqlite.specs.declared.error.Error.{Error}
-use Rattle.sqlite.specs.Listing.{listing_schema}
-use Rattle.sqlite.specs.Ops.{binary}
-use Rattle.sqlite.specs.Order.{Row, value_cmp}
-use Rattle.sqlite.specs.State.{State}
-use Rattle.sqlite.proofs.Callers.{one_permutation}
-use Rattle.sqlite_schema.specs.Names.{same_name}
-use Rattle.sqlite_tied.specs.Compute.{everything}
+use Rattle.mq_tables.proofs.Words.{Error, Int, Row, State, binary, everything, length_permutation, listing_schema, one_permutation, same_name, value_cmp}
 use Rattle.mq_tables.specs.declared.setting.Setting.{Setting}
 use Rattle.mq_tables.specs.Reading.{setting_text, IsRead}
 use Rattle.mq_tables.specs.Settings.{SettingRow, HasSetting, setting_fields, reading, IsOf}
 use Rattle.mq_tables.specs.Tables.{setting_table}
 use Rattle.mq_tables.specs.Written.{chosen}
 use Rattle.mq_tables.proofs.Asked.{IsAlone, IsAnswered, answers}
-use Rattle.mq_tables.proofs.SelectShape.{SelectShape, IsSelect, IsAccepted, filter_in, shown_in, bare}
+use Rattle.mq_tables.proofs.SelectShape.{SelectShape, IsSelect, filter_in, shown_in, bare}
 use Rattle.mq_tables.proofs.Spared.{AlwaysBare}
 use Rattle.mq_tables.proofs.TermShape.{field}
 use Rattle.mq_tables.proofs.TermShape.Operand.{One}
@@ -32,10 +23,7 @@ setting_shape = record {
 
 setting_select : IsSelect setting_text setting_shape
 unfolding everything listing_schema same_name
-setting_select = record { parsed = refl; statement = refl; timeless = refl; unlisted = refl; known = λ t. refl; short = refl }
-
-setting_accepted : IsAccepted setting_shape
-setting_accepted s t low found = rw (low, found)
+setting_select = record { parsed = refl; statement = refl; timeless = refl; unlisted = refl; known = λ t. refl; short = refl; accepted = λ s t low found. rw (low, found) }
 
 setting_alone : IsAlone setting_text
 unfolding everything
@@ -63,4 +51,4 @@ read_so s (Err e) (inr h) = let same : 0 ≡ 1 = length_permutation _ _ h.1 in a
 pub of_setting : (old new : State) (r : Result (Option Setting) Error) → IsRead old new r → (s : SettingRow) → HasSetting old.now s → IsOf s r
 of_setting old new r j s h =
     subst (IsOf s) (sym j.read_is) (read_so s j.answer (subst (λ rows. IsAnswered rows j.answer) (ap (chosen (filter_in setting_shape) (shown_in setting_shape) []) h.row ∙ chosen_is s)
-    (answers setting_text setting_shape setting_select setting_accepted refl setting_alone old new h.tree h.table j.answer j.queried)))
+    (answers setting_text setting_shape setting_select refl setting_alone old new h.tree h.table j.answer j.queried)))

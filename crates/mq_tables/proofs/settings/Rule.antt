@@ -1,22 +1,13 @@
 -- What is read of the rule, over a store that has its table at any place.
 use Rattle.std.proofs.Common.{◌≡◌, inl, inr, ℕ, suc, List, [], ◌∷◌, codes, length, Option, None, Some, Ok, Err, Result, arith, refl, ap, subst, ◌∙◌}
-use Rattle.std.proofs.lemmas.List.Sorted.{length_permutation}
-use Rattle.sqlite.specs.declared.types.Value.TheVariants.{Blob}
-use Rattle.sqlite.specs.declared.error.Error.{Error}
-use Rattle.sqlite.specs.Listing.{listing_schema}
-use Rattle.sqlite.specs.Ops.{binary}
-use Rattle.sqlite.specs.Order.{Row, value_cmp}
-use Rattle.sqlite.specs.State.{State, QueriesRow}
-use Rattle.sqlite.proofs.Callers.{one_permutation}
-use Rattle.sqlite_schema.specs.Names.{same_name}
-use Rattle.sqlite_tied.specs.Compute.{everything}
+use Rattle.mq_tables.proofs.Words.{Blob, Error, QueriesRow, Row, State, binary, everything, length_permutation, listing_schema, one_permutation, same_name, value_cmp}
 use Rattle.mq_tables.specs.Reading.{rule_text, unlimited}
 use Rattle.mq_tables.specs.Ledger.{HasRule}
 use Rattle.mq_tables.specs.Settings.{IsRuleOf, rule_rows}
 use Rattle.mq_tables.specs.Tables.{rule_table}
 use Rattle.mq_tables.specs.Written.{chosen}
 use Rattle.mq_tables.proofs.Asked.{IsAlone, IsAnswered, answers}
-use Rattle.mq_tables.proofs.SelectShape.{SelectShape, IsSelect, IsAccepted, filter_in, shown_in}
+use Rattle.mq_tables.proofs.SelectShape.{SelectShape, IsSelect, filter_in, shown_in}
 use Rattle.mq_tables.proofs.TermShape.{field}
 use Rattle.mq_tables.proofs.TermShape.Operand.{One}
 use Rattle.mq_tables.proofs.TermShape.Relation.{Same}
@@ -31,10 +22,7 @@ rule_shape = record {
 
 pub rule_select : IsSelect rule_text rule_shape
 unfolding everything listing_schema same_name
-rule_select = record { parsed = refl; statement = refl; timeless = refl; unlisted = refl; known = λ t. refl; short = refl }
-
-rule_accepted : IsAccepted rule_shape
-rule_accepted s t low found = rw (low, found)
+rule_select = record { parsed = refl; statement = refl; timeless = refl; unlisted = refl; known = λ t. refl; short = refl; accepted = λ s t low found. rw (low, found) }
 
 rule_alone : IsAlone rule_text
 unfolding everything
@@ -62,4 +50,4 @@ read_so (Some text) (Err e) (inr h) = let same : 0 ≡ 1 = length_permutation _ 
 pub rule_answered : (old new : State) (rule : Option (List ℕ)) → HasRule old.now rule → (answer : Result Row Error) → QueriesRow rule_text [] (unlimited old) new answer → IsRuleOf rule answer
 rule_answered old new rule has answer h =
     read_so rule answer (subst (λ shown. IsAnswered shown answer) (ap (chosen (filter_in rule_shape) (shown_in rule_shape) []) has.holds ∙ chosen_is rule)
-    (answers rule_text rule_shape rule_select rule_accepted refl rule_alone old new has.tree has.table answer h))
+    (answers rule_text rule_shape rule_select refl rule_alone old new has.tree has.table answer h))

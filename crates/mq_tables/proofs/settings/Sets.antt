@@ -1,19 +1,6 @@
 -- The UPDATE of one column in the row of settings, over any schema that has the table at some place.
-use Rattle.std.proofs.Common.{IsTrue, append-nil, ◌≡◌, ℕ, ℤ, pos, List, [], ◌∷◌, Ok, Err, Result, OnOk, codes, refl, ap, subst, ◌∙◌}
-use Rattle.std.specs.List.Sorted.{IsPermutation}
-use Rattle.sqlite.specs.Order.{Row, value_cmp}
-use Rattle.sqlite.specs.Ops.{binary}
-use Rattle.sqlite.specs.declared.types.Value.TheVariants.{Null, Int}
-use Rattle.sqlite.specs.declared.error.Error.{Error}
-use Rattle.sqlite.specs.Term.{Term, lit, col, eval_all}
-use Rattle.sqlite.specs.Tree.{Trees}
-use Rattle.sqlite.specs.Edit.{edit_of, edited}
-use Rattle.sqlite.specs.Rowids.TheVariants.{Given}
-use Rattle.sqlite_rules.specs.Calls.{ids_of}
-use Rattle.sqlite.specs.State.{State, Executes, ExecutesInside}
-use Rattle.sqlite_schema.specs.Names.{same_name}
-use Rattle.sqlite.proofs.Callers.{one_permutation}
-use Rattle.sqlite_tied.specs.Compute.{everything}
+use Rattle.std.proofs.Common.{append-nil, ◌≡◌, ℕ, ℤ, pos, List, [], ◌∷◌, Ok, Err, Result, codes, refl, ap, subst, ◌∙◌}
+use Rattle.mq_tables.proofs.Words.{Error, Executes, ExecutesInside, Given, Int, IsPermutation, Null, Row, State, Term, Trees, binary, col, edit_of, edited, eval_all, everything, ids_of, lit, one_permutation, same_name, value_cmp}
 use Rattle.mq_tables.specs.Ledger.{setting_in}
 use Rattle.mq_tables.specs.Migrating.{version_params, SetsVersion}
 use Rattle.mq_tables.specs.Places.{IsSettingIn, IsUnreferred}
@@ -23,10 +10,11 @@ use Rattle.mq_tables.specs.Updates.{HasSetRow, CountsArrivals}
 use Rattle.mq_tables.specs.Written.{chosen as chosen_rows}
 use Rattle.mq_tables.proofs.Changes.{arrivals_changed, version_changed}
 use Rattle.mq_tables.proofs.Casts.{cast_int, cast_null}
+use Rattle.mq_tables.proofs.Parts.{Executed, Executing}
 use Rattle.mq_tables.proofs.TermShape.{field}
 use Rattle.mq_tables.proofs.TermShape.Operand.{One}
 use Rattle.mq_tables.proofs.TermShape.Relation.{Same}
-use Rattle.mq_tables.proofs.UpdateShape.{UpdateShape, IsUpdateOf, IsAccepted, in_tree, tests_in, made}
+use Rattle.mq_tables.proofs.UpdateShape.{UpdateShape, IsUpdateOf, in_tree, tests_in, made}
 
 -- this column of the row is set to the first parameter
 abbrev sets_one : List ℕ → ℕ → List Term → UpdateShape
@@ -38,7 +26,7 @@ sets_one column place row = record {
   row = row;
 }
 
-module _ (text column : List ℕ) (place : ℕ) (row : List Term) (it : IsUpdateOf text (sets_one column place row)) (accepted : IsAccepted (sets_one column place row)) (n : ℤ) (set : SettingRow → SettingRow)
+module _ (text column : List ℕ) (place : ℕ) (row : List Term) (it : IsUpdateOf text (sets_one column place row)) (n : ℤ) (set : SettingRow → SettingRow)
     (shows : (s : SettingRow) → eval_all row ((Int n ∷ []) ∷ setting_fields s ∷ []) ≡ Int (pos 1) ∷ setting_fields (set s)) where
   abbrev shape : UpdateShape
   shape = sets_one column place row
@@ -59,7 +47,7 @@ module _ (text column : List ℕ) (place : ℕ) (row : List Term) (it : IsUpdate
 
   set_so : (old new : State) (t : ℕ) (there : IsSettingIn old.now.schema t) → IsUnreferred old.now.schema t → (count : ℕ) → Executes text params old new (Ok count) → HasSetRow set t old.now new.now
   set_so old new t there apart count h =
-      let done = made text shape it accepted params old new t there apart count h in
+      let done = made text shape it params old new t there apart count h in
       record {
         sound = done.sound;
         schema = done.schema_is;
@@ -80,17 +68,14 @@ arrivals_row = col 1 0 ∷ col 1 0 ∷ lit Null ∷ col 1 2 ∷ col 1 3 ∷ col 
 
 arrivals_update : IsUpdateOf arrivals_text (sets_one (codes "arrivals") 5 arrivals_row)
 unfolding everything same_name
-arrivals_update = record { parsed = refl; statement = refl; formats = refl; placed = λ t. refl; laid = λ t. refl; known = λ t. refl; short = refl; uncounted = refl; timeless = λ params. append-nil params }
+arrivals_update = record { parsed = refl; statement = refl; formats = refl; placed = λ t. refl; laid = λ t. refl; known = λ t. refl; short = refl; uncounted = refl; timeless = λ params. append-nil params; accepted = λ s t low found. rw (low, found) }
 
-arrivals_accepted : IsAccepted (sets_one (codes "arrivals") 5 arrivals_row)
-arrivals_accepted s t low found = rw (low, found)
-
-pub counts_arrivals : (old new : State) (n : ℕ) (r : Result ℕ Error) → ExecutesInside 0 arrivals_text (Int (pos n) ∷ []) old new r → OnOk r (IsTrue new.in_transaction) × OnOk r (CountsArrivals n old new)
-counts_arrivals old new n (Err e) h = (tt, tt)
-counts_arrivals old new n (Ok count) h = (
+pub counts_arrivals : Executing arrivals_text (λ (n : ℕ). Int (pos n) ∷ []) CountsArrivals
+counts_arrivals n (Err e) old new h = (tt, tt)
+counts_arrivals n (Ok count) old new h = (
   h.1.mode,
   λ t l.
-      let it = set_so arrivals_text (codes "arrivals") 5 arrivals_row arrivals_update arrivals_accepted (pos n) (λ s. record s { arrivals = pos n }) (λ s. refl) old new l.at.setting l.tables.setting l.tables.setting_alone count h.0 in
+      let it = set_so arrivals_text (codes "arrivals") 5 arrivals_row arrivals_update (pos n) (λ s. record s { arrivals = pos n }) (λ s. refl) old new l.at.setting l.tables.setting l.tables.setting_alone count h.0 in
       arrivals_changed old.now new.now t l it.schema it.sound it.others n (it.row (setting_in t.setting) l.holds.setting),
 )
 
@@ -104,16 +89,13 @@ version_row = col 1 0 ∷ col 1 0 ∷ lit Null ∷ col 0 0 ∷ col 1 3 ∷ col 1
 
 version_update : IsUpdateOf version_text (sets_one (codes "version") 2 version_row)
 unfolding everything same_name
-version_update = record { parsed = refl; statement = refl; formats = refl; placed = λ t. refl; laid = λ t. refl; known = λ t. refl; short = refl; uncounted = refl; timeless = λ params. append-nil params }
+version_update = record { parsed = refl; statement = refl; formats = refl; placed = λ t. refl; laid = λ t. refl; known = λ t. refl; short = refl; uncounted = refl; timeless = λ params. append-nil params; accepted = λ s t low found. rw (low, found) }
 
-version_accepted : IsAccepted (sets_one (codes "version") 2 version_row)
-version_accepted s t low found = rw (low, found)
-
-pub sets_version : (old new : State) (r : Result ℕ Error) → ExecutesInside 0 version_text version_params old new r → OnOk r (IsTrue new.in_transaction) × OnOk r (SetsVersion old.now new.now)
-sets_version old new (Err e) h = (tt, tt)
-sets_version old new (Ok count) h = (
+pub sets_version : (r : Result ℕ Error) (old new : State) → ExecutesInside 0 version_text version_params old new r → Executed r new (SetsVersion old.now new.now)
+sets_version (Err e) old new h = (tt, tt)
+sets_version (Ok count) old new h = (
   h.1.mode,
   λ t l rule floors.
-      let it = set_so version_text (codes "version") 2 version_row version_update version_accepted (pos 3) (λ s. record s { version = pos 3 }) (λ s. refl) old new l.at.setting l.tables.setting l.tables.setting_alone count h.0 in
+      let it = set_so version_text (codes "version") 2 version_row version_update (pos 3) (λ s. record s { version = pos 3 }) (λ s. refl) old new l.at.setting l.tables.setting l.tables.setting_alone count h.0 in
       (version_changed old.now new.now t l it.schema it.sound it.others rule floors (it.row (setting_in t.setting) l.holds.setting), it.schema, it.others),
 )

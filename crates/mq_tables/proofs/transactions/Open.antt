@@ -1,41 +1,22 @@
 -- What the query of the open transactions of runs answers of the records, and what is made of its rows.
 use Rattle.std.proofs.Common.{pos, ◌≡◌, ◌<◌, ◌+◌, ◌&&◌, ℕ, List, [], ◌∷◌, ◌++◌, ◌==◌, length, take, get_or, map, filter, codes, Bool, true, false, None, Ok, Err, Result, refl, sym, ap, ap₂, subst, ◌∙◌}
 use Rattle.std.specs.Prelude.{not, All, nat_le}
-use Rattle.std.specs.List.{AllByRecursion}
 use Rattle.std.proofs.Common.{cond}
-use Rattle.std.proofs.lemmas.Bool.{not-true}
+use Rattle.mq_tables.proofs.Words.{AllByRecursion, Blob, Error, Global, IfOk, Int, IsPermutation, IsPermutation-sym, Row, Tables, TransactionRecord, Vec, and-true, and_parts, everything, listing_schema, not-true, same_name, same_text, slice_eq-Decides, unsigned_Decides}
 use Rattle.std.proofs.lemmas.List.{take_more}
 use Rattle.std.proofs.lemmas.List.Elements.{All-push, recursion_from_All}
-use Rattle.std.proofs.lemmas.List.Sorted.{IsPermutation-sym}
-use Rattle.sqlite.specs.declared.types.Value.TheVariants.{Blob}
-use Rattle.std.specs.Prelude.{Vec, IfOk}
-use Rattle.std.specs.declared.alloc.Global.{Global}
-use Rattle.sqlite.specs.declared.error.Error.{Error}
-use Rattle.sqlite.specs.Listing.{listing_schema}
-use Rattle.sqlite.specs.Order.{Row}
-use Rattle.sqlite.specs.State.{State, Shown}
-use Rattle.sqlite_schema.specs.Names.{same_name}
-use Rattle.sqlite_tied.specs.Compute.{everything}
-use Rattle.std.specs.List.Sorted.{IsPermutation}
-use Rattle.std.specs.Cmp.{unsigned_Decides}
-use Rattle.std.proofs.Math.Bool.{and-true}
-use Rattle.std.proofs.lemmas.Bool.{and_parts}
-use Rattle.std.proofs.lemmas.Slice.Eq.{slice_eq-Decides}
-use Rattle.sqlite.specs.declared.types.Value.TheVariants.{Int}
-use Rattle.mq_request.specs.Same.{same_text}
-use Rattle.mq_rows.specs.declared.record.TransactionRecord.{TransactionRecord}
 use Rattle.mq_rows.specs.declared.plan.Runs.{Runs}
 use Rattle.mq_rows.specs.Plan.{is_open_in}
 use Rattle.mq_rows.specs.Storable.{IsStorable}
-use Rattle.mq_rows.specs.Tables.{Tables}
 use Rattle.mq_tables.specs.Ledger.{HasLedger}
 use Rattle.mq_tables.specs.Retiring.{open_params, open_row, open_columns, IsOpenRead, IsOpenOf}
 use Rattle.mq_tables.specs.Records.{transaction_fields, bit}
 use Rattle.mq_tables.specs.Tables.{trans_table}
 use Rattle.mq_tables.proofs.Finds.{mapped_more, same_read}
-use Rattle.mq_tables.proofs.SelectShape.{SelectShape, IsSelect, IsAccepted}
+use Rattle.mq_tables.proofs.SelectShape.{SelectShape, IsSelect}
 use Rattle.mq_tables.proofs.TermShape.{field, against}
-use Rattle.mq_tables.proofs.Selected.{pass, finds_all}
+use Rattle.mq_tables.proofs.Parts.{transactions_part}
+use Rattle.mq_tables.proofs.Selected.{Finding, pass, finds_all}
 use Rattle.mq_tables.proofs.TermShape.Relation.{Same, AtMost, AtLeast}
 use Rattle.mq_tables.proofs.Tests.{text_test, nat_test, from_test, until_test}
 
@@ -52,10 +33,7 @@ open_shape = record {
 
 pub open_select : IsSelect open_text open_shape
 unfolding everything listing_schema same_name
-open_select = record { parsed = refl; statement = refl; timeless = refl; unlisted = refl; known = λ t. refl; short = refl }
-
-open_accepted : IsAccepted open_shape
-open_accepted s t low found = rw (low, found)
+open_select = record { parsed = refl; statement = refl; timeless = refl; unlisted = refl; known = λ t. refl; short = refl; accepted = λ s t low found. rw (low, found) }
 
 -- a transaction that isn't closed has 0 there
 shut_test : (c : Bool) → (0 == bit c) ≡ not c
@@ -63,15 +41,13 @@ shut_test true = refl
 shut_test false = refl
 
 module _ (runs : Runs) where
-  decides : (r : TransactionRecord) → pass transaction_fields open_text open_shape open_select open_accepted refl (open_params runs) r ≡ is_open_in runs r
+  decides : (r : TransactionRecord) → pass transaction_fields open_shape (open_params runs) r ≡ is_open_in runs r
   decides r =
       rw (text_test r.host runs.host, from_test r.run runs.from, until_test r.run runs.to, nat_test (bit r.closed) 0, shut_test r.closed)
       (ap (λ b. same_text runs.host r.host && b) (ap (λ b. nat_le runs.from r.run && b) (ap (λ b. nat_le r.run runs.to && b) (and-true (not r.closed)))))
 
-  pub found_all : (old new : State) (outcome : Result (Vec Row Global) Error) → IfOk outcome (λ rows. Shown open_text (open_params runs) old new rows.items)
-      → IfOk outcome (λ rows. (t : Tables) → HasLedger old.now t → IsPermutation (map open_row (filter (is_open_in runs) t.transactions)) rows.items)
-  found_all old new =
-      finds_all transaction_fields open_text open_shape open_select open_accepted refl (open_params runs) old new (is_open_in runs) decides refl (λ t. t.transactions) (HasLedger old.now) (λ t l. (l.at.trans, l.tables.trans, l.holds.transactions.same))
+  pub found_all : Finding open_text (open_params runs) HasLedger (λ t rows. IsPermutation (map open_row (filter (is_open_in runs) t.transactions)) rows)
+  found_all = finds_all open_text open_shape open_select transactions_part (open_params runs) (is_open_in runs) decides refl
 
 -- ---- the records that rows of open transactions stand for
 

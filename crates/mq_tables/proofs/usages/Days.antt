@@ -1,39 +1,21 @@
 -- What the query for a login's days answers of the records.
-use Rattle.std.proofs.Common.{◌≡◌, ℕ, ◌≤◌, ◌&&◌, nat_le, List, [], ◌∷◌, codes, map, filter, Bool, true, false, true≢false, Option, Some, None, Ok, Err, Result, refl, sym, ap, ap₂, subst, ◌∙◌}
-use Rattle.std.specs.Prelude.{Vec, IfOk}
-use Rattle.std.specs.declared.alloc.Global.{Global}
-use Rattle.sqlite.specs.declared.error.Error.{Error}
-use Rattle.sqlite.specs.Listing.{listing_schema}
-use Rattle.sqlite.specs.Order.{Row, column}
-use Rattle.sqlite.specs.State.{State, Shown}
-use Rattle.sqlite_schema.specs.Names.{same_name}
-use Rattle.sqlite_tied.specs.Compute.{everything}
-use Rattle.std.specs.List.{AllByRecursion}
-use Rattle.std.specs.List.Sorted.{IsPermutation}
-use Rattle.std.specs.Cmp.{unsigned_Decides}
-use Rattle.std.proofs.Math.Bool.{and-true}
-use Rattle.std.proofs.lemmas.Bool.{and_parts}
-use Rattle.std.proofs.lemmas.List.Sorted.{IsPermutation-sym}
-use Rattle.std.proofs.lemmas.Slice.Eq.{slice_eq-Decides}
-use Rattle.sqlite_rules.specs.Lists.{Has}
+use Rattle.std.proofs.Common.{◌≡◌, ℕ, ◌≤◌, ◌&&◌, nat_le, List, [], ◌∷◌, codes, map, filter, Bool, true, false, true≢false, Option, Some, None, refl, sym, ap, ap₂, subst, ◌∙◌}
+use Rattle.mq_tables.proofs.Words.{AllByRecursion, Has, IsPermutation, IsPermutation-sym, Row, UsageRecord, all-permutation, all_weaker, and-true, and_parts, column, everything, listing_schema, same_name, same_text, slice_eq-Decides, unsigned_Decides}
 use Rattle.sqlite_rules.proofs.ListLemmas.{all_has}
-use Rattle.sqlite_trees.proofs.ListLemmas.{all-permutation, all_weaker}
-use Rattle.mq_request.specs.Same.{same_text}
-use Rattle.mq_rows.specs.declared.record.UsageRecord.{UsageRecord}
 use Rattle.mq_rows.specs.Found.{is_over, IsFirstOver}
-use Rattle.mq_rows.specs.Tables.{Tables}
 use Rattle.mq_tables.specs.declared.over.DayTotals.{DayTotals}
 use Rattle.mq_tables.specs.Ledger.{HasLedger}
 use Rattle.mq_tables.specs.Lent.{key_params}
 use Rattle.mq_tables.specs.Over.{day_row, is_from, is_past, totals_of, IsTotalsShown, IsFirstShown}
 use Rattle.mq_tables.specs.Records.{usage_fields}
 use Rattle.mq_tables.specs.Tables.{usage_table}
-use Rattle.mq_tables.proofs.Finds.{int_same, shown_of}
+use Rattle.mq_tables.proofs.Finds.{Following, follows, int_same, shown_of}
 use Rattle.mq_tables.proofs.Firsts as firsts
 use Rattle.mq_tables.proofs.governing.Governing.{has_contains}
-use Rattle.mq_tables.proofs.SelectShape.{SelectShape, IsSelect, IsAccepted}
+use Rattle.mq_tables.proofs.SelectShape.{SelectShape, IsSelect}
 use Rattle.mq_tables.proofs.TermShape.{field, against}
-use Rattle.mq_tables.proofs.Selected.{pass, finds_all}
+use Rattle.mq_tables.proofs.Parts.{usage_part}
+use Rattle.mq_tables.proofs.Selected.{Finding, pass, finds_all}
 use Rattle.mq_tables.proofs.TermShape.Relation.{Same, AtLeast}
 use Rattle.mq_tables.proofs.Tests.{text_test, from_test}
 
@@ -50,10 +32,7 @@ days_shape = record {
 
 pub days_select : IsSelect days_text days_shape
 unfolding everything listing_schema same_name
-days_select = record { parsed = refl; statement = refl; timeless = refl; unlisted = refl; known = λ t. refl; short = refl }
-
-days_accepted : IsAccepted days_shape
-days_accepted s t low found = rw (low, found)
+days_select = record { parsed = refl; statement = refl; timeless = refl; unlisted = refl; known = λ t. refl; short = refl; accepted = λ s t low found. rw (low, found) }
 
 -- the row of a record shows its numbers
 totals_are : (row : Row) (d : DayTotals) (v : UsageRecord) → IsTotalsShown row d → row ≡ day_row v → d ≡ totals_of v
@@ -64,13 +43,11 @@ totals_are row d v shown is =
     λ i. record { day = day i; settled = settled i; reserved = reserved i }
 
 module _ (login : List ℕ) (from : ℕ) where
-  decides : (u : UsageRecord) → pass usage_fields days_text days_shape days_select days_accepted refl (key_params login from) u ≡ is_from login from u
+  decides : (u : UsageRecord) → pass usage_fields days_shape (key_params login from) u ≡ is_from login from u
   decides u = rw (text_test u.login login, from_test u.day from) (ap (λ b. same_text login u.login && b) (and-true (nat_le from u.day)))
 
-  pub found_all : (old new : State) (outcome : Result (Vec Row Global) Error) → IfOk outcome (λ rows. Shown days_text (key_params login from) old new rows.items)
-      → IfOk outcome (λ rows. (t : Tables) → HasLedger old.now t → IsPermutation (map day_row (filter (is_from login from) t.usage)) rows.items)
-  found_all old new =
-      finds_all usage_fields days_text days_shape days_select days_accepted refl (key_params login from) old new (is_from login from) decides refl (λ t. t.usage) (HasLedger old.now) (λ t l. (l.at.usage, l.tables.usage, l.holds.usage.same))
+  pub found_all : Finding days_text (key_params login from) HasLedger (λ t rows. IsPermutation (map day_row (filter (is_from login from) t.usage)) rows)
+  found_all = finds_all days_text days_shape days_select usage_part (key_params login from) (is_from login from) decides refl
 
   -- what is said of each row is said of each of the login's days from that one on
   of_rows : (P : DayTotals → Type 0) (all : List UsageRecord) (rows : List Row) → IsPermutation (map day_row (filter (is_from login from) all)) rows
@@ -114,7 +91,5 @@ module _ (login : List ℕ) (from : ℕ) where
             (of_rows (λ d. is_past cap d ≡ true → u.day ≤ d.day) all rows same each),
       )
 
-  pub found_after : (cap : ℕ) (Held : Tables → Type 0) (rows : List Row) (outcome : Result (Option UsageRecord) Error) → ((t : Tables) → Held t → IsPermutation (map day_row (filter (is_from login from) t.usage)) rows)
-      → IfOk outcome (IsFirstShown login cap rows) → IfOk outcome (λ found. (t : Tables) → Held t → IsFirstOver login from cap t.usage found)
-  found_after cap Held rows (Ok found) same first = λ t l. found_first cap t.usage rows found (same t l) first
-  found_after cap Held rows (Err e) same first = tt
+  pub found_after : (cap : ℕ) → Following (λ t rows. IsPermutation (map day_row (filter (is_from login from) t.usage)) rows) (IsFirstShown login cap) (λ t. IsFirstOver login from cap t.usage)
+  found_after cap = follows _ _ _ (λ t. found_first cap t.usage)

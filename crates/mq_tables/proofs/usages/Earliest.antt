@@ -1,10 +1,7 @@
 -- One row more, and the earliest day past a cap so far.
 use Rattle.std.proofs.Common.{◌≡◌, inl, inr, ℕ, ◌≤◌, ◌<◌, nat_le, List, [], ◌∷◌, ◌++◌, Bool, true, false, true≢false, Option, Some, None, arith, refl, sym, ◌∙◌}
+use Rattle.mq_tables.proofs.Words.{Has, Row, all_weaker, leb-false, leb-true}
 use Rattle.std.specs.Prelude.{if◌then◌else◌}
-use Rattle.std.proofs.lemmas.Bool.{leb-true, leb-false}
-use Rattle.sqlite.specs.Order.{Row}
-use Rattle.sqlite_rules.specs.Lists.{Has}
-use Rattle.sqlite_trees.proofs.ListLemmas.{all_weaker}
 use Rattle.mq_tables.specs.declared.over.DayTotals.{DayTotals}
 use Rattle.mq_tables.specs.Over.{is_past, earlier, IsTotalsShown, IsEarliest}
 use Rattle.mq_tables.proofs.Chains.{all_joined}

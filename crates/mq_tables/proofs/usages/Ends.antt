@@ -1,29 +1,16 @@
 -- What the queries for the earliest day and for the latest answer of the records.
-use Rattle.std.proofs.Common.{◌≡◌, ◌≤◌, inl, inr, ℕ, zero, suc, pos, List, [], ◌∷◌, codes, map, true, false, Option, Some, None, Ok, Err, Result, Contains, arith, refl, sym, ap, subst, ◌∙◌}
-use Rattle.std.specs.Prelude.{Vec, IfOk}
-use Rattle.std.specs.List.{AllByRecursion}
-use Rattle.std.specs.declared.alloc.Global.{Global}
-use Rattle.std.specs.Ordering.{is_lt, int_cmp}
-use Rattle.sqlite.specs.declared.error.Error.{Error}
-use Rattle.sqlite.specs.Listing.{listing_schema}
-use Rattle.sqlite.specs.Order.{Row, column}
-use Rattle.sqlite.specs.State.{State, Shown}
-use Rattle.sqlite_schema.specs.Names.{same_name}
-use Rattle.sqlite_tied.specs.Compute.{everything}
-use Rattle.sqlite_rules.specs.Lists.{Has}
-use Rattle.sqlite_trees.proofs.ListLemmas.{all_weaker}
-use Rattle.sqlite_value.proofs.OrderLemmas.{value_cmp-Int}
-use Rattle.mq_rows.specs.declared.record.UsageRecord.{UsageRecord}
+use Rattle.std.proofs.Common.{◌≡◌, ◌≤◌, inl, inr, ℕ, zero, suc, pos, List, [], ◌∷◌, codes, map, true, false, Option, Some, None, Contains, arith, refl, sym, ap, ◌∙◌}
+use Rattle.mq_tables.proofs.Words.{AllByRecursion, Has, Int, Row, UsageRecord, all_weaker, column, everything, int_cmp, is_lt, listing_schema, same_name, value_cmp-Int}
 use Rattle.mq_rows.specs.Days.{IsOldest, IsNewest}
-use Rattle.mq_rows.specs.Tables.{Tables}
-use Rattle.mq_tables.specs.Days.{IsDayShown, IsFirstDay}
+use Rattle.mq_tables.specs.Days.{one_day_row, IsDayShown, IsFirstDay}
 use Rattle.mq_tables.specs.Ledger.{HasLedger}
 use Rattle.mq_tables.specs.Records.{usage_fields}
 use Rattle.mq_tables.specs.Tables.{usage_table}
-use Rattle.mq_tables.proofs.Finds.{int_same}
+use Rattle.mq_tables.proofs.Finds.{Following, int_same, one_after}
 use Rattle.mq_tables.proofs.Firsts as firsts
-use Rattle.mq_tables.proofs.SelectShape.{SelectShape, Sorting, IsSelect, IsAccepted, filter_in, shown_in, order_by}
-use Rattle.mq_tables.proofs.Selected.{pass, shows_first}
+use Rattle.mq_tables.proofs.SelectShape.{SelectShape, Sorting, IsSelect, filter_in, shown_in, order_by}
+use Rattle.mq_tables.proofs.Parts.{usage_part}
+use Rattle.mq_tables.proofs.Selected.{Finding, pass, finds_first}
 use Rattle.mq_tables.proofs.TermShape.{field}
 use Rattle.mq_tables.proofs.governing.Governing.{not_later, then_nothing}
 
@@ -55,17 +42,11 @@ newest_shape = shape_by latest
 
 pub oldest_select : IsSelect oldest_text oldest_shape
 unfolding everything listing_schema same_name
-oldest_select = record { parsed = refl; statement = refl; timeless = refl; unlisted = refl; known = λ t. refl; short = refl }
+oldest_select = record { parsed = refl; statement = refl; timeless = refl; unlisted = refl; known = λ t. refl; short = refl; accepted = λ s t low found. rw (low, found) }
 
 pub newest_select : IsSelect newest_text newest_shape
 unfolding everything listing_schema same_name
-newest_select = record { parsed = refl; statement = refl; timeless = refl; unlisted = refl; known = λ t. refl; short = refl }
-
-oldest_accepted : IsAccepted oldest_shape
-oldest_accepted s t low found = rw (low, found)
-
-newest_accepted : IsAccepted newest_shape
-newest_accepted s t low found = rw (low, found)
+newest_select = record { parsed = refl; statement = refl; timeless = refl; unlisted = refl; known = λ t. refl; short = refl; accepted = λ s t low found. rw (low, found) }
 
 contains_day : (all : List UsageRecord) (u : UsageRecord) → Has all u → Contains (map (λ v. v.day) all) u.day
 contains_day [] u h = absurd h
@@ -85,7 +66,7 @@ IsFirst shape by = firsts.IsFirstRow usage_fields (filter_in shape) (shown_in sh
 abbrev out : SelectShape → Sorting → UsageRecord → Row × Row
 out shape by u = firsts.out usage_fields (filter_in shape) (shown_in shape) [] (order_by None by) u
 
-old_decides : (u : UsageRecord) → pass usage_fields oldest_text oldest_shape oldest_select oldest_accepted refl [] u ≡ true
+old_decides : (u : UsageRecord) → pass usage_fields oldest_shape [] u ≡ true
 old_decides u = refl
 
 old_ordered : (t : ℕ) (u other : UsageRecord) → firsts.before usage_fields (filter_in oldest_shape) (shown_in oldest_shape) [] (order_by None earliest) t (out oldest_shape earliest other) (out oldest_shape earliest u) ≡ is_lt (int_cmp (pos other.day) (pos u.day))
@@ -99,15 +80,12 @@ oldest t all (row ∷ more) (u, it, is) = (
   is,
 )
 
-pub found_oldest : (old new : State) (outcome : Result (Vec Row Global) Error) → IfOk outcome (λ rows. Shown oldest_text [] old new rows.items)
-    → IfOk outcome (λ rows. (t : Tables) → HasLedger old.now t → IsDayShown IsOldest t.usage rows.items)
-found_oldest old new (Ok rows) h = λ t l.
-    oldest l.at.usage t.usage rows.items (shows_first usage_fields oldest_text oldest_shape oldest_select oldest_accepted refl [] old new l.at.usage l.tables.usage rows.items h t.usage earliest refl l.holds.usage)
-found_oldest old new (Err e) h = tt
+pub found_oldest : Finding oldest_text [] HasLedger (λ t. IsDayShown IsOldest t.usage)
+found_oldest = finds_first oldest_text oldest_shape oldest_select usage_part [] earliest refl (IsDayShown IsOldest) oldest
 
 -- ---- the latest
 
-new_decides : (u : UsageRecord) → pass usage_fields newest_text newest_shape newest_select newest_accepted refl [] u ≡ true
+new_decides : (u : UsageRecord) → pass usage_fields newest_shape [] u ≡ true
 new_decides u = refl
 
 new_ordered : (t : ℕ) (u other : UsageRecord) → firsts.before usage_fields (filter_in newest_shape) (shown_in newest_shape) [] (order_by None latest) t (out newest_shape latest other) (out newest_shape latest u) ≡ is_lt (int_cmp (pos u.day) (pos other.day))
@@ -121,25 +99,10 @@ newest t all (row ∷ more) (u, it, is) = (
   is,
 )
 
-pub found_newest : (old new : State) (outcome : Result (Vec Row Global) Error) → IfOk outcome (λ rows. Shown newest_text [] old new rows.items)
-    → IfOk outcome (λ rows. (t : Tables) → HasLedger old.now t → IsDayShown IsNewest t.usage rows.items)
-found_newest old new (Ok rows) h = λ t l.
-    newest l.at.usage t.usage rows.items (shows_first usage_fields newest_text newest_shape newest_select newest_accepted refl [] old new l.at.usage l.tables.usage rows.items h t.usage latest refl l.holds.usage)
-found_newest old new (Err e) h = tt
+pub found_newest : Finding newest_text [] HasLedger (λ t. IsDayShown IsNewest t.usage)
+found_newest = finds_first newest_text newest_shape newest_select usage_part [] latest refl (IsDayShown IsNewest) newest
 
 -- ---- what the first row shows
 
-module _ (IsThat : List UsageRecord → Option ℕ → Type 0) where
-  day_so : (all : List UsageRecord) (rows : List Row) (found : Option ℕ) → IsDayShown IsThat all rows → IsFirstDay rows found → IsThat all found
-  day_so all [] None shown first = shown
-  day_so all (row ∷ more) None shown first = absurd cc
-  day_so all [] (Some d) shown first = absurd (let e = first.2 in cc)
-  day_so all (row ∷ more) (Some d) (m, it, is) (r, rest, whole, shown) =
-      let head : r ≡ row = cc in
-      let same : m ≡ d = int_same (sym (ap (λ x. column x 0) (head ∙ is)) ∙ shown) in
-      subst (λ x. IsThat all (Some x)) same it
-
-  pub day_after : (Held : Tables → Type 0) (rows : List Row) (outcome : Result (Option ℕ) Error) → ((t : Tables) → Held t → IsDayShown IsThat t.usage rows)
-      → IfOk outcome (IsFirstDay rows) → IfOk outcome (λ found. (t : Tables) → Held t → IsThat t.usage found)
-  day_after Held rows (Ok found) shown first = λ t l. day_so t.usage rows found (shown t l) first
-  day_after Held rows (Err e) shown first = tt
+pub day_after : (IsThat : List UsageRecord → Option ℕ → Type 0) → Following (λ t. IsDayShown IsThat t.usage) IsFirstDay (λ t. IsThat t.usage)
+day_after IsThat = one_after IsThat one_day_row (λ row d. column row 0 ≡ Int (pos d)) (λ all row u v shown it is. int_same (sym (ap (λ x. column x 0) is) ∙ shown)) (λ t. t.usage)

@@ -1,33 +1,19 @@
 -- What the query for the next row of a day answers of the records.
-use Rattle.std.proofs.Common.{◌≡◌, ◌==◌, ◌&&◌, ℕ, zero, suc, Ordering, Less, Equal, Greater, List, [], ◌∷◌, codes, true, false, Option, Some, None, Ok, Err, Result, arith, refl, sym, ap, subst, ◌∙◌}
-use Rattle.std.specs.Prelude.{Vec, IfOk}
-use Rattle.std.specs.declared.alloc.Global.{Global}
-use Rattle.sqlite.specs.declared.error.Error.{Error}
-use Rattle.sqlite.specs.Listing.{listing_schema}
-use Rattle.sqlite.specs.Order.{Row, column}
-use Rattle.sqlite.specs.State.{State, Shown}
-use Rattle.sqlite_schema.specs.Names.{same_name}
-use Rattle.sqlite_tied.specs.Compute.{everything}
-use Rattle.std.specs.Ordering.{is_lt, is_ge, nat_cmp, ordering_then, ordering_reverse}
-use Rattle.std.specs.Cmp.{nat_cmp_is, unsigned_Decides}
+use Rattle.std.proofs.Common.{◌≡◌, ◌==◌, ◌&&◌, ℕ, zero, suc, Ordering, Less, Equal, Greater, List, [], ◌∷◌, codes, true, false, Some, None, arith, refl, sym, ap, ◌∙◌}
+use Rattle.mq_tables.proofs.Words.{Row, UsageRecord, all_weaker, and-true, and_parts, column, everything, is_ge, is_lt, listing_schema, nat_cmp, nat_cmp_is, ordering_reverse, ordering_then, same_name, unsigned_Decides, value_cmp-Blob}
 use Rattle.std.specs.Cmp.Lexicographic.{slice_cmp}
-use Rattle.std.proofs.Math.Bool.{and-true}
-use Rattle.std.proofs.lemmas.Bool.{and_parts}
 use Rattle.std.proofs.lemmas.Cmp.{nat_cmp_total}
-use Rattle.sqlite_trees.proofs.ListLemmas.{all_weaker}
-use Rattle.sqlite_value.proofs.OrderLemmas.{value_cmp-Blob}
 use Rattle.mq_ledger.specs.Page.{below}
-use Rattle.mq_rows.specs.declared.record.UsageRecord.{UsageRecord}
 use Rattle.mq_rows.specs.Listing.{is_above, IsNext}
-use Rattle.mq_rows.specs.Tables.{Tables}
 use Rattle.mq_tables.specs.Ledger.{HasLedger}
 use Rattle.mq_tables.specs.Paging.{just_above, from_params, next_row, IsNextShown, IsOfDayShown, IsFirstOfDay}
 use Rattle.mq_tables.specs.Records.{usage_fields}
 use Rattle.mq_tables.specs.Tables.{usage_table}
-use Rattle.mq_tables.proofs.Finds.{int_same, blob_same}
+use Rattle.mq_tables.proofs.Finds.{Following, int_same, blob_same, one_after}
 use Rattle.mq_tables.proofs.Firsts as firsts
-use Rattle.mq_tables.proofs.SelectShape.{SelectShape, Sorting, IsSelect, IsAccepted, filter_in, shown_in, order_by}
-use Rattle.mq_tables.proofs.Selected.{pass, shows_first}
+use Rattle.mq_tables.proofs.SelectShape.{SelectShape, Sorting, IsSelect, filter_in, shown_in, order_by}
+use Rattle.mq_tables.proofs.Parts.{usage_part}
+use Rattle.mq_tables.proofs.Selected.{Finding, pass, finds_first}
 use Rattle.mq_tables.proofs.TermShape.{field, against}
 use Rattle.mq_tables.proofs.TermShape.Relation.{Same, AtLeast}
 use Rattle.mq_tables.proofs.Tests.{nat_test, at_least_test}
@@ -49,10 +35,7 @@ next_shape = record {
 
 pub next_select : IsSelect next_text next_shape
 unfolding everything listing_schema same_name
-next_select = record { parsed = refl; statement = refl; timeless = refl; unlisted = refl; known = λ t. refl; short = refl }
-
-next_accepted : IsAccepted next_shape
-next_accepted s t low found = rw (low, found)
+next_select = record { parsed = refl; statement = refl; timeless = refl; unlisted = refl; known = λ t. refl; short = refl; accepted = λ s t low found. rw (low, found) }
 
 first_differs : (o : Ordering) (a b : Ordering) → is_ge a ≡ is_lt b → is_ge (ordering_then o a) ≡ is_lt (ordering_then (ordering_reverse o) b)
 first_differs Less a b same = refl
@@ -76,7 +59,7 @@ module _ (day : ℕ) (after : List ℕ) where
   abbrev params : Row
   params = from_params day (just_above after)
 
-  decides : (u : UsageRecord) → pass usage_fields next_text next_shape next_select next_accepted refl params u ≡ is_above day after u
+  decides : (u : UsageRecord) → pass usage_fields next_shape params u ≡ is_above day after u
   decides u = rw (nat_test u.day day, at_least_test u.login (just_above after), from_just_above u.login after) (ap (λ b. (day == u.day) && b) (and-true (below after u.login)))
 
   abbrev IsFirst : ℕ → List UsageRecord → List Row → Type 0
@@ -100,11 +83,8 @@ module _ (day : ℕ) (after : List ℕ) where
     is,
   )
 
-  pub found_next : (old new : State) (outcome : Result (Vec Row Global) Error) → IfOk outcome (λ rows. Shown next_text params old new rows.items)
-      → IfOk outcome (λ rows. (t : Tables) → HasLedger old.now t → IsNextShown day after t.usage rows.items)
-  found_next old new (Ok rows) h = λ t l.
-      next l.at.usage t.usage rows.items (shows_first usage_fields next_text next_shape next_select next_accepted refl params old new l.at.usage l.tables.usage rows.items h t.usage by_login refl l.holds.usage)
-  found_next old new (Err e) h = tt
+  pub found_next : Finding next_text params HasLedger (λ t. IsNextShown day after t.usage)
+  found_next = finds_first next_text next_shape next_select usage_part params by_login refl (IsNextShown day after) next
 
   -- the row shows that record, whose day is known
   shown_is : (row : Row) (u v : UsageRecord) → IsOfDayShown day row u → day ≡ v.day → row ≡ next_row v → v ≡ u
@@ -117,16 +97,5 @@ module _ (day : ℕ) (after : List ℕ) where
   of_day : (u : UsageRecord) → is_above day after u ≡ true → day ≡ u.day
   of_day u hit = (unsigned_Decides day u.day).0 (and_parts _ _ hit).0
 
-  next_so : (all : List UsageRecord) (rows : List Row) (found : Option UsageRecord) → IsNextShown day after all rows → IsFirstOfDay day rows found → IsNext day after all found
-  next_so all [] None shown first = shown
-  next_so all (row ∷ more) None shown first = absurd cc
-  next_so all [] (Some u) shown first = absurd (let e = first.2 in cc)
-  next_so all (row ∷ more) (Some u) (v, it, is) (r, rest, whole, shown) =
-      let head : r ≡ row = cc in
-      let same = shown_is r u v shown (of_day v it.1) (head ∙ is) in
-      subst (λ x. IsNext day after all (Some x)) same it
-
-  pub next_after : (Held : Tables → Type 0) (rows : List Row) (outcome : Result (Option UsageRecord) Error) → ((t : Tables) → Held t → IsNextShown day after t.usage rows)
-      → IfOk outcome (IsFirstOfDay day rows) → IfOk outcome (λ found. (t : Tables) → Held t → IsNext day after t.usage found)
-  next_after Held rows (Ok found) shown first = λ t l. next_so t.usage rows found (shown t l) first
-  next_after Held rows (Err e) shown first = tt
+  pub next_after : Following (λ t. IsNextShown day after t.usage) (IsFirstOfDay day) (λ t. IsNext day after t.usage)
+  next_after = one_after (IsNext day after) next_row (IsOfDayShown day) (λ all row u v shown it is. shown_is row u v shown (of_day v it.1) is) (λ t. t.usage)

@@ -1,6 +1,4 @@
-use Rattle.sqlite.specs.Held.{state}
 use Rattle.mq_request.specs.Same.{same_id}
-use Rattle.mq_tables.specs.Ledger.{HasLedger}
 use Rattle.mq_tables.specs.Lent.{bodies_row, IsAnswerShown}
 use Rattle.mq_tables.proofs.Finds.{found_after}
 use Rattle.mq_tables.proofs.answers.Reads.{is_it}
@@ -8,6 +6,5 @@ use Rattle.mq_tables.proofs.answer.find_answer.Goals as goal
 
 pub returns-clause-found : goal.returns-clause-found
 returns-clause-found g c clean =
-    let old = state g.S.Store c.args.tx.now.conn.now in
     let id = c.args.id.now in
-    found_after (λ a. same_id id a.id) bodies_row (IsAnswerShown id) (is_it id) (λ t. t.answers) (HasLedger old.now) _ c.first_answer.result (c.in_ok-rows.ensures.found clean) (rw c.as_slice.ensures.value at c.first_answer.ensures)
+    found_after (λ a. same_id id a.id) bodies_row (IsAnswerShown id) (is_it id) (λ t. t.answers) _ _ c.first_answer.result (c.in_ok-rows.ensures.found clean) (rw c.as_slice.ensures.value at c.first_answer.ensures)

@@ -1,12 +1,9 @@
-use Rattle.std.proofs.Common.{arith}
-use Rattle.sqlite.specs.State.{HasCleanDisk}
-use Rattle.sqlite.specs.Held.{state}
 use Rattle.mq_tables.specs.Tables.{answer_table}
+use Rattle.mq_tables.proofs.Chain.{ran}
 use Rattle.mq_tables.proofs.making.Creating.{create_answer_text, makes_answer}
 use Rattle.mq_tables.proofs.making.Makes.{makes}
 use Rattle.mq_tables.proofs.create.create_answer.Goals as goal
 
 pub returns-clause-made : goal.returns-clause-made
 returns-clause-made g c clean =
-    let before : HasCleanDisk (state g.S.Store c.args.tx.now.conn.now) = omega (arith, c.execute.ensures.survives.clean) in
-    makes create_answer_text answer_table makes_answer (state g.S.Store c.args.tx.now.conn.now) (state g.S.Store c.execute.new.self.conn.now) c.execute.result (c.execute.ensures.runs clean (c.requires.inside before))
+    makes create_answer_text answer_table makes_answer _ _ c.execute.result (ran c.execute.ensures.survives c.requires.inside c.execute.ensures.runs clean)

@@ -1,16 +1,7 @@
-use Rattle.sqlite.specs.Held.{state}
-use Rattle.mq_tables.proofs.answers.Entries.{entry_text, entry_shape, entry_select, key, found_all}
-use Rattle.mq_tables.proofs.Selected.{shown_same, shown_leaves}
+use Rattle.mq_tables.proofs.Selected.{is_read}
+use Rattle.mq_tables.proofs.answers.Reads.{entry_text, entry_shape, entry_select, key, entry_found}
 use Rattle.mq_tables.proofs.entry.rows_at.Goals as goal
 
-pub returns-clause-same : goal.returns-clause-same
-returns-clause-same g c clean =
-    shown_same entry_text entry_shape entry_select (key c.args.n) (state g.S.Store c.args.tx.now.conn.now) (state g.S.Store c.query_all.new.self.conn.now) c.query_all.result (rw c.place_params.ensures at (c.query_all.ensures.ok clean))
-
-pub returns-clause-leaves : goal.returns-clause-leaves
-returns-clause-leaves g c =
-    shown_leaves entry_text entry_shape entry_select (key c.args.n) c.query_all.result c.query_all.ensures.same_reference (rw c.place_params.ensures at c.query_all.ensures.ok) (rw c.place_params.ensures at c.query_all.ensures.err) c.query_all.ensures.survives
-
-pub returns-clause-found : goal.returns-clause-found
-returns-clause-found g c clean =
-    found_all c.args.n (state g.S.Store c.args.tx.now.conn.now) (state g.S.Store c.query_all.new.self.conn.now) c.query_all.result (rw c.place_params.ensures at (c.query_all.ensures.ok clean))
+pub returns : goal.returns
+returns g c =
+    is_read entry_text entry_shape entry_select (key c.args.n) c.query_all.result c.query_all.ensures.same_reference (rw c.place_params.ensures at c.query_all.ensures.ok) (rw c.place_params.ensures at c.query_all.ensures.err) c.query_all.ensures.survives (entry_found c.args.n)

@@ -1,7 +1,5 @@
 use Rattle.std.proofs.Common.{arith}
-use Rattle.sqlite.specs.Held.{state}
-use Rattle.sqlite.specs.State.{HasCleanDisk}
-use Rattle.sqlite.proofs.Callers.{unchanged_then}
+use Rattle.mq_tables.proofs.Words.{HasCleanDisk, state, unchanged_then}
 use Rattle.mq_tables.specs.declared.figures.Table.TheVariants.{Usage, Transactions}
 use Rattle.mq_tables.proofs.audits.Rows.{all_given, left_after, on_err, unchanged}
 use Rattle.mq_tables.proofs.figures.give_rows.Goals as goal

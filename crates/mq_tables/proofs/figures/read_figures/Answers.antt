@@ -1,6 +1,5 @@
 use Rattle.std.proofs.Common.{IsTrue}
-use Rattle.sqlite.specs.Held.{state}
-use Rattle.sqlite.specs.State.{IsUnchanged}
+use Rattle.mq_tables.proofs.Words.{IsUnchanged, state}
 use Rattle.mq_tables.specs.Figures.{AreGiven}
 use Rattle.mq_tables.proofs.audits.Rows.{after_either, first_of, second_of, spares}
 use Rattle.mq_tables.proofs.figures.read_figures.Goals as goal

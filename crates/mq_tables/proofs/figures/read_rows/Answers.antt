@@ -1,7 +1,5 @@
 use Rattle.std.proofs.Common.{◌≡◌, List, [], refl, subst, rules, arith}
-use Rattle.sqlite.specs.Held.{state}
-use Rattle.sqlite.specs.Order.{Row}
-use Rattle.sqlite.specs.State.{HasCleanDisk, Survives, Shown, CommitsShowing, FailsToQuery}
+use Rattle.mq_tables.proofs.Words.{CommitsShowing, FailsToQuery, HasCleanDisk, Row, Shown, Survives, state}
 use Rattle.mq_tables.specs.Figures.{Took, text_of}
 use Rattle.mq_tables.proofs.audits.Rows.{begun, survives, shown_before, on_err, not_asked, took_none}
 use Rattle.mq_tables.proofs.figures.read_rows.Goals as goal

@@ -1,8 +1,6 @@
 use Rattle.std.proofs.Common.{◌≡◌, List, [], false}
+use Rattle.mq_tables.proofs.Words.{HasCleanDisk, IsUnchanged, Row, Survives, state}
 use Rattle.sqlite.specs.Given.{HasGiven}
-use Rattle.sqlite.specs.Held.{state}
-use Rattle.sqlite.specs.Order.{Row}
-use Rattle.sqlite.specs.State.{HasCleanDisk, IsUnchanged, Survives}
 use Rattle.mq_tables.specs.Figures.{Took, text_of}
 use Rattle.mq_tables.proofs.figures.read_rows.Given as goal
 

@@ -1,5 +1,4 @@
-use Rattle.sqlite.proofs.Callers.{unchanged_then}
-use Rattle.sqlite.specs.Held.{state}
+use Rattle.mq_tables.proofs.Words.{state, unchanged_then}
 use Rattle.mq_tables.proofs.Chain.{leaves_both, was_clean}
 use Rattle.mq_tables.proofs.Keyed.{limit_so}
 use Rattle.mq_tables.proofs.find.find_for_limit.Goals as goal

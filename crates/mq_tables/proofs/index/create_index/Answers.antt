@@ -1,19 +1,17 @@
-use Rattle.std.proofs.Common.{[], arith}
-use Rattle.sqlite.specs.State.{HasCleanDisk}
+use Rattle.std.proofs.Common.{[]}
 use Rattle.sqlite.specs.Held.{state}
+use Rattle.mq_tables.proofs.Chain.{ran}
 use Rattle.mq_tables.proofs.making.IndexCreating.{index_text, indexes, has_indexed, index_inside}
 use Rattle.mq_tables.proofs.making.Makes.{was_open}
 use Rattle.mq_tables.proofs.index.create_index.Goals as goal
 
 pub returns-clause-made : goal.returns-clause-made
 returns-clause-made g c clean =
-    let before : HasCleanDisk (state g.S.Store c.args.tx.now.conn.now) = omega (arith, c.execute.ensures.survives.clean) in
-    indexes (state g.S.Store c.args.tx.now.conn.now) (state g.S.Store c.execute.new.self.conn.now) c.execute.result (c.execute.ensures.runs clean (c.requires.inside before))
+    indexes _ _ c.execute.result (ran c.execute.ensures.survives c.requires.inside c.execute.ensures.runs clean)
 
 pub returns-clause-open : goal.returns-clause-open
 returns-clause-open g c clean =
-    let before : HasCleanDisk (state g.S.Store c.args.tx.now.conn.now) = omega (arith, c.execute.ensures.survives.clean) in
-    was_open index_text [] (state g.S.Store c.args.tx.now.conn.now) (state g.S.Store c.execute.new.self.conn.now) c.execute.result (c.execute.ensures.runs clean (c.requires.inside before))
+    was_open index_text [] _ _ c.execute.result (ran c.execute.ensures.survives c.requires.inside c.execute.ensures.runs clean)
 
 pub returns-clause-indexed : goal.returns-clause-indexed
 returns-clause-indexed g c clean = has_indexed (state g.S.Store c.args.tx.now.conn.now) (state g.S.Store c.execute.new.self.conn.now) c.execute.result (returns-clause-made g c clean)

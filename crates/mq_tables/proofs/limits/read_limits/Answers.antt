@@ -1,9 +1,6 @@
-use Rattle.sqlite.specs.Held.{state}
-use Rattle.mq_tables.specs.Figures.{HasFigures}
 use Rattle.mq_tables.proofs.audits.Reads.{limits_of_rows}
 use Rattle.mq_tables.proofs.limits.read_limits.Goals as goal
 
 pub returns-clause-found : goal.returns-clause-found
 returns-clause-found g c clean =
-    let old = state g.S.Store c.args.tx.now.conn.now in
-    limits_of_rows (HasFigures old.now) _ c.limits_in.result (c.in_ok-rows.ensures.found clean) (rw c.as_slice.ensures.value at c.limits_in.ensures)
+    limits_of_rows _ _ c.limits_in.result (c.in_ok-rows.ensures.found clean) (rw c.as_slice.ensures.value at c.limits_in.ensures)

@@ -1,9 +1,6 @@
-use Rattle.sqlite.specs.Held.{state}
-use Rattle.mq_tables.specs.Ledger.{HasLedger}
 use Rattle.mq_tables.proofs.usages.Days.{found_after}
 use Rattle.mq_tables.proofs.over.find_over.Goals as goal
 
 pub returns-clause-found : goal.returns-clause-found
 returns-clause-found g c clean =
-    let old = state g.S.Store c.args.tx.now.conn.now in
-    found_after c.args.login.now c.args.from_day c.args.cap (HasLedger old.now) _ c.first_over.result (c.in_ok-rows.ensures.found clean) (rw c.as_slice.ensures.value at c.first_over.ensures)
+    found_after c.args.login.now c.args.from_day c.args.cap _ _ c.first_over.result (c.in_ok-rows.ensures.found clean) (rw c.as_slice.ensures.value at c.first_over.ensures)

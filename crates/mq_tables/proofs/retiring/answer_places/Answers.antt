@@ -1,17 +1,16 @@
-use Rattle.sqlite.specs.Held.{state}
 use Rattle.mq_tables.specs.Retiring.{runs_params}
-use Rattle.mq_tables.proofs.Selected.{shown_same, shown_leaves}
-use Rattle.mq_tables.proofs.answers.Places.{places_text, places_shape, places_select, found_all}
+use Rattle.mq_tables.proofs.Selected.{is_read}
+use Rattle.mq_tables.proofs.answers.Reads.{places_text, places_shape, places_select, places_found}
 use Rattle.mq_tables.proofs.retiring.answer_places.Goals as goal
 
 pub returns-clause-same : goal.returns-clause-same
-returns-clause-same g c clean =
-    shown_same places_text places_shape places_select (runs_params c.args.runs.now) (state g.S.Store c.args.tx.now.conn.now) (state g.S.Store c.query_all.new.self.conn.now) c.query_all.result (rw c.runs_params.ensures at (c.query_all.ensures.ok clean))
+returns-clause-same g c =
+    (is_read places_text places_shape places_select (runs_params c.args.runs.now) {store = g.S.Store} {old = c.args.tx.now} {new = c.query_all.new.self} c.query_all.result c.query_all.ensures.same_reference (rw c.runs_params.ensures at c.query_all.ensures.ok) (rw c.runs_params.ensures at c.query_all.ensures.err) c.query_all.ensures.survives (places_found c.args.runs.now)).same
+
+pub returns-clause-found : goal.returns-clause-found
+returns-clause-found g c =
+    (is_read places_text places_shape places_select (runs_params c.args.runs.now) {store = g.S.Store} {old = c.args.tx.now} {new = c.query_all.new.self} c.query_all.result c.query_all.ensures.same_reference (rw c.runs_params.ensures at c.query_all.ensures.ok) (rw c.runs_params.ensures at c.query_all.ensures.err) c.query_all.ensures.survives (places_found c.args.runs.now)).found
 
 pub returns-clause-leaves : goal.returns-clause-leaves
 returns-clause-leaves g c =
-    shown_leaves places_text places_shape places_select (runs_params c.args.runs.now) c.query_all.result c.query_all.ensures.same_reference (rw c.runs_params.ensures at c.query_all.ensures.ok) (rw c.runs_params.ensures at c.query_all.ensures.err) c.query_all.ensures.survives
-
-pub returns-clause-found : goal.returns-clause-found
-returns-clause-found g c clean =
-    found_all c.args.runs.now (state g.S.Store c.args.tx.now.conn.now) (state g.S.Store c.query_all.new.self.conn.now) c.query_all.result (rw c.runs_params.ensures at (c.query_all.ensures.ok clean))
+    (is_read places_text places_shape places_select (runs_params c.args.runs.now) {store = g.S.Store} {old = c.args.tx.now} {new = c.query_all.new.self} c.query_all.result c.query_all.ensures.same_reference (rw c.runs_params.ensures at c.query_all.ensures.ok) (rw c.runs_params.ensures at c.query_all.ensures.err) c.query_all.ensures.survives (places_found c.args.runs.now)).leaves

@@ -1,17 +1,8 @@
-use Rattle.sqlite.specs.Held.{state}
 use Rattle.mq_tables.specs.Retiring.{open_params}
-use Rattle.mq_tables.proofs.Selected.{shown_same, shown_leaves}
+use Rattle.mq_tables.proofs.Selected.{is_read}
 use Rattle.mq_tables.proofs.transactions.Open.{open_text, open_shape, open_select, found_all}
 use Rattle.mq_tables.proofs.retiring.open_rows.Goals as goal
 
-pub returns-clause-same : goal.returns-clause-same
-returns-clause-same g c clean =
-    shown_same open_text open_shape open_select (open_params c.args.runs.now) (state g.S.Store c.args.tx.now.conn.now) (state g.S.Store c.query_all.new.self.conn.now) c.query_all.result (rw c.open_params.ensures at (c.query_all.ensures.ok clean))
-
-pub returns-clause-leaves : goal.returns-clause-leaves
-returns-clause-leaves g c =
-    shown_leaves open_text open_shape open_select (open_params c.args.runs.now) c.query_all.result c.query_all.ensures.same_reference (rw c.open_params.ensures at c.query_all.ensures.ok) (rw c.open_params.ensures at c.query_all.ensures.err) c.query_all.ensures.survives
-
-pub returns-clause-found : goal.returns-clause-found
-returns-clause-found g c clean =
-    found_all c.args.runs.now (state g.S.Store c.args.tx.now.conn.now) (state g.S.Store c.query_all.new.self.conn.now) c.query_all.result (rw c.open_params.ensures at (c.query_all.ensures.ok clean))
+pub returns : goal.returns
+returns g c =
+    is_read open_text open_shape open_select (open_params c.args.runs.now) c.query_all.result c.query_all.ensures.same_reference (rw c.open_params.ensures at c.query_all.ensures.ok) (rw c.open_params.ensures at c.query_all.ensures.err) c.query_all.ensures.survives (found_all c.args.runs.now)

@@ -1,15 +1,7 @@
-use Rattle.std.proofs.Common.{arith}
-use Rattle.sqlite.specs.State.{HasCleanDisk}
-use Rattle.sqlite.specs.Held.{state}
-use Rattle.mq_tables.proofs.transactions.Writes.{inserts_trans}
+use Rattle.mq_tables.proofs.Chain.{is_write}
+use Rattle.mq_tables.proofs.Writes.{inserts_trans}
 use Rattle.mq_tables.proofs.transaction.insert_transaction.Goals as goal
 
-pub returns-clause-inside : goal.returns-clause-inside
-returns-clause-inside g c clean =
-    let before : HasCleanDisk (state g.S.Store c.args.tx.now.conn.now) = omega (arith, c.execute.ensures.survives.clean) in
-    (inserts_trans (state g.S.Store c.args.tx.now.conn.now) (state g.S.Store c.execute.new.self.conn.now) c.args.transaction.now c.execute.result (rw c.transaction_params.ensures at (c.execute.ensures.runs clean (c.requires.inside before)))).0
-
-pub returns-clause-written : goal.returns-clause-written
-returns-clause-written g c clean =
-    let before : HasCleanDisk (state g.S.Store c.args.tx.now.conn.now) = omega (arith, c.execute.ensures.survives.clean) in
-    (inserts_trans (state g.S.Store c.args.tx.now.conn.now) (state g.S.Store c.execute.new.self.conn.now) c.args.transaction.now c.execute.result (rw c.transaction_params.ensures at (c.execute.ensures.runs clean (c.requires.inside before)))).1
+pub returns : goal.returns
+returns g c =
+    is_write _ _ c.execute.ensures.same_reference c.execute.ensures.survives c.requires.inside (rw c.transaction_params.ensures at c.execute.ensures.runs) (inserts_trans c.args.transaction.now c.execute.result)

@@ -14,7 +14,7 @@ returns-clause-migrated g c clean =
     let two = was_clean c.set_version.ensures.leaves clean in
     let one = was_clean c.create_retired.ensures.leaves two in
     migrates c.args.has_rule_table (state g.S.Store c.args.tx.now.conn.now) (state g.S.Store c.add_rule.new.tx.conn.now) (state g.S.Store c.create_retired.new.tx.conn.now) (state g.S.Store c.set_version.new.tx.conn.now)
-    c.set_version.result (c.in_ok-add_rule.ensures.added one) (c.in_ok-create_retired.ensures.made two) (c.set_version.ensures.set clean)
+    c.set_version.result (c.in_ok-add_rule.ensures.added one) (c.in_ok-create_retired.ensures.made two) (c.set_version.ensures.written clean)
 
 pub returns-clause-open : goal.returns-clause-open
 returns-clause-open g c clean =
