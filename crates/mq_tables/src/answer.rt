@@ -4,8 +4,7 @@ ghost use Rattle.std.specs.List.Sorted.{IsPermutation};
 ghost use Rattle.std.specs.Prelude.{◌≡◌, ◌<◌, ◌^◌, map, filter, IfOk};
 ghost use Rattle.sqlite.specs.Values.{bound};
 ghost use Rattle.mq_request.specs.Same.{same_id};
-ghost use Rattle.mq_tables.specs.Inside.{IsInside, ChangesNothing, Finds, Reads, Leads, StaysInside, OfLedger};
-ghost use Rattle.mq_tables.specs.Inside.{LeavesCommit};
+ghost use Rattle.mq_tables.specs.Inside.{IsInside, Reads, Leads, StaysInside, OfLedger, LeavesCommit};
 ghost use Rattle.mq_tables.specs.Lent.{answer_params, bodies_row, id_key, IsFirstAnswer};
 ghost use Rattle.mq_tables.specs.Records.{IsOneOf};
 ghost use Rattle.mq_tables.specs.Updates.{Appends};
@@ -89,10 +88,8 @@ pub fn find_answer<S: Alter>(
     id: &Id,
 ) -> Result<Option<AnswerRecord>, Error>
     requires { id.now.run < 2 ^ 63 }
-    ensures same { ChangesNothing S.Store tx.old tx.new result }
-    ensures found { Finds S.Store tx.old tx.new result (OfLedger (λ t found.
+    ensures { Reads S.Store tx.old tx.new result (OfLedger (λ t found.
         IsOneOf (λ a. same_id id.now a.id) t.answers found)) }
-    ensures leaves { LeavesCommit S.Store tx.old tx.new }
 {
     let rows = answer_rows(tx, id)?;
     first_answer(rows.as_slice(), id)

@@ -7,8 +7,7 @@ ghost use Rattle.mq_rows.specs.declared.plan.Write.TheVariants.{Insert, Update};
 ghost use Rattle.mq_rows.specs.Found.{IsGoverning};
 ghost use Rattle.mq_rows.specs.Rows.{is_limit};
 ghost use Rattle.mq_tables.specs.Governing.{limit_row, IsGoverningShown, IsFirstLimit};
-ghost use Rattle.mq_tables.specs.Inside.{IsInside, ChangesNothing, Finds, Reads, Leads, StaysInside, Writes};
-ghost use Rattle.mq_tables.specs.Inside.{OfLedger, LeavesCommit};
+ghost use Rattle.mq_tables.specs.Inside.{IsInside, Reads, Leads, StaysInside, Writes, OfLedger, LeavesCommit};
 ghost use Rattle.mq_tables.specs.Lent.{cap_params};
 ghost use Rattle.mq_tables.specs.Records.{limit_fields, IsOneOf};
 ghost use Rattle.mq_tables.specs.Updates.{WritesLimit};
@@ -65,9 +64,7 @@ pub fn write_limit<S: Alter>(
     write: &Write<LimitRecord>,
 ) -> Result<usize, Error>
     requires inside { IsInside S.Store tx.old }
-    ensures inside { StaysInside S.Store tx.old tx.new result }
-    ensures written { Leads S.Store tx.old tx.new result (WritesLimit write.now) }
-    ensures leaves { LeavesCommit S.Store tx.old tx.new }
+    ensures { Writes S.Store tx.old tx.new result (WritesLimit write.now) }
 {
     match write {
         Write::Keep => Ok(0),
@@ -124,10 +121,8 @@ pub fn find_limit<S: Alter>(
     login: &Login,
     day: u32,
 ) -> Result<Option<LimitRecord>, Error>
-    ensures same { ChangesNothing S.Store tx.old tx.new result }
-    ensures found { Finds S.Store tx.old tx.new result (OfLedger (λ t found.
+    ensures { Reads S.Store tx.old tx.new result (OfLedger (λ t found.
         IsOneOf (is_limit login.now day) t.limits found)) }
-    ensures leaves { LeavesCommit S.Store tx.old tx.new }
 {
     let rows = limit_rows(tx, login, day)?;
     first_limit(rows.as_slice(), login)
@@ -140,10 +135,8 @@ pub fn find_governing<S: Alter>(
     login: &Login,
     day: u32,
 ) -> Result<Option<LimitRecord>, Error>
-    ensures same { ChangesNothing S.Store tx.old tx.new result }
-    ensures found { Finds S.Store tx.old tx.new result (OfLedger (λ t found.
+    ensures { Reads S.Store tx.old tx.new result (OfLedger (λ t found.
         IsGoverning login.now day t.limits found)) }
-    ensures leaves { LeavesCommit S.Store tx.old tx.new }
 {
     let rows = latest_rows(tx, login, day)?;
     first_limit(rows.as_slice(), login)

@@ -3,7 +3,7 @@
 ghost use Rattle.std.specs.Prelude.{IfOk};
 ghost use Rattle.mq_rows.specs.Days.{IsOldest, IsNewest};
 ghost use Rattle.mq_tables.specs.Days.{IsDayShown, IsFirstDay};
-ghost use Rattle.mq_tables.specs.Inside.{ChangesNothing, Finds, Reads, OfLedger, LeavesCommit};
+ghost use Rattle.mq_tables.specs.Inside.{Reads, OfLedger};
 
 use sqlite::{Alter, Error, Row, Transaction};
 
@@ -31,9 +31,7 @@ fn first_day(rows: &[Row]) -> Result<Option<u32>, Error>
 
 /// The earliest day of which there is a row; `None` where there is no row.
 pub fn oldest_day<S: Alter>(tx: &mut Transaction<'_, S>) -> Result<Option<u32>, Error>
-    ensures same { ChangesNothing S.Store tx.old tx.new result }
-    ensures found { Finds S.Store tx.old tx.new result (OfLedger (λ t found. IsOldest t.usage found)) }
-    ensures leaves { LeavesCommit S.Store tx.old tx.new }
+    ensures { Reads S.Store tx.old tx.new result (OfLedger (λ t found. IsOldest t.usage found)) }
 {
     let rows = oldest_rows(tx)?;
     first_day(rows.as_slice())
@@ -41,9 +39,7 @@ pub fn oldest_day<S: Alter>(tx: &mut Transaction<'_, S>) -> Result<Option<u32>, 
 
 /// The latest day of which there is a row; `None` where there is no row.
 pub fn newest_day<S: Alter>(tx: &mut Transaction<'_, S>) -> Result<Option<u32>, Error>
-    ensures same { ChangesNothing S.Store tx.old tx.new result }
-    ensures found { Finds S.Store tx.old tx.new result (OfLedger (λ t found. IsNewest t.usage found)) }
-    ensures leaves { LeavesCommit S.Store tx.old tx.new }
+    ensures { Reads S.Store tx.old tx.new result (OfLedger (λ t found. IsNewest t.usage found)) }
 {
     let rows = newest_rows(tx)?;
     first_day(rows.as_slice())

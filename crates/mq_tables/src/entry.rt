@@ -4,7 +4,7 @@ ghost use Rattle.std.specs.List.Sorted.{IsPermutation};
 ghost use Rattle.std.specs.Prelude.{◌≡◌, ◌<◌, ◌^◌, ◌==◌, pos, [], ◌∷◌, map, filter, IfOk};
 ghost use Rattle.sqlite.specs.Values.{bound};
 ghost use Rattle.sqlite.specs.declared.types.Value.TheVariants.{Int};
-ghost use Rattle.mq_tables.specs.Inside.{ChangesNothing, Finds, Reads, OfLedger, LeavesCommit};
+ghost use Rattle.mq_tables.specs.Inside.{Reads, OfLedger};
 ghost use Rattle.mq_tables.specs.Lent.{bodies_row};
 ghost use Rattle.mq_tables.specs.Entries.{IsFirstBodies, IsAnswerAt};
 
@@ -54,9 +54,7 @@ fn first_bodies(rows: &[Row]) -> Result<Option<Bodies>, Error>
 /// is the store's, or that of a row whose bodies aren't bytes.
 pub fn read_answer<S: Alter>(tx: &mut Transaction<'_, S>, n: u64) -> Result<Option<Bodies>, Error>
     requires { n < 2 ^ 63 }
-    ensures same { ChangesNothing S.Store tx.old tx.new result }
-    ensures found { Finds S.Store tx.old tx.new result (OfLedger (λ t found. IsAnswerAt n t.answers found)) }
-    ensures leaves { LeavesCommit S.Store tx.old tx.new }
+    ensures { Reads S.Store tx.old tx.new result (OfLedger (λ t found. IsAnswerAt n t.answers found)) }
 {
     let rows = rows_at(tx, n)?;
     first_bodies(rows.as_slice())

@@ -166,9 +166,7 @@ pub fn write_floor<S: Alter>(
 ) -> Result<usize, Error>
     requires in_range { IsStorableRun write.now }
     requires inside { IsInside S.Store tx.old }
-    ensures inside { StaysInside S.Store tx.old tx.new result }
-    ensures written { Leads S.Store tx.old tx.new result (WritesFloor write.now) }
-    ensures leaves { LeavesCommit S.Store tx.old tx.new }
+    ensures { Writes S.Store tx.old tx.new result (WritesFloor write.now) }
 {
     match write {
         Write::Keep => Ok(0),

@@ -4,7 +4,7 @@ ghost use Rattle.std.specs.List.Sorted.{IsPermutation};
 ghost use Rattle.std.specs.Prelude.{◌≡◌, map, IfOk};
 ghost use Rattle.mq_rows.specs.Audit.{Figures};
 ghost use Rattle.mq_tables.specs.Figures.{HasFigures, limit_cells, limit_columns};
-ghost use Rattle.mq_tables.specs.Inside.{ChangesNothing, Finds, Reads, LeavesCommit};
+ghost use Rattle.mq_tables.specs.Inside.{Reads};
 
 use crate::figures::{Table, limit_of};
 use mq_rows::LimitFigures;
@@ -33,10 +33,8 @@ pub fn read_limits<S: Alter>(
     alloc: Global,
     tx: &mut Transaction<'_, S>,
 ) -> Result<Vec<LimitFigures>, Error>
-    ensures same { ChangesNothing S.Store tx.old tx.new result }
-    ensures found { Finds S.Store tx.old tx.new result (λ db read. (f : Figures) → HasFigures db f
+    ensures { Reads S.Store tx.old tx.new result (λ db read. (f : Figures) → HasFigures db f
         → IsPermutation f.limits read.items) }
-    ensures leaves { LeavesCommit S.Store tx.old tx.new }
 {
     let rows = limits_rows(tx)?;
     limits_in(alloc, rows.as_slice())

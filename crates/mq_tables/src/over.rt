@@ -3,7 +3,7 @@
 ghost use Rattle.std.specs.List.Sorted.{IsPermutation};
 ghost use Rattle.std.specs.Prelude.{◌≡◌, map, filter, IfOk};
 ghost use Rattle.mq_rows.specs.Found.{IsFirstOver};
-ghost use Rattle.mq_tables.specs.Inside.{ChangesNothing, Finds, Reads, OfLedger, LeavesCommit};
+ghost use Rattle.mq_tables.specs.Inside.{Reads, OfLedger};
 ghost use Rattle.mq_tables.specs.Over.{day_row, is_from, is_past, earlier, IsTotalsShown, IsEarliest, IsFirstShown};
 
 use crate::usage::key_params;
@@ -99,10 +99,8 @@ pub fn find_over<S: Alter>(
     from_day: u32,
     cap: u32,
 ) -> Result<Option<UsageRecord>, Error>
-    ensures same { ChangesNothing S.Store tx.old tx.new result }
-    ensures found { Finds S.Store tx.old tx.new result (OfLedger (λ t found.
+    ensures { Reads S.Store tx.old tx.new result (OfLedger (λ t found.
         IsFirstOver login.now from_day cap t.usage found)) }
-    ensures leaves { LeavesCommit S.Store tx.old tx.new }
 {
     let rows = rows_from(tx, login, from_day)?;
     first_over(rows.as_slice(), login, cap)

@@ -3,7 +3,7 @@
 ghost use Rattle.std.specs.Prelude.{◌≡◌, IfOk};
 ghost use Rattle.sqlite.specs.Values.{bound};
 ghost use Rattle.mq_rows.specs.Listing.{IsNext};
-ghost use Rattle.mq_tables.specs.Inside.{ChangesNothing, Finds, Reads, OfLedger, LeavesCommit};
+ghost use Rattle.mq_tables.specs.Inside.{Reads, OfLedger};
 ghost use Rattle.mq_tables.specs.Paging.{just_above, from_params, IsNextShown, IsFirstOfDay};
 
 use mq_request::Login;
@@ -65,9 +65,7 @@ pub fn next_usage<S: Alter>(
     day: u32,
     after: &Login,
 ) -> Result<Option<UsageRecord>, Error>
-    ensures same { ChangesNothing S.Store tx.old tx.new result }
-    ensures found { Finds S.Store tx.old tx.new result (OfLedger (λ t found. IsNext day after.now t.usage found)) }
-    ensures leaves { LeavesCommit S.Store tx.old tx.new }
+    ensures { Reads S.Store tx.old tx.new result (OfLedger (λ t found. IsNext day after.now t.usage found)) }
 {
     let rows = next_rows(tx, day, after)?;
     first_of_day(rows.as_slice(), day)

@@ -104,10 +104,8 @@ fn runs_params(runs: &Runs) -> [ValueRef<'_>; 3]
 /// The places of the answers of these runs, in any order: one number a row.
 pub fn answer_places<S: Alter>(tx: &mut Transaction<'_, S>, runs: &Runs) -> Result<Vec<Row>, Error>
     requires in_range { (runs.now.from < 2 ^ 63) × (runs.now.to < 2 ^ 63) }
-    ensures same { ChangesNothing S.Store tx.old tx.new result }
-    ensures found { Finds S.Store tx.old tx.new result (OfLedger (λ t rows.
+    ensures { Reads S.Store tx.old tx.new result (OfLedger (λ t rows.
         IsPermutation (map place_row (filter (λ a. is_among runs.now a.id.host a.id.run) t.answers)) rows.items)) }
-    ensures leaves { LeavesCommit S.Store tx.old tx.new }
 {
     tx.query_all(
         "SELECT n FROM answer WHERE host = ?1 AND run >= ?2 AND run <= ?3",

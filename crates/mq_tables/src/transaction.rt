@@ -160,9 +160,7 @@ pub fn write_transaction<S: Alter>(
 ) -> Result<usize, Error>
     requires storable { AreStorable write.now }
     requires inside { IsInside S.Store tx.old }
-    ensures inside { StaysInside S.Store tx.old tx.new result }
-    ensures written { Leads S.Store tx.old tx.new result (WritesTransaction write.now) }
-    ensures leaves { LeavesCommit S.Store tx.old tx.new }
+    ensures { Writes S.Store tx.old tx.new result (WritesTransaction write.now) }
 {
     match write {
         Write::Keep => Ok(0),

@@ -5,8 +5,7 @@ ghost use Rattle.std.specs.Prelude.{◌≡◌, map, filter, IfOk};
 ghost use Rattle.sqlite.specs.Values.{bound};
 ghost use Rattle.mq_rows.specs.Rows.{is_usage};
 ghost use Rattle.mq_rows.specs.declared.plan.Write.TheVariants.{Insert, Update};
-ghost use Rattle.mq_tables.specs.Inside.{IsInside, ChangesNothing, Finds, Reads, Leads, StaysInside, Writes};
-ghost use Rattle.mq_tables.specs.Inside.{OfLedger, LeavesCommit};
+ghost use Rattle.mq_tables.specs.Inside.{IsInside, Reads, Leads, StaysInside, Writes, OfLedger, LeavesCommit};
 ghost use Rattle.mq_tables.specs.Lent.{key_params, totals_params, totals_row, IsFirst};
 ghost use Rattle.mq_tables.specs.Records.{IsOneOf, usage_fields};
 ghost use Rattle.mq_tables.specs.Updates.{WritesUsage};
@@ -60,10 +59,8 @@ pub fn find_usage<S: Alter>(
     login: &Login,
     day: u32,
 ) -> Result<Option<UsageRecord>, Error>
-    ensures same { ChangesNothing S.Store tx.old tx.new result }
-    ensures found { Finds S.Store tx.old tx.new result (OfLedger (λ t found.
+    ensures { Reads S.Store tx.old tx.new result (OfLedger (λ t found.
         IsOneOf (is_usage login.now day) t.usage found)) }
-    ensures leaves { LeavesCommit S.Store tx.old tx.new }
 {
     let rows = usage_rows(tx, login, day)?;
     first_usage(rows.as_slice(), login, day)
@@ -117,9 +114,7 @@ pub fn write_usage<S: Alter>(
     write: &Write<UsageRecord>,
 ) -> Result<usize, Error>
     requires inside { IsInside S.Store tx.old }
-    ensures inside { StaysInside S.Store tx.old tx.new result }
-    ensures written { Leads S.Store tx.old tx.new result (WritesUsage write.now) }
-    ensures leaves { LeavesCommit S.Store tx.old tx.new }
+    ensures { Writes S.Store tx.old tx.new result (WritesUsage write.now) }
 {
     match write {
         Write::Keep => Ok(0),

@@ -1,6 +1,6 @@
 -- CREATE INDEX over any schema that has our table at some place.
-use Rattle.std.proofs.Common.{◌≡◌, ℕ, List, [], ◌∷◌, Bool, true, false, not, Option, Some, None, is_some, Ok, Err, Result, OnOk, IsTrue, true≢false, codes, refl, sym, ap, subst, ◌∙◌}
-use Rattle.mq_tables.proofs.Words.{Checked, Compiled, CreateIndex, Database, Error, IsPlain, Nothing, Parsed, Schema, Table, Tally, and_then, command, command_of, compiled, create_index, creates, everything, first, if_select, index_named, is_reserved, listing_schema, meaning, planned, reads_listing, returning, runs_as, same_name, statement_of, table_named, timed, understood, view_named, with_command}
+use Rattle.std.proofs.Common.{◌≡◌, ℕ, List, [], Bool, true, false, not, Some, None, is_some, Ok, Err, Result, OnOk, IsTrue, true≢false, codes, refl, sym, ap, subst, ◌∙◌}
+use Rattle.mq_tables.proofs.Words.{Checked, Compiled, CreateIndex, Database, Error, IsPlain, Nothing, Parsed, Schema, Table, Tally, and_then, command, command_of, compiled, create_index, creates, everything, first, if_select, index_named, is_reserved, listing_schema, meaning, planned, reads_listing, returning, runs_as, statement_of, table_named, timed, understood, view_named, with_command}
 use Rattle.std.specs.Prelude.{if◌then◌else◌, slice_range, slice_get}
 use Rattle.std.specs.Option.{option_or}
 use Rattle.sqlite_ast.specs.declared.Statement.TheVariants as written

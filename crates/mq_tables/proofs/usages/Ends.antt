@@ -1,5 +1,5 @@
 -- What the queries for the earliest day and for the latest answer of the records.
-use Rattle.std.proofs.Common.{◌≡◌, ◌≤◌, inl, inr, ℕ, zero, suc, pos, List, [], ◌∷◌, codes, map, true, false, Option, Some, None, Contains, arith, refl, sym, ap, ◌∙◌}
+use Rattle.std.proofs.Common.{◌≡◌, ◌≤◌, inl, inr, ℕ, suc, pos, List, [], ◌∷◌, codes, map, true, false, Option, Some, None, Contains, arith, refl, sym, ap, ◌∙◌}
 use Rattle.mq_tables.proofs.Words.{AllByRecursion, Has, Int, Row, UsageRecord, all_weaker, column, everything, int_cmp, is_lt, listing_schema, same_name, value_cmp-Int}
 use Rattle.mq_rows.specs.Days.{IsOldest, IsNewest}
 use Rattle.mq_tables.specs.Days.{one_day_row, IsDayShown, IsFirstDay}

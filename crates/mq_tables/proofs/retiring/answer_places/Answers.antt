@@ -3,14 +3,6 @@ use Rattle.mq_tables.proofs.Selected.{is_read}
 use Rattle.mq_tables.proofs.answers.Reads.{places_text, places_shape, places_select, places_found}
 use Rattle.mq_tables.proofs.retiring.answer_places.Goals as goal
 
-pub returns-clause-same : goal.returns-clause-same
-returns-clause-same g c =
-    (is_read places_text places_shape places_select (runs_params c.args.runs.now) {store = g.S.Store} {old = c.args.tx.now} {new = c.query_all.new.self} c.query_all.result c.query_all.ensures.same_reference (rw c.runs_params.ensures at c.query_all.ensures.ok) (rw c.runs_params.ensures at c.query_all.ensures.err) c.query_all.ensures.survives (places_found c.args.runs.now)).same
-
-pub returns-clause-found : goal.returns-clause-found
-returns-clause-found g c =
-    (is_read places_text places_shape places_select (runs_params c.args.runs.now) {store = g.S.Store} {old = c.args.tx.now} {new = c.query_all.new.self} c.query_all.result c.query_all.ensures.same_reference (rw c.runs_params.ensures at c.query_all.ensures.ok) (rw c.runs_params.ensures at c.query_all.ensures.err) c.query_all.ensures.survives (places_found c.args.runs.now)).found
-
-pub returns-clause-leaves : goal.returns-clause-leaves
-returns-clause-leaves g c =
-    (is_read places_text places_shape places_select (runs_params c.args.runs.now) {store = g.S.Store} {old = c.args.tx.now} {new = c.query_all.new.self} c.query_all.result c.query_all.ensures.same_reference (rw c.runs_params.ensures at c.query_all.ensures.ok) (rw c.runs_params.ensures at c.query_all.ensures.err) c.query_all.ensures.survives (places_found c.args.runs.now)).leaves
+pub returns : goal.returns
+returns g c =
+    is_read places_text places_shape places_select (runs_params c.args.runs.now) c.query_all.result c.query_all.ensures.same_reference (rw c.runs_params.ensures at c.query_all.ensures.ok) (rw c.runs_params.ensures at c.query_all.ensures.err) c.query_all.ensures.survives (places_found c.args.runs.now)

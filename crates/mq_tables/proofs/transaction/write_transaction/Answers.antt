@@ -1,8 +1,7 @@
-use Rattle.std.proofs.Common.{OnOk, sym, subst}
-use Rattle.sqlite.specs.Held.{state}
+use Rattle.std.proofs.Common.{sym, subst}
+use Rattle.mq_tables.specs.Inside.{Writes}
 use Rattle.mq_tables.specs.Updates.{WritesTransaction}
 use Rattle.mq_tables.proofs.transaction.write_transaction.Goals as goal
 
-pub returns-in-Update-clause-written : goal.returns-in-Update-clause-written
-returns-in-Update-clause-written g c clean =
-    subst (λ write. OnOk c.update_transaction.result (WritesTransaction write (state g.S.Store c.args.tx.now.conn.now) (state g.S.Store c.update_transaction.new.tx.conn.now))) (sym c.in-Update.is) (c.update_transaction.ensures.written clean)
+pub returns-in-Update : goal.returns-in-Update
+returns-in-Update g c = subst (λ write. Writes g.S.Store c.args.tx.now c.update_transaction.new.tx c.update_transaction.result (WritesTransaction write)) (sym c.in-Update.is) c.update_transaction.ensures
