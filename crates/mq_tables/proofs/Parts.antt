@@ -9,6 +9,7 @@ use Rattle.mq_tables.specs.Tables.{trans_table, usage_table, ceiling_table, reti
 use Rattle.mq_tables.specs.Updates.{KeepsOthers, Leaves}
 use Rattle.mq_tables.proofs.Changes.{is_since, transactions_changed, usage_changed, limits_changed, floors_changed}
 
+-- one of them
 pub record Part (R : Type 0) (table : Table) : Type 1 where
   pub keyless : table.key ≡ None
   pub fields : R → Row

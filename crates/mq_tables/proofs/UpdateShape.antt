@@ -162,7 +162,7 @@ module _ {R : Type 0} (fields : R → Row) (same : R → R → Bool) (set : R �
 -- ---- a record of a table whose rows are records in any order
 
 module _ {R : Type 0} (same : R → R → Bool) (set : R → R → R) (params : R → Row) (text : List ℕ) (shape : UpdateShape) (it : IsUpdateOf text shape) (part : Part R shape.table) where
-  -- the record of the key passes alone
+  -- a record passes where it has the key
   abbrev pub Decides : Type 0
   Decides = (r was : R) → test part.fields same set params text shape it part.keyless r (part.fields was) ≡ same r was
 
