@@ -39,6 +39,8 @@ SOURCES = ["crates/*/src/**/*.rt"]
 DEFINITIONS = ["crates/*/specs/**/*.antt", "crates/*/proofs/**/*.antt"]
 # The roots of tests say which libraries they call, and crates.txt has them.
 OF_TESTS = ("mq_ends_tests", "mq_store_tests")
+# The crate that only proofs stand on, which front pages needn't name.
+OF_PROOFS = "mq_lemmas"
 
 # Names of code that were given up: what is found, and what is said instead. Of sources and definitions the code alone is read, without
 # comments and texts: a ledger's file has a table `ceiling` and a column `seq`.
@@ -68,7 +70,7 @@ VERSION = "crates/mailquota/src/version.rt"
 WORDS = 7_000
 
 TOKEN = re.compile(r"""//[^\n]* | "(?:\\.|[^"\\])*" | '(?:\\.[^']*|[^'\\])' | [^/"']+ | .""", re.VERBOSE | re.DOTALL)
-PLACE = re.compile(r"`([a-z_]+/src/[a-z_/]+\.rt)`")
+PLACE = re.compile(r"`([a-z_]+/(?:src/[a-z_/]+\.rt|proofs/\w+\.antt))`")
 
 
 def read(tree, file):
@@ -121,8 +123,8 @@ def pages(tree):
         if crate not in OF_TESTS:
             stands = re.search(r"It stands on (.*?)(?:\.\s|\.$|;)", " ".join(" ".join(prose).split()))
             named = {it for it in re.findall(r"`(\w+)`", stands[1])} if stands else set()
-            if not stands or named & {*crates_of(tree)} != {*below}:
-                wrong.append(f"it doesn't say that it stands on {', '.join(below) or 'no crate of ours'}")
+            if not stands or named & {*crates_of(tree)} != {*below} - {OF_PROOFS}:
+                wrong.append(f"it doesn't say that it stands on {', '.join(it for it in below if it != OF_PROOFS) or 'no crate of ours'}")
         if not re.search(r"Begin\s+with|one\s+file", page):
             wrong.append("it doesn't say where to begin reading")
         sources = files(tree, [f"crates/{crate}/src/**/*.rt"])
@@ -351,14 +353,14 @@ CHECKS = [pages, listed, layered, drawn, sent_to, carriers, columns, manual, dia
 
 # A tree with nothing wrong, and what each of these changes makes of it: the file, the text there, what takes its place, and the checks that find it.
 TREE = {
-    "crates.txt": "# crates\nmq_low: thiserror\nmq_high: mq_low\n",
+    "crates.txt": "# crates\nmq_lemmas:\nmq_low: mq_lemmas thiserror\nmq_high: mq_low\n",
     "docs/GATE.md": f"A gate.\n\n    {'code ' * 30}\n\n```\n{'code ' * 30}\n```\n\n| {'row ' * 30}|\n",
     VERSION: '//! The version.\npub const VERSION: &str = "1.2.3";\n',
     "CHANGELOG": "1.2.3, 1 May 2026\n",
     "debian/changelog": "mailquota (1.2.3) trixie; urgency=medium\n",
     "NOTICE": "thiserror  MIT\n",
-    "docs/crates.svg": drawing.drawn({"low": ["mq_low"], "high": ["mq_high"]}, {"mq_low": [], "mq_high": ["mq_low"]}),
-    "docs/ARCHITECTURE.md": "| **low** | |\n| `mq_low` | words |\n| **high** | |\n| `mq_high` | words |\n",
+    "docs/crates.svg": drawing.drawn({"low": ["mq_lemmas", "mq_low"], "high": ["mq_high"]}, {"mq_lemmas": [], "mq_low": ["mq_lemmas"], "mq_high": ["mq_low"]}),
+    "docs/ARCHITECTURE.md": "| **low** | |\n| `mq_lemmas` | words |\n| `mq_low` | words |\n| **high** | |\n| `mq_high` | words |\n",
     "CONTRIBUTING.md": "| a call | `mq_high/src/lib.rt`: `call` | `done`: so it is (`IsDone`, `specs/Done.antt`) |\n",
     "docs/PROOFS.md": "# Proved\n\n### mq_low\n\n- Low: `low`, `Far` of `mq_high`.\n\n### mq_high\n\n- What is done (`specs/Done.antt`): `call` (`done`).\n\n"
                       "## What is only tested\n\n`nowhere`\n",
@@ -376,6 +378,8 @@ TREE = {
     "man/mailquota-go.8": ".Sh NAME\n.Nm mailquota-go\n.Sh SYNOPSIS\n.Nm mailquota\n.Cm go\n.Op Fl -far\n.Nm mailquota\n.Cm go\n.Op Fl -far-off\n"
                           ".Nm mailquota\n.Cm stay\n.Sh DESCRIPTION\n.It Fl -far\nfar\n.It Fl -far-off\nfarther\n",
     "crates/mq_high/specs/Done.antt": "-- done\nIsDone n = n ≡ 1\n",
+    "crates/mq_lemmas/src/lib.rt": "//! Lemmas. From `mq_lemmas/proofs/Both.antt`:\n//!\n//!     both true = refl\n//!\n//! It stands on no crate of ours. Begin with that.\n",
+    "crates/mq_lemmas/proofs/Both.antt": "pub both : (b : Bool) → b ≡ b\nboth true = refl\nboth false = refl\n",
 }
 WRONG = [
     ("crates/mq_low/src/lib.rt", "//!     low(1)", "//!     low(2)", pages),
@@ -389,7 +393,7 @@ WRONG = [
     ("docs/ARCHITECTURE.md", "| `mq_low` | words |\n", "", listed, drawn),
     ("docs/ARCHITECTURE.md", "| `mq_low` |", "| `mq_lower` |", listed, drawn),
     ("docs/ARCHITECTURE.md", "| `mq_high` | words |", "| `mq_low` | words |\n| `mq_high` | words |", listed, drawn),
-    ("docs/ARCHITECTURE.md", "| **low** | |\n| `mq_low` | words |\n| **high** | |\n| `mq_high`", "| **high** | |\n| `mq_high` | words |\n| **low** | |\n| `mq_low`", layered, drawn),
+    ("docs/ARCHITECTURE.md", "| **low** | |\n| `mq_lemmas` | words |\n| `mq_low` | words |\n| **high** | |\n| `mq_high`", "| **high** | |\n| `mq_high` | words |\n| **low** | |\n| `mq_lemmas` | words |\n| `mq_low`", layered, drawn),
     ("CONTRIBUTING.md", "`call`", "`calls`", sent_to),
     ("CONTRIBUTING.md", "`done`", "`well`", sent_to),
     ("CONTRIBUTING.md", "specs/Done", "specs/Gone", sent_to),
@@ -425,6 +429,7 @@ WRONG = [
     ("crates/mq_high/specs/Done.antt", "n ≡ 1", "n.ceilings ≡ 1", names),
     ("crates/mq_high/src/lib.rt", "pub fn call(", "use crate::faults;\npub fn call(", names),
     ("crates/mq_high/specs/Done.antt", "IsDone n", "use Low.{Done as ADone}\nIsDone n", names),
+    ("crates/mq_lemmas/src/lib.rt", "both true", "both so", pages),
 ]
 
 

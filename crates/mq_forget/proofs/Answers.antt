@@ -2,6 +2,8 @@
 use Rattle.std.proofs.Common.{◌≡◌, ℕ, ◌<◌, ◌≤◌, List, [], ◌∷◌, true, false, refl, ◌∙◌, ap, sym, subst, inl, inr, arith}
 use Rattle.std.specs.Prelude.{map, nat_le, nat_lt, if◌then◌else◌, Option, Some, None}
 use Rattle.std.proofs.lemmas.Bool.Decides.{nat_tests}
+use Rattle.mq_lemmas.proofs.Booleans.{either}
+use Rattle.mq_lemmas.proofs.Numbers.{le_of, lt_of}
 use Rattle.mq_request.specs.declared.message.Id.{Id}
 use Rattle.mq_request.specs.declared.message.Request.{Request}
 use Rattle.mq_request.specs.declared.message.Request.TheVariants.{Reserve, Settle, Release, Limit, Usage, List as ListRequest, Retire}
@@ -16,7 +18,6 @@ use Rattle.mq_ledger.specs.Over.{over, IsLeastOver}
 use Rattle.mq_ledger.specs.Page.{page, row, IsLoginPage, has_reserve}
 use Rattle.mq_forget.specs.Remembered.{day_named, is_about, is_set}
 use Rattle.mq_forget.specs.Kept.{AreAlike}
-use Rattle.mq_forget.proofs.Lists.{either, le_of, lt_of}
 use Rattle.mq_forget.proofs.Numbers.{agreed_day}
 
 -- what two histories tell alike of D and later days, and the laws of a ledger that are used here

@@ -1,7 +1,8 @@
 -- Entries one after another.
 use Rattle.std.proofs.Common.{◌≡◌, ℕ, suc, ◌+◌, ◌<◌, List, [], ◌∷◌, ◌++◌, length, take, drop, get_or, true, false, refl, ◌∙◌, ap, sym, subst, inl, inr, arith, add-one, drop-cons}
-use Rattle.std.specs.Prelude.{All, Some, Result, Ok, Err, OnErr}
+use Rattle.std.specs.Prelude.{All, Some}
 use Rattle.std.proofs.lemmas.List.{take-append-drop, take_more}
+use Rattle.mq_lemmas.proofs.Booleans.{either}
 use Rattle.mq_request.specs.declared.message.Request.{Request}
 use Rattle.mq_request.specs.declared.message.Request.TheVariants.{Reserve, Settle, Release, Limit, Usage, List as ListRequest, Retire}
 use Rattle.mq_request.specs.Range.{IsRequest, IsMoment}
@@ -11,7 +12,6 @@ use Rattle.mq_forget.specs.Remembered.{moment_of, stays, remembered}
 use Rattle.mq_ledger.specs.Answer.{history_of}
 use Rattle.mq_ledger.specs.Legal.{IsLegal}
 use Rattle.mq_forget.specs.Carried.{IsFront}
-use Rattle.mq_forget.proofs.Lists.{either}
 
 moment_in_range : (t : Transaction) (r : Request) → is_of t r ≡ true → IsRequest r → IsMoment (moment_of r)
 moment_in_range t (Reserve id txn moment login count) h k = k.2
@@ -59,7 +59,3 @@ module _ (day : ℕ → ℕ) (default D : ℕ)
 
   pub left_next : stays day D H e ≡ false → remembered day D (take i H) ≡ remembered day D (take (i + 1) H)
   left_next go = sym (left (take i H) (drop (i + 1) H) e (subst (IsLegal day default) (sym split) legal) (subst (λ x. stays day D x e ≡ false) (sym split) go)) ∙ ap (remembered day D) (sym (more_of H i e less is))
-
-pub on_err : {A E : Type 0} (r : Result A E) (P : Type 0) → P → OnErr r P
-on_err (Ok a) P p = tt
-on_err (Err e) P p = p

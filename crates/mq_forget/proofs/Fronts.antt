@@ -5,6 +5,9 @@ use Rattle.std.specs.List.{AllByRecursion}
 use Rattle.std.proofs.lemmas.List.{map-append, append_cancel_left, length-map}
 use Rattle.std.proofs.lemmas.List.Elements.{recursion_from_All, All-from_recursion}
 use Rattle.std.proofs.Math.Seq.{take-append_seam}
+use Rattle.mq_lemmas.proofs.Booleans.{either, neither}
+use Rattle.mq_lemmas.proofs.Options.{not_some}
+use Rattle.mq_lemmas.proofs.Lists.{In}
 use Rattle.mq_request.specs.declared.message.Id.{Id}
 use Rattle.mq_request.specs.declared.message.Request.{Request}
 use Rattle.mq_request.specs.declared.message.Reply.{Reply}
@@ -14,8 +17,8 @@ use Rattle.mq_ledger.specs.Answer.{answer, stored, known_by, reply, reply_to, re
 use Rattle.mq_ledger.specs.Arrivals.{id_of, is_below}
 use Rattle.mq_ledger.specs.History.{requests}
 use Rattle.mq_ledger.specs.Legal.{IsLegal}
-use Rattle.mq_forget.proofs.Lists.{either, neither, not_some, In, all_mapped}
-use Rattle.mq_forget.proofs.Staying.{entry}
+use Rattle.mq_ledger.proofs.Transactions.{entry}
+use Rattle.mq_forget.proofs.Lists.{all_mapped}
 
 pub record Builds (day : ℕ → ℕ) (default : ℕ) : Type 0 where
   pub legal : (A : List Request) → All IsRequest A → IsLegal day default (history_of day default A)

@@ -3,6 +3,9 @@ use Rattle.std.proofs.Common.{◌≡◌, ℕ, ◌<◌, List, [], ◌∷◌, ◌+
 use Rattle.std.specs.Prelude.{if◌then◌else◌, Option, Some, None, is_some, All}
 use Rattle.std.specs.List.{AllByRecursion}
 use Rattle.std.proofs.lemmas.List.Elements.{recursion_from_All, All-from_recursion}
+use Rattle.mq_lemmas.proofs.Booleans.{either, neither}
+use Rattle.mq_lemmas.proofs.Options.{not_some}
+use Rattle.mq_lemmas.proofs.Lists.{all_push, by_pushes}
 use Rattle.mq_request.specs.declared.message.Id.{Id}
 use Rattle.mq_request.specs.declared.message.Request.{Request}
 use Rattle.mq_request.specs.Range.{IsRequest}
@@ -13,10 +16,11 @@ use Rattle.mq_ledger.specs.History.{requests, used}
 use Rattle.mq_ledger.specs.Legal.{IsLegal}
 use Rattle.mq_ledger.specs.Over.{over, IsLeastOver}
 use Rattle.mq_ledger.specs.Page.{page, IsLoginPage}
+use Rattle.mq_ledger.proofs.Transactions.{entry}
 use Rattle.mq_forget.specs.Remembered.{is_about, is_set, stays, remembered}
 use Rattle.mq_forget.specs.Kept.{Keeps}
-use Rattle.mq_forget.proofs.Lists.{either, neither, not_some, find_none, all_push, all_split, all_mapped, by_pushes}
-use Rattle.mq_forget.proofs.Staying.{entry, one_more, alike, same_cap, same_below}
+use Rattle.mq_forget.proofs.Lists.{find_none, all_split, all_mapped}
+use Rattle.mq_forget.proofs.Staying.{one_more, alike, same_cap, same_below}
 use Rattle.mq_forget.proofs.Fronts.{Builds}
 use Rattle.mq_forget.proofs.Numbers.{reserved_kept, settled_kept, reserves_kept, reserved_before, settled_before, reserves_before}
 use Rattle.mq_forget.proofs.Answers.{Tells, answer_same, set_same}
@@ -29,6 +33,9 @@ pub record Ledgers (day : ℕ → ℕ) (default : ℕ) : Type 0 where
   pub only_least : (H : List Entry) (l : List ℕ) (from c : ℕ) (o : Option ℕ) → IsLeastOver day H l from c o → o ≡ over day H l from c
   pub first : (H : List Entry) (d : ℕ) (after : List ℕ) → IsLoginPage day H d after (page day H d after)
   pub only_first : (H : List Entry) (d : ℕ) (after : List ℕ) (ls : List (List ℕ)) → IsLoginPage day H d after ls → ls ≡ page day H d after
+
+pub in_range : (day : ℕ → ℕ) (default : ℕ) (H : List Entry) → IsLegal day default H → AllByRecursion IsRequest (requests H)
+in_range day default H legal = all_mapped IsRequest (λ e. e.request) H (recursion_from_All (λ e. IsRequest e.request) H legal.range)
 
 module _ (day : ℕ → ℕ) (default : ℕ) (laws : Ledgers day default) (D : ℕ) where
   unused : (H : List Entry) → IsLegal day default H → (l : List ℕ) (d : ℕ) → d < D → used day (remembered day D H) l d ≡ 0
@@ -118,7 +125,7 @@ module _ (day : ℕ → ℕ) (default : ℕ) (laws : Ledgers day default) (D : �
 
   remembered_legal : (H : List Entry) → IsLegal day default H → IsLegal day default (remembered day D H)
   remembered_legal H legal = subst (λ x. IsLegal day default (remembered day D x)) (laws.builds.again H legal)
-      (arrivals_legal (requests H) (all_mapped IsRequest (λ e. e.request) H (recursion_from_All (λ e. IsRequest e.request) H legal.range)))
+      (arrivals_legal (requests H) (in_range day default H legal))
 
   pub keeps : (H : List Entry) → IsLegal day default H → Keeps day default D (remembered day D H) H
   keeps H legal = record {

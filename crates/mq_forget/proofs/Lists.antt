@@ -1,73 +1,16 @@
 -- What a filter leaves to a search, a test and a sum.
-use Rattle.std.proofs.Common.{◌≡◌, ℕ, ◌≤◌, ◌<◌, List, [], ◌∷◌, ◌++◌, Bool, true, false, refl, ◌∙◌, ap, sym, subst, inl, inr, arith, append_assoc, append-nil}
-use Rattle.std.specs.Prelude.{sum_by, nat_le, fold, filter, find, map, ◌&&◌, ◌==◌, ◌⊎◌, if◌then◌else◌, ◌||◌, Option, Some, None, is_some}
+use Rattle.std.proofs.Common.{◌≡◌, ℕ, List, [], ◌∷◌, ◌++◌, Bool, true, false, refl, ◌∙◌, ap, sym, inl, inr, arith}
+use Rattle.std.specs.Prelude.{sum_by, fold, filter, find, map, ◌⊎◌, if◌then◌else◌, Some, None}
 use Rattle.std.specs.List.{AllByRecursion, list_any}
-use Rattle.std.specs.Cmp.Lexicographic.{bytes_decides}
-use Rattle.std.proofs.lemmas.Bool.Decides.{Decides-eqb, nat_tests}
 use Rattle.std.proofs.lemmas.List.Sums.{sum_by-cons}
-use Rattle.mq_request.specs.Same.{same_text}
-
-pub either : (b : Bool) → (b ≡ true) ⊎ (b ≡ false)
-either true = inl refl
-either false = inr refl
-
-pub first_so : (a b : Bool) → (a && b) ≡ true → a ≡ true
-first_so true b h = refl
-first_so false b h = h
-
-pub second_so : (a b : Bool) → (a && b) ≡ true → b ≡ true
-second_so true b h = h
-second_so false b h = cc
-
-pub never : (a b : Bool) → b ≡ false → (a && b) ≡ false
-never true b h = h
-never false b h = refl
-
-pub neither : (a b : Bool) → (a || b) ≡ false → (a ≡ false) × (b ≡ false)
-neither true b h = absurd (cc h)
-neither false b h = (refl, h)
-
-pub not_some : {A : Type 0} (o : Option A) → is_some o ≡ false → o ≡ None
-not_some None h = refl
-not_some (Some x) h = absurd (cc h)
-
-pub option_cases : {A : Type 0} (o : Option A) → (o ≡ None) ⊎ ((x : A) × (o ≡ Some x))
-option_cases None = inl refl
-option_cases (Some x) = inr (x, refl)
-
-pub text_is : (a b : List ℕ) → same_text a b ≡ true → a ≡ b
-text_is a b h = (bytes_decides a b).0 h
-
-pub text_itself : (a : List ℕ) → same_text a a ≡ true
-text_itself a = (bytes_decides a a).1 refl
-
-pub number_is : (m n : ℕ) → (m == n) ≡ true → m ≡ n
-number_is m n h = (Decides-eqb m n).0 h
-
-pub number_itself : (n : ℕ) → (n == n) ≡ true
-number_itself n = (Decides-eqb n n).1 refl
+use Rattle.mq_lemmas.proofs.Booleans.{either}
+use Rattle.mq_lemmas.proofs.Lists.{In}
 
 pub nothing_either_way : (b : Bool) → ◌≡◌ {A = ℕ} (if b then 0 else 0) 0
 nothing_either_way true = refl
 nothing_either_way false = refl
 
-pub le_of : (m n : ℕ) → nat_le m n ≡ true → m ≤ n
-le_of m n h = grind (arith, nat_tests)
-
-pub lt_of : (m n : ℕ) → nat_le m n ≡ false → n < m
-lt_of m n h = grind (arith, nat_tests)
-
-pub le_is : (m n : ℕ) → m ≤ n → nat_le m n ≡ true
-le_is m n h = grind (arith, nat_tests)
-
-pub lt_is : (m n : ℕ) → n < m → nat_le m n ≡ false
-lt_is m n h = grind (arith, nat_tests)
-
 -- Members.
-
-abbrev pub In : {X : Type 0} → X → List X → Type 0
-In x [] = ⊥
-In x (y ∷ ys) = (y ≡ x) ⊎ In x ys
 
 pub filter_same : {X : Type 0} (p q : X → Bool) (xs : List X) → ((x : X) → In x xs → p x ≡ q x) → filter p xs ≡ filter q xs
 filter_same p q [] h = refl
@@ -187,10 +130,6 @@ find_some p q (x ∷ xs) y h k = elim (either (p x)) [
 
 -- Of the whole and of its parts.
 
-pub all_push : {X : Type 0} (P : X → Type 0) (xs : List X) (x : X) → AllByRecursion P xs → P x → AllByRecursion P (xs ++ x ∷ [])
-all_push P [] x all h = (h, tt)
-all_push P (y ∷ xs) x all h = (all.0, all_push P xs x all.1 h)
-
 pub all_split : {X : Type 0} (P : X → Type 0) (xs : List X) (x : X) → AllByRecursion P (xs ++ x ∷ []) → AllByRecursion P xs × P x
 all_split P [] x all = (tt, all.0)
 all_split P (y ∷ xs) x all = (let r = all_split P xs x all.1 in ((all.0, r.0), r.1))
@@ -198,10 +137,3 @@ all_split P (y ∷ xs) x all = (let r = all_split P xs x all.1 in ((all.0, r.0),
 pub all_mapped : {X Y : Type 0} (P : Y → Type 0) (f : X → Y) (xs : List X) → AllByRecursion (λ x. P (f x)) xs → AllByRecursion P (map f xs)
 all_mapped P f [] all = tt
 all_mapped P f (x ∷ xs) all = (all.0, all_mapped P f xs all.1)
-
--- from the empty list on, by one element more at the end
-pub by_pushes : {X : Type 0} (P : List X → Type 0) → P [] → ((xs : List X) (x : X) → P xs → P (xs ++ x ∷ [])) → (xs : List X) → P xs
-by_pushes P none more xs = by_pushes_from P more [] xs none where
-  by_pushes_from : {X : Type 0} (P : List X → Type 0) → ((xs : List X) (x : X) → P xs → P (xs ++ x ∷ [])) → (done xs : List X) → P done → P (done ++ xs)
-  by_pushes_from P more done [] p = subst P (sym (append-nil done)) p
-  by_pushes_from P more done (x ∷ xs) p = subst P (append_assoc done (x ∷ []) xs) (by_pushes_from P more (done ++ x ∷ []) xs (more done x p))

@@ -3,6 +3,9 @@ use Rattle.std.proofs.Common.{◌≡◌, ℕ, ◌+◌, ◌<◌, ◌≤◌, List,
 use Rattle.std.specs.Prelude.{◌&&◌, ◌==◌, not, nat_le, if◌then◌else◌, Option, Some, None}
 use Rattle.std.specs.Option.{option_or}
 use Rattle.std.proofs.lemmas.List.Folds.{find-append}
+use Rattle.mq_lemmas.proofs.Booleans.{either, first_so, second_so}
+use Rattle.mq_lemmas.proofs.Numbers.{number_is, le_is, lt_is}
+use Rattle.mq_lemmas.proofs.Lists.{In}
 use Rattle.mq_request.specs.declared.message.Id.{Id}
 use Rattle.mq_request.specs.declared.message.Request.{Request}
 use Rattle.mq_request.specs.declared.message.Request.TheVariants.{Reserve, Settle, Release, Limit, Usage, List as ListRequest, Retire}
@@ -14,9 +17,10 @@ use Rattle.mq_ledger.specs.Answer.{if_open, answer}
 use Rattle.mq_ledger.specs.History.{Transaction, transaction, is_of, is_at, named, agrees, granted, counted, concerns, is_open, reserved_of, is_abandoned, settled_of, reserved, settled}
 use Rattle.mq_ledger.specs.Legal.{IsLegal}
 use Rattle.mq_ledger.specs.Page.{is_login, login_on, has_reserve}
+use Rattle.mq_ledger.proofs.Transactions.{transaction_itself, entry}
 use Rattle.mq_forget.specs.Remembered.{moment_of, day_named, is_about, is_set, stays, remembered}
-use Rattle.mq_forget.proofs.Lists.{either, first_so, second_so, number_is, nothing_either_way, le_is, lt_is, In, filter_in, sum_kept, sum_same, sum_nothing, any_kept, any_nothing}
-use Rattle.mq_forget.proofs.Staying.{entry, transaction_itself, or_or, alike}
+use Rattle.mq_forget.proofs.Lists.{nothing_either_way, filter_in, sum_kept, sum_same, sum_nothing, any_kept, any_nothing}
+use Rattle.mq_forget.proofs.Staying.{or_or, alike}
 use Rattle.mq_forget.proofs.Fronts.{Builds, next, behind}
 
 -- Where a transaction is named with that moment, its day is the moment's.

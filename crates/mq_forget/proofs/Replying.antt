@@ -3,6 +3,9 @@ use Rattle.std.proofs.Common.{◌≡◌, ℕ, List, [], ◌∷◌, ◌++◌, tru
 use Rattle.std.specs.Prelude.{Option, Some, None, All}
 use Rattle.std.specs.List.{AllByRecursion}
 use Rattle.std.proofs.lemmas.List.Elements.{recursion_from_All, All-from_recursion}
+use Rattle.mq_lemmas.proofs.Booleans.{either}
+use Rattle.mq_lemmas.proofs.Options.{option_cases}
+use Rattle.mq_lemmas.proofs.Lists.{all_push}
 use Rattle.mq_request.specs.declared.message.Id.{Id}
 use Rattle.mq_request.specs.declared.message.Request.{Request}
 use Rattle.mq_request.specs.declared.message.Reply.TheVariants.{Old}
@@ -12,9 +15,10 @@ use Rattle.mq_ledger.specs.Answer.{answer, stored, known_by, reply, reply_to, re
 use Rattle.mq_ledger.specs.Arrivals.{id_of, has_id, is_below}
 use Rattle.mq_ledger.specs.History.{requests}
 use Rattle.mq_ledger.specs.Legal.{IsLegal}
+use Rattle.mq_ledger.proofs.Transactions.{entry}
 use Rattle.mq_forget.specs.Remembered.{is_about, stays, remembered, is_remembered, is_later_by, is_later, AreLater}
-use Rattle.mq_forget.proofs.Lists.{either, option_cases, find_some, find_none, all_push, all_mapped}
-use Rattle.mq_forget.proofs.Staying.{entry, same_below}
+use Rattle.mq_forget.proofs.Lists.{find_some, find_none, all_mapped}
+use Rattle.mq_forget.proofs.Staying.{same_below}
 use Rattle.mq_forget.proofs.Answers.{answer_same}
 use Rattle.mq_forget.proofs.Fronts.{Builds}
 use Rattle.mq_forget.proofs.Growing.{Ledgers, tells, new_there, arrival_new, one_kept}

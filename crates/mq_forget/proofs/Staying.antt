@@ -7,32 +7,23 @@ use Rattle.std.proofs.lemmas.Bool.Decides.{nat_tests}
 use Rattle.std.proofs.lemmas.List.Elements.{filter-append}
 use Rattle.std.proofs.lemmas.List.Folds.{find-append}
 use Rattle.std.proofs.lemmas.List.Sums.{sum_by-cons}
+use Rattle.mq_lemmas.proofs.Booleans.{or_second, either, neither, first_so}
+use Rattle.mq_lemmas.proofs.Options.{option_cases}
+use Rattle.mq_lemmas.proofs.Lists.{In}
 use Rattle.mq_request.specs.declared.message.Id.{Id}
 use Rattle.mq_request.specs.declared.message.Request.{Request}
 use Rattle.mq_request.specs.declared.message.Request.TheVariants.{Reserve, Settle, Release, Limit, Usage, List as ListRequest, Retire}
 use Rattle.mq_request.specs.declared.message.Reply.{Reply}
 use Rattle.mq_request.specs.declared.message.Reply.TheVariants.{LimitSet}
-use Rattle.mq_request.specs.Same.{same_text}
 use Rattle.mq_ledger.specs.declared.entry.Entry.{Entry}
 use Rattle.mq_ledger.specs.Arrivals.{raised, greater, floor, is_below}
 use Rattle.mq_ledger.specs.History.{Transaction, requests, transaction, same_transaction, is_of, named, closes, ended, has_retired_run, closed, abandoned, granted, granted_in, counted, counted_in}
 use Rattle.mq_ledger.specs.Limits.{sets, governs, limits, latest, last_cap, from_of, cap}
+use Rattle.mq_ledger.proofs.Transactions.{transaction_is, transaction_itself, entry}
+use Rattle.mq_ledger.proofs.Floors.{greater_zero}
 use Rattle.mq_forget.specs.Remembered.{moment_of, day_named, is_about, is_set, stays, remembered}
 use Rattle.mq_forget.specs.Kept.{AreAlike}
-use Rattle.mq_forget.proofs.Lists.{either, option_cases, neither, first_so, second_so, text_is, text_itself, number_is, number_itself, In, filter_same, found_in, find_kept, any_kept, filter_kept, filter_in, sum_kept, fold_kept, fold_mapped, find_lost, find_none}
-
-abbrev pub entry : Request → Reply → Entry
-entry r a = record { request = r; reply = a }
-
-pub transaction_is : (t u : Transaction) → same_transaction t u ≡ true → t ≡ u
-transaction_is t u h =
-    let host : t.host ≡ u.host = text_is _ _ (first_so (same_text t.host u.host) _ h) in
-    let run : t.run ≡ u.run = number_is _ _ (first_so (t.run == u.run) (t.txn == u.txn) (second_so (same_text t.host u.host) _ h)) in
-    let txn : t.txn ≡ u.txn = number_is _ _ (second_so (t.run == u.run) (t.txn == u.txn) (second_so (same_text t.host u.host) _ h)) in
-    λ i. record { host = host i; run = run i; txn = txn i }
-
-pub transaction_itself : (t : Transaction) → same_transaction t t ≡ true
-transaction_itself t = rw (text_itself t.host, number_itself t.run, number_itself t.txn) refl
+use Rattle.mq_forget.proofs.Lists.{filter_same, found_in, find_kept, any_kept, filter_kept, filter_in, sum_kept, fold_kept, fold_mapped, find_lost, find_none}
 
 -- A later entry changes nothing of what stays.
 
@@ -103,16 +94,13 @@ raises_nothing day D H h (Limit id from_day c login) gone = refl
 raises_nothing day D H h (Usage login d) gone = refl
 raises_nothing day D H h (ListRequest d after) gone = refl
 
-not_above : (n : ℕ) → greater n 0 ≡ n
-not_above n = (let f : nat_lt n 0 ≡ false = grind (arith, nat_tests) in rw f refl)
-
 pub same_floor : (day : ℕ → ℕ) (D : ℕ) (H : List Entry) (h : List ℕ) → floor (requests (remembered day D H)) h ≡ floor (requests H) h
 unfolding floor
 same_floor day D H h =
     let raise : ℕ → Request → ℕ = λ n r. greater n (raised h r) in
     fold_mapped raise (λ (e : Entry). e.request) 0 (remembered day D H)
     ∙ fold_kept (λ n (e : Entry). greater n (raised h e.request)) (stays day D H) 0 H (λ n e gone.
-    ap (greater n) (raises_nothing day D H h e.request (neither (is_about day D H e.request) (is_set e.request e.reply) gone).0) ∙ not_above n)
+    ap (greater n) (raises_nothing day D H h e.request (neither (is_about day D H e.request) (is_set e.request e.reply) gone).0) ∙ greater_zero n)
     ∙ sym (fold_mapped raise (λ (e : Entry). e.request) 0 H)
 
 pub same_below : (day : ℕ → ℕ) (D : ℕ) (H : List Entry) (id : Id) → is_below (requests (remembered day D H)) id ≡ is_below (requests H) id
@@ -217,12 +205,8 @@ set_stays : (day : ℕ → ℕ) (D : ℕ) (H : List Entry) (l : List ℕ) (r : R
 set_stays day D H l (Limit id from_day c login) (LimitSet id') h = refl
 set_stays day D H l r a h = absurd (cc h)
 
-or_true : (a b : Bool) → b ≡ true → (a || b) ≡ true
-or_true true b h = refl
-or_true false b h = h
-
 pub same_limits : (day : ℕ → ℕ) (D : ℕ) (H : List Entry) (l : List ℕ) (d : ℕ) → limits (remembered day D H) l d ≡ limits H l d
-same_limits day D H l d = filter_kept (governs l d) (stays day D H) (λ x g. or_true (is_about day D H x.request) (is_set x.request x.reply) (set_stays day D H l x.request x.reply (first_so (sets l x.request x.reply) (nat_le (from_of x.request) d) g))) H
+same_limits day D H l d = filter_kept (governs l d) (stays day D H) (λ x g. or_second (is_about day D H x.request) (is_set x.request x.reply) (set_stays day D H l x.request x.reply (first_so (sets l x.request x.reply) (nat_le (from_of x.request) d) g))) H
 
 pub same_cap : (day : ℕ → ℕ) (default D : ℕ) (H : List Entry) (l : List ℕ) (d : ℕ) → cap default (remembered day D H) l d ≡ cap default H l d
 same_cap day default D H l d = ap (λ es. last_cap default (filter (λ e. from_of e.request == latest es) es)) (same_limits day D H l d)
@@ -244,7 +228,7 @@ about_too day D E H (Retire id) le h = refl
 stays_too : (day : ℕ → ℕ) (D E : ℕ) (H : List Entry) (x : Entry) → D ≤ E → stays day E H x ≡ true → stays day D H x ≡ true
 stays_too day D E H x le h = elim (either (is_about day E H x.request)) [
   | inl t ↦ (let k : is_about day D H x.request ≡ true = about_too day D E H x.request le t in rw k refl)
-  | inr f ↦ (let s : is_set x.request x.reply ≡ true = rw f at h in or_true (is_about day D H x.request) (is_set x.request x.reply) s)
+  | inr f ↦ (let s : is_set x.request x.reply ≡ true = rw f at h in or_second (is_about day D H x.request) (is_set x.request x.reply) s)
 ]
 
 -- what is remembered is about the day that it was about

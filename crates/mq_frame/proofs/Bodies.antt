@@ -6,6 +6,7 @@ use Rattle.std.specs.Int.{w32, w64}
 use Rattle.std.proofs.lemmas.Bool.Decides.{Decides-eqb}
 use Rattle.std.proofs.lemmas.List.Sums.{AllPass-from_list_all, list_all-from_AllPass}
 use Rattle.std.proofs.lemmas.List.Elements.{All-weaker}
+use Rattle.mq_lemmas.proofs.Booleans.{or_second, or_first, either_of}
 use Rattle.mq_request.specs.declared.message.Id.{Id}
 use Rattle.mq_request.specs.declared.message.Request.{Request}
 use Rattle.mq_request.specs.declared.message.Request.TheVariants.{Reserve, Settle, Release, Limit, Usage, List as ListRequest, Retire}
@@ -24,24 +25,13 @@ use Rattle.mq_frame.proofs.FieldLaws.{IsField, IsBytes, IsBytes-tail, within, te
 
 -- ---- the fields
 
-one_of : (a b : Bool) → (a || b) ≡ true → (a ≡ true) ⊎ (b ≡ true)
-one_of true b h = inl refl
-one_of false b h = inr h
-
-left_so : (a b : Bool) → a ≡ true → (a || b) ≡ true
-left_so a b h = rw h refl
-
-right_so : (a b : Bool) → b ≡ true → (a || b) ≡ true
-right_so true b h = refl
-right_so false b h = h
-
 pub host_byte : (b : ℕ) → is_host_byte b ≡ true → IsHostByte b
 host_byte b h =
-    elim (one_of (between 48 57 b) (between 65 90 b || (between 97 122 b || between 45 46 b)) h) [
+    elim (either_of (between 48 57 b) (between 65 90 b || (between 97 122 b || between 45 46 b)) h) [
       | inl d ↦ inl (within 48 57 b d)
-      | inr h1 ↦ inr (elim (one_of (between 65 90 b) (between 97 122 b || between 45 46 b) h1) [
+      | inr h1 ↦ inr (elim (either_of (between 65 90 b) (between 97 122 b || between 45 46 b) h1) [
         | inl d ↦ inl (within 65 90 b d)
-        | inr h2 ↦ inr (elim (one_of (between 97 122 b) (between 45 46 b) h2) [
+        | inr h2 ↦ inr (elim (either_of (between 97 122 b) (between 45 46 b) h2) [
           | inl d ↦ inl (within 97 122 b d)
           | inr d ↦ inr (within 45 46 b d)
         ])
@@ -49,10 +39,10 @@ host_byte b h =
     ]
 
 pub host_byte_tested : (b : ℕ) → IsHostByte b → is_host_byte b ≡ true
-host_byte_tested b (inl d) = left_so (between 48 57 b) _ (tested 48 57 b d)
-host_byte_tested b (inr (inl d)) = right_so (between 48 57 b) _ (left_so (between 65 90 b) _ (tested 65 90 b d))
-host_byte_tested b (inr (inr (inl d))) = right_so (between 48 57 b) _ (right_so (between 65 90 b) _ (left_so (between 97 122 b) _ (tested 97 122 b d)))
-host_byte_tested b (inr (inr (inr d))) = right_so (between 48 57 b) _ (right_so (between 65 90 b) _ (right_so (between 97 122 b) _ (tested 45 46 b d)))
+host_byte_tested b (inl d) = or_first (between 48 57 b) _ (tested 48 57 b d)
+host_byte_tested b (inr (inl d)) = or_second (between 48 57 b) _ (or_first (between 65 90 b) _ (tested 65 90 b d))
+host_byte_tested b (inr (inr (inl d))) = or_second (between 48 57 b) _ (or_second (between 65 90 b) _ (or_first (between 97 122 b) _ (tested 97 122 b d)))
+host_byte_tested b (inr (inr (inr d))) = or_second (between 48 57 b) _ (or_second (between 65 90 b) _ (or_second (between 97 122 b) _ (tested 45 46 b d)))
 
 pub host_bytes : (name : List ℕ) → list_all is_host_byte name ≡ true → All IsHostByte name
 host_bytes name h = All-weaker (λ b. is_host_byte b ≡ true) IsHostByte host_byte name (AllPass-from_list_all is_host_byte name h)

@@ -8,6 +8,8 @@ use Rattle.std.proofs.lemmas.Bool.Decides.{nat_tests, Decides-eqb}
 use Rattle.std.proofs.lemmas.List.{take_at, drop_at, take-append-drop, length-append, length-take, get_or-drop, get_or-take, get_or_past}
 use Rattle.std.proofs.lemmas.List.Elements.{All-nil, All-cons, All-head, All-tail}
 use Rattle.std.proofs.lemmas.Nat.{be_bytes_4, be_bytes_8, from_be_bytes-to_be_bytes_4, from_be_bytes-to_be_bytes_8}
+use Rattle.mq_lemmas.proofs.Booleans.{first_so, second_so, both_so}
+use Rattle.mq_lemmas.proofs.Options.{some_is}
 use Rattle.mq_request.specs.Range.{IsWithin, between}
 use Rattle.mq_frame.specs.Spelling.{with_length}
 use Rattle.mq_frame.specs.Reading.{◌>>=◌, Field, if_passes, number_at, number, text_at, text, where_so, pair, made, times_at, counted_at, counted, whole}
@@ -29,17 +31,6 @@ pub IsBytes-tail : (b : ℕ) (bytes : List ℕ) → IsBytes (b ∷ bytes) → Is
 IsBytes-tail b bytes h i = h (suc i)
 
 -- ---- tests
-
-pub first_so : (a b : Bool) → (a && b) ≡ true → a ≡ true
-first_so true b h = refl
-first_so false b h = h
-
-pub second_so : (a b : Bool) → (a && b) ≡ true → b ≡ true
-second_so true b h = h
-second_so false b h = cc
-
-pub both_so : (a b : Bool) → a ≡ true → b ≡ true → (a && b) ≡ true
-both_so a b h g = rw (h, g) refl
 
 pub within : (low high n : ℕ) → between low high n ≡ true → IsWithin low high n
 within low high n h =
@@ -70,9 +61,6 @@ kept_here false o y e = absurd cc
 left_some : {A : Type 0} (b : Bool) (o : Option A) (y : A) → (if b then None else o) ≡ Some y → (b ≡ false) × (o ≡ Some y)
 left_some true o y e = absurd cc
 left_some false o y e = (refl, e)
-
-some_is : {A : Type 0} (x y : A) → Some x ≡ Some y → x ≡ y
-some_is x y e = cc
 
 -- what a reader took from the front
 pub record Takes (bytes text rest : List ℕ) : Type 0 where

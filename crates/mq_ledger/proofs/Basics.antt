@@ -1,94 +1,20 @@
--- Tests, texts, lists and sums.
-use Rattle.std.proofs.Common.{◌≡◌, ℕ, ◌+◌, ◌<◌, ◌≤◌, List, [], ◌∷◌, ◌++◌, Bool, true, false, refl, ◌∙◌, ap, sym, subst, inl, inr, arith, append_assoc, append-nil}
-use Rattle.std.specs.Prelude.{sum_by, filter, ◌&&◌, ◌||◌, ◌==◌, ◌⊎◌, if◌then◌else◌, Option, Some, None}
+-- Members of lists, and sums.
+use Rattle.std.proofs.Common.{◌≡◌, ℕ, ◌+◌, ◌<◌, ◌≤◌, List, [], ◌∷◌, Bool, true, false, refl, ◌∙◌, ap, sym, inl, inr, arith}
+use Rattle.std.specs.Prelude.{sum_by, filter, ◌⊎◌, if◌then◌else◌, Option, Some}
 use Rattle.std.specs.List.{AllByRecursion, filter_map}
-use Rattle.std.specs.Cmp.Lexicographic.{bytes_decides}
-use Rattle.std.proofs.lemmas.Bool.Decides.{Decides-eqb}
 use Rattle.std.proofs.lemmas.List.Sums.{sum_by-cons}
-use Rattle.mq_request.specs.Same.{same_text}
-
-pub either : (b : Bool) → (b ≡ true) ⊎ (b ≡ false)
-either true = inl refl
-either false = inr refl
-
-pub first_so : (a b : Bool) → (a && b) ≡ true → a ≡ true
-first_so true b h = refl
-first_so false b h = h
-
-pub second_so : (a b : Bool) → (a && b) ≡ true → b ≡ true
-second_so true b h = h
-second_so false b h = cc
-
-pub both_so : (a b : Bool) → a ≡ true → b ≡ true → (a && b) ≡ true
-both_so a b h g = rw (h, g) refl
-
-pub neither_first : (a b : Bool) → (a || b) ≡ false → a ≡ false
-neither_first true b h = cc
-neither_first false b h = refl
-
-pub neither_second : (a b : Bool) → (a || b) ≡ false → b ≡ false
-neither_second true b h = cc
-neither_second false b h = h
-
-pub option_cases : {A : Type 0} (o : Option A) → (o ≡ None) ⊎ ((x : A) × (o ≡ Some x))
-option_cases None = inl refl
-option_cases (Some x) = inr (x, refl)
-
-pub some_none : {A : Type 0} (x : A) → Some x ≡ None → ⊥
-some_none x h = cc
-
-pub some_is : {A : Type 0} (x y : A) → Some x ≡ Some y → x ≡ y
-some_is x y h = cc
-
-pub le_or_lt : (a b : ℕ) → (a ≤ b) ⊎ (b < a)
-le_or_lt a b = grind arith
-
-pub zero_or_more : (n : ℕ) → (n ≡ 0) ⊎ (0 < n)
-zero_or_more n = grind arith
-
--- Texts.
-
-pub text_is : (a b : List ℕ) → same_text a b ≡ true → a ≡ b
-text_is a b h = (bytes_decides a b).0 h
-
-pub text_itself : (a : List ℕ) → same_text a a ≡ true
-text_itself a = (bytes_decides a a).1 refl
-
-pub number_is : (m n : ℕ) → (m == n) ≡ true → m ≡ n
-number_is m n h = (Decides-eqb m n).0 h
-
-pub number_itself : (n : ℕ) → (n == n) ≡ true
-number_itself n = (Decides-eqb n n).1 refl
+use Rattle.mq_lemmas.proofs.Booleans.{either}
+use Rattle.mq_lemmas.proofs.Options.{option_cases}
+use Rattle.mq_lemmas.proofs.Numbers.{zero_or_more}
+use Rattle.mq_lemmas.proofs.Lists.{In}
 
 -- Members of a list.
-
-abbrev pub In : {X : Type 0} → X → List X → Type 0
-In x [] = ⊥
-In x (y ∷ ys) = (y ≡ x) ⊎ In x ys
-
-pub all_of : {X : Type 0} (P : X → Type 0) (xs : List X) → ((x : X) → In x xs → P x) → AllByRecursion P xs
-all_of P [] h = tt
-all_of P (x ∷ xs) h = (h x (inl refl), all_of P xs (λ y i. h y (inr i)))
-
-pub all_at : {X : Type 0} (P : X → Type 0) (xs : List X) (x : X) → AllByRecursion P xs → In x xs → P x
-all_at P [] x all i = absurd i
-all_at P (y ∷ xs) x all (inl e) = rw (← e) all.0
-all_at P (y ∷ xs) x all (inr i) = all_at P xs x all.1 i
-
-pub all_push : {X : Type 0} (P : X → Type 0) (xs : List X) (x : X) → AllByRecursion P xs → P x → AllByRecursion P (xs ++ x ∷ [])
-all_push P [] x all h = (h, tt)
-all_push P (y ∷ xs) x all h = (all.0, all_push P xs x all.1 h)
 
 pub always : {X : Type 0} (xs : List X) → AllByRecursion (λ (_ : X). Unit {0}) xs
 always [] = tt
 always (x ∷ xs) = (tt, always xs)
 
 -- what a filter keeps
-pub in_filter : {X : Type 0} (p : X → Bool) (xs : List X) (x : X) → In x xs → p x ≡ true → In x (filter p xs)
-in_filter p [] x i h = i
-in_filter p (y ∷ xs) x (inl e) h = (let t : p y ≡ true = ap p e ∙ h in rw t (inl e))
-in_filter p (y ∷ xs) x (inr i) h = elim (either (p y)) [ inl t ↦ rw t (inr (in_filter p xs x i h)) | inr f ↦ rw f (in_filter p xs x i h) ]
-
 pub record Kept {X : Type 0} (p : X → Bool) (xs : List X) (x : X) : Type 0 where
   pub among : In x xs
   pub passes : p x ≡ true
@@ -174,10 +100,3 @@ sums_swap f [] ys = sym (sum_of_none ys)
 sums_swap f (x ∷ xs) ys =
     let both = two_sums_are (λ _. Unit {0}) (f x) (λ y. sum_by (λ x. f x y) xs) (λ y. sum_by (λ x. f x y) (x ∷ xs)) (λ y _. sym (sum_by-cons (λ x. f x y) x xs)) ys (always ys) in
     omega (arith, sum_by-cons (λ x. sum_by (f x) ys) x xs, sums_swap f xs ys, both)
-
--- from the empty list on, by one element more at the end
-pub by_pushes : {X : Type 0} (P : List X → Type 0) → P [] → ((xs : List X) (x : X) → P xs → P (xs ++ x ∷ [])) → (xs : List X) → P xs
-by_pushes P none more xs = by_pushes_from P more [] xs none where
-  by_pushes_from : {X : Type 0} (P : List X → Type 0) → ((xs : List X) (x : X) → P xs → P (xs ++ x ∷ [])) → (done xs : List X) → P done → P (done ++ xs)
-  by_pushes_from P more done [] p = subst P (sym (append-nil done)) p
-  by_pushes_from P more done (x ∷ xs) p = subst P (append_assoc done (x ∷ []) xs) (by_pushes_from P more (done ++ x ∷ []) xs (more done x p))

@@ -2,6 +2,7 @@
 use Rattle.std.proofs.Common.{◌≡◌, ℕ, ◌≤◌, List, [], ◌∷◌, ◌++◌, true, false, Some, None, Option, refl, ◌∙◌, ap, sym, subst}
 use Rattle.std.specs.Prelude.{is_some, All}
 use Rattle.std.proofs.lemmas.List.Elements.{All-push, All-map}
+use Rattle.mq_lemmas.proofs.Booleans.{neither_first, neither_second}
 use Rattle.mq_request.specs.declared.message.Id.{Id}
 use Rattle.mq_request.specs.declared.message.Request.{Request}
 use Rattle.mq_request.specs.declared.message.Reply.{Reply}
@@ -12,7 +13,6 @@ use Rattle.mq_ledger.specs.Arrivals.{id_of, is_below}
 use Rattle.mq_ledger.specs.Day.{IsZone, day_of}
 use Rattle.mq_ledger.specs.History.{requests, transaction, granted_in, used, IsOpenTo}
 use Rattle.mq_ledger.specs.Legal.{Book, IsLegal, IsLegalBook}
-use Rattle.mq_ledger.proofs.Basics.{neither_first, neither_second}
 use Rattle.mq_ledger.proofs.Clocks.{zone_days}
 use Rattle.mq_ledger.proofs.Numbers.{legal_build, legal_more}
 use Rattle.mq_ledger.proofs.Transactions.{entry}

@@ -3,6 +3,8 @@ use Rattle.std.proofs.Common.{◌≡◌, ℕ, ◌+◌, List, [], ◌∷◌, ◌+
 use Rattle.std.specs.Prelude.{if◌then◌else◌, ◌&&◌, ◌||◌, not, nat_le, Some, None}
 use Rattle.std.proofs.lemmas.Bool.Decides.{nat_tests}
 use Rattle.std.proofs.lemmas.List.Sums.{sum_by_push, sum_by-cons}
+use Rattle.mq_lemmas.proofs.Booleans.{and_false, or_false, either, neither_first, neither_second}
+use Rattle.mq_lemmas.proofs.Numbers.{if_zero}
 use Rattle.mq_request.specs.declared.message.Request.{Request}
 use Rattle.mq_request.specs.declared.message.Request.TheVariants.{Reserve, Settle, Release, Limit, Usage, List as ListRequest, Retire}
 use Rattle.mq_request.specs.declared.message.Reply.{Reply}
@@ -11,7 +13,6 @@ use Rattle.mq_ledger.specs.declared.entry.Entry.{Entry}
 use Rattle.mq_ledger.specs.History.{Transaction, transaction, same_transaction, is_of, closes, ended, has_retired_run, retires, closed, named, granted, granted_in, counted, counted_in, held, settled_in}
 use Rattle.mq_ledger.specs.Limits.{from_of, cap_of, governs, limits, latest, cap}
 use Rattle.mq_ledger.specs.Suits.{Suits}
-use Rattle.mq_ledger.proofs.Basics.{either, neither_first, neither_second}
 use Rattle.mq_ledger.proofs.LimitFacts.{cap_push_other, cap_push_newer, cap_push_older}
 use Rattle.mq_ledger.proofs.Suiting.{Opens}
 use Rattle.mq_ledger.proofs.Transactions.{entry, transaction_is, ended_push, has_retired_run_push, closed_push, held_of}
@@ -43,14 +44,6 @@ pub record Quiet (t : Transaction) (r : Request) (a : Reply) : Type 0 where
   pub no_end : (is_of t r && closes a) ≡ false
   pub no_grant : held_of t (entry r a) ≡ 0
 
-and_false : (b : Bool) → (b && false) ≡ false
-and_false true = refl
-and_false false = refl
-
-if_none : (b : Bool) (n : ℕ) → n ≡ 0 → (if b then n else 0) ≡ 0
-if_none true n h = h
-if_none false n h = refl
-
 -- a closed transaction isn't the one that is open
 not_open : (H : List Entry) (t u : Transaction) → closed H u ≡ false → closed H t ≡ true → same_transaction t u ≡ false
 not_open H t u still shut = elim (either (same_transaction t u)) [
@@ -64,16 +57,16 @@ pub moves_open_alone : (H : List Entry) (t : Transaction) (r : Request) (a : Rep
 moves_open_alone H t (Reserve id txn moment login count) (Granted id' n) s o shut =
     (let other = not_open H t (transaction id txn) o.open_still shut in record { no_end = and_false (same_transaction t (transaction id txn)); no_grant = rw other refl })
 moves_open_alone H t (Settle id txn moment login count) (Settled id' n) s o shut =
-    (let other = not_open H t (transaction id txn) o.0.open_still shut in record { no_end = rw other refl; no_grant = if_none (same_transaction t (transaction id txn)) 0 refl })
+    (let other = not_open H t (transaction id txn) o.0.open_still shut in record { no_end = rw other refl; no_grant = if_zero (same_transaction t (transaction id txn)) 0 refl })
 moves_open_alone H t (Release id txn moment login) (Released id' n) s o shut =
-    (let other = not_open H t (transaction id txn) o.open_still shut in record { no_end = rw other refl; no_grant = if_none (same_transaction t (transaction id txn)) 0 refl })
+    (let other = not_open H t (transaction id txn) o.open_still shut in record { no_end = rw other refl; no_grant = if_zero (same_transaction t (transaction id txn)) 0 refl })
 moves_open_alone H t (Reserve id txn moment login count) (Settled id' n) s o shut = absurd s
 moves_open_alone H t (Reserve id txn moment login count) (Released id' n) s o shut = absurd s
 moves_open_alone H t (Settle id txn moment login count) (Released id' n) s o shut = absurd s
 moves_open_alone H t (Release id txn moment login) (Settled id' n) s o shut = absurd s
 moves_open_alone H t (Limit id from c login) (Settled id' n) s o shut = absurd s
 moves_open_alone H t (Limit id from c login) (Released id' n) s o shut = absurd s
-moves_open_alone H t r a s o shut = record { no_end = and_false (is_of t r); no_grant = if_none (is_of t r) 0 refl }
+moves_open_alone H t r a s o shut = record { no_end = and_false (is_of t r); no_grant = if_zero (is_of t r) 0 refl }
 
 -- a retire is of no transaction
 pub retires_of_none : (t u : Transaction) (r : Request) → retires r u ≡ true → is_of t r ≡ false
@@ -93,7 +86,7 @@ settled_in_push H e t s o = elim (either (retires e.request t)) [
       let c = counted_in_push H e t in
       let g = granted_in_push H e t in
       let u : has_retired_run (H ++ e ∷ []) t ≡ true = has_retired_run_push H e t ∙ rw gone refl in
-      let x : ended (H ++ e ∷ []) t ≡ ended H t = ended_push H e t ∙ rw none (or_nothing (ended H t)) in
+      let x : ended (H ++ e ∷ []) t ≡ ended H t = ended_push H e t ∙ rw none (or_false (ended H t)) in
       elim (either (ended H t)) [
         | inl over ↦ elim (either (has_retired_run H t)) [
           | inl before ↦ rw (u, x, over, before, gone, none) (omega (arith, c, g, k, h))
@@ -110,17 +103,14 @@ settled_in_push H e t s o = elim (either (retires e.request t)) [
       elim (either (has_retired_run H t)) [
         | inr fresh ↦ rw (u, fresh, stays) (omega (arith, c))
         | inl before ↦ (let q = moves_open_alone H t e.request e.reply s o (rw before refl) in
-            let x : ended (H ++ e ∷ []) t ≡ ended H t = ended_push H e t ∙ rw q.no_end (or_nothing (ended H t)) in
+            let x : ended (H ++ e ∷ []) t ≡ ended H t = ended_push H e t ∙ rw q.no_end (or_false (ended H t)) in
             let h = q.no_grant in
             elim (either (ended H t)) [
               | inl over ↦ rw (u, x, before, over, stays) (omega (arith, c))
               | inr still ↦ rw (u, x, before, still, stays) (omega (arith, c, g, h))
             ])
       ])
-] where
-  or_nothing : (b : Bool) → (b || false) ≡ b
-  or_nothing true = refl
-  or_nothing false = refl
+]
 
 counts_where_closes : (r : Request) (a : Reply) → closes a ≡ false → counted r a ≡ 0
 counts_where_closes (Settle id txn moment login count) (Settled id' n) h = cc

@@ -5,16 +5,14 @@ use Rattle.std.specs.List.{list_any}
 use Rattle.std.specs.Option.{option_or}
 use Rattle.std.proofs.Math.Bool.{or-false}
 use Rattle.std.proofs.lemmas.List.Folds.{list_any-append, find-append}
+use Rattle.mq_lemmas.proofs.Booleans.{true_false, either}
+use Rattle.mq_lemmas.proofs.Lists.{by_pushes}
 use Rattle.mq_request.specs.declared.message.Id.{Id}
 use Rattle.mq_request.specs.declared.message.Request.{Request}
 use Rattle.mq_request.specs.Same.{same_id}
+use Rattle.mq_request.proofs.Alike.{id_is}
 use Rattle.mq_ledger.specs.Arrivals.{id_of, is_id, has_id, is_below, kept_with, first, is_first, is_first_by}
-use Rattle.mq_ledger.proofs.Basics.{either, by_pushes}
 use Rattle.mq_ledger.proofs.Numbers.{first_push, not_below_before}
-use Rattle.mq_ledger.proofs.Transactions.{id_is}
-
-never : true ≡ false → ⊥
-never q = cc
 
 -- where a number isn't below the floor, it is among those kept and one more arrival
 any_step : (id : Id) (kept : List Request) (r : Request) (o : Option Id) → id_of r ≡ o → is_below kept id ≡ false → list_any (has_id id) (kept_with kept r o) ≡ (list_any (has_id id) kept || is_id id o)
@@ -80,7 +78,7 @@ found_step id kept r (Some number) e above = elim (either (is_below kept number 
       let mine : (is_below kept id || list_any (has_id id) kept) ≡ true = ap (λ i. is_below kept i || list_any (has_id i) kept) same ∙ t in
       let known : list_any (has_id id) kept ≡ true = rw above at mine in
       let missed : list_any (has_id id) kept ≡ false = found_any id kept ∙ ap is_some h in
-      absurd (never (sym known ∙ missed))
+      absurd (true_false (sym known ∙ missed))
 
 pub first_found : (id : Id) (A : List Request) → is_below (first A) id ≡ false → find (has_id id) (first A) ≡ find (has_id id) A
 first_found id A = by_pushes (λ A. is_below (first A) id ≡ false → find (has_id id) (first A) ≡ find (has_id id) A) (λ _. refl) (λ A r h above.

@@ -3,13 +3,18 @@ use Rattle.std.proofs.Common.{◌≡◌, ℕ, ◌≤◌, List, [], ◌∷◌, �
 use Rattle.std.specs.Prelude.{◌⊎◌, nat_lt, Contains}
 use Rattle.std.proofs.lemmas.Bool.Decides.{nat_tests}
 use Rattle.std.proofs.lemmas.List.Elements.{Contains-append_left, Contains-push, Contains-push_cases}
+use Rattle.mq_lemmas.proofs.Booleans.{either}
+use Rattle.mq_lemmas.proofs.Lists.{by_pushes}
 use Rattle.mq_request.specs.declared.message.Id.{Id}
 use Rattle.mq_request.specs.declared.message.Request.{Request}
 use Rattle.mq_request.specs.declared.message.Request.TheVariants.{Reserve, Settle, Release, Limit, Usage, List as ListRequest, Retire}
 use Rattle.mq_request.specs.Same.{same_text}
+use Rattle.mq_request.proofs.Alike.{text_is, text_itself}
 use Rattle.mq_ledger.specs.Arrivals.{raised, greater, floor, IsFloor}
-use Rattle.mq_ledger.proofs.Basics.{either, text_is, text_itself, by_pushes}
 use Rattle.mq_ledger.proofs.Transactions.{floor_push, floor_none}
+
+pub greater_zero : (n : ℕ) → greater n 0 ≡ n
+greater_zero n = grind (arith, nat_tests)
 
 -- a retire of the host raises the floor to its own run
 raised_own : (h : List ℕ) (id : Id) → id.host ≡ h → raised h (Retire id) ≡ id.run

@@ -3,18 +3,21 @@ use Rattle.std.proofs.Common.{◌≡◌, ℕ, ◌+◌, ◌<◌, List, [], ◌∷
 use Rattle.std.specs.Prelude.{if◌then◌else◌, sum_by, ◌&&◌, ◌||◌, ◌==◌, not}
 use Rattle.std.specs.List.{AllByRecursion}
 use Rattle.std.proofs.lemmas.List.Sums.{sum_by_push}
+use Rattle.mq_lemmas.proofs.Numbers.{if_zero, zero_or_more, number_is}
+use Rattle.mq_lemmas.proofs.Booleans.{or_false, either, first_so, second_so, neither_first}
 use Rattle.mq_request.specs.declared.message.Id.{Id}
 use Rattle.mq_request.specs.declared.message.Request.{Request}
 use Rattle.mq_request.specs.declared.message.Request.TheVariants.{Reserve, Settle, Release, Limit, Usage, List as ListRequest, Retire}
 use Rattle.mq_request.specs.declared.message.Reply.{Reply}
 use Rattle.mq_request.specs.declared.message.Reply.TheVariants.{Granted, Settled, Released, Retired}
 use Rattle.mq_request.specs.Same.{same_text}
+use Rattle.mq_request.proofs.Alike.{text_is}
 use Rattle.mq_ledger.specs.declared.entry.Entry.{Entry}
 use Rattle.mq_ledger.specs.Answer.{answer}
 use Rattle.mq_ledger.specs.History.{Transaction, transaction, same_transaction, is_of, is_at, closes, ended, has_retired_run, retires, closed, abandoned, granted, counted, granted_in, held, concerns, is_open, is_abandoned, reserved_of, reserved, settled_of, settled, is_retired_by, reserved_by_retired, used, gained, freed, settles, IsOpenTo}
 use Rattle.mq_ledger.specs.Legal.{IsLegal}
 use Rattle.mq_ledger.specs.Suits.{Suits}
-use Rattle.mq_ledger.proofs.Basics.{either, first_so, second_so, neither_first, zero_or_more, text_is, number_is, always, sums_are, two_sums_are, sum_if}
+use Rattle.mq_ledger.proofs.Basics.{always, sums_are, two_sums_are, sum_if}
 use Rattle.mq_ledger.proofs.Entries.{moves_open_alone}
 use Rattle.mq_ledger.proofs.Ranges.{legal_good}
 use Rattle.mq_ledger.proofs.Suiting.{Opens, answer_suits, answer_opens}
@@ -26,10 +29,6 @@ or_and_nothing : (a b : Bool) → (a || (b && false)) ≡ a
 or_and_nothing true b = refl
 or_and_nothing false true = refl
 or_and_nothing false false = refl
-
-or_nothing : (a : Bool) → (a || false) ≡ a
-or_nothing true = refl
-or_nothing false = refl
 
 -- the request retires no run
 abbrev GivesNone : Request → Type 0
@@ -80,7 +79,7 @@ of_gives_none t (ListRequest d after) mine = λ u. refl
 of_gives_none t (Retire id) mine = cc
 
 closed_elsewhere : (H : List Entry) (e : Entry) (t u : Transaction) → is_of t e.request ≡ true → is_of u e.request ≡ false → closed (H ++ e ∷ []) u ≡ closed H u
-closed_elsewhere H e t u mine apart = closed_push H e u ∙ rw (of_gives_none t e.request mine u, apart) (or_nothing (closed H u))
+closed_elsewhere H e t u mine apart = closed_push H e u ∙ rw (of_gives_none t e.request mine u, apart) (or_false (closed H u))
 
 open_elsewhere : (H : List Entry) (e : Entry) (t : Transaction) → is_of t e.request ≡ true → (r : Request) → is_of t r ≡ false → is_open (H ++ e ∷ []) r ≡ is_open H r
 open_elsewhere H e t mine (Reserve id txn moment login count) other = ap not (closed_elsewhere H e t (transaction id txn) mine (of_another t (transaction id txn) e.request mine other))
@@ -142,19 +141,15 @@ reserved_ends day H e t moment login l d mine closing shut uniform =
 own_part : (day : ℕ → ℕ) (H : List Entry) (e : Entry) (l : List ℕ) (d : ℕ) → reserved day (H ++ e ∷ []) l d ≡ sum_by (reserved_of day (H ++ e ∷ []) l d) H + reserved_of day (H ++ e ∷ []) l d e
 own_part day H e l d = sum_by_push (reserved_of day (H ++ e ∷ []) l d) H e
 
-pub nothing_either_way : (b : Bool) (n : ℕ) → n ≡ 0 → (if b then n else 0) ≡ 0
-nothing_either_way true n none = none
-nothing_either_way false n none = refl
-
 quiet : (day : ℕ → ℕ) (H : List Entry) (r : Request) (a : Reply) (l : List ℕ) (d : ℕ) → closes a ≡ false → GivesNone r → granted r a ≡ 0 → reserved day (H ++ entry r a ∷ []) l d ≡ reserved day H l d
 quiet day H r a l d shut stays none =
-    let own : reserved_of day (H ++ entry r a ∷ []) l d (entry r a) ≡ 0 = nothing_either_way (concerns day l d r && is_open (H ++ entry r a ∷ []) r) (granted r a) none in
+    let own : reserved_of day (H ++ entry r a ∷ []) l d (entry r a) ≡ 0 = if_zero (concerns day l d r && is_open (H ++ entry r a ∷ []) r) (granted r a) none in
     omega (arith, own, own_part day H (entry r a) l d, reserved_stays day H (entry r a) l d shut stays)
 
 closing : (day : ℕ → ℕ) (H : List Entry) (r : Request) (a : Reply) (t : Transaction) (moment : ℕ) (login l : List ℕ) (d : ℕ) → IsUniform H → is_of t r ≡ true → closes a ≡ true → granted r a ≡ 0 → IsOpenTo moment login H t →
     reserved day (H ++ entry r a ∷ []) l d + (if same_text l login && (day moment == d) then held H t else 0) ≡ reserved day H l d
 closing day H r a t moment login l d uniform mine shuts none o =
-    let own : reserved_of day (H ++ entry r a ∷ []) l d (entry r a) ≡ 0 = nothing_either_way (concerns day l d r && is_open (H ++ entry r a ∷ []) r) (granted r a) none in
+    let own : reserved_of day (H ++ entry r a ∷ []) l d (entry r a) ≡ 0 = if_zero (concerns day l d r && is_open (H ++ entry r a ∷ []) r) (granted r a) none in
     let gone = reserved_ends day H (entry r a) t moment login l d mine shuts o.open_still (uniform t moment login o.agreed) in
     let all : reserved day (H ++ entry r a ∷ []) l d + (if same_text l login && (day moment == d) then granted_in H t else 0) ≡ reserved day H l d = omega (arith, own, gone, own_part day H (entry r a) l d) in
     rw o.open_still all
@@ -236,7 +231,7 @@ abandoned_same H r a suits o stays t =
     elim (either (has_retired_run H t)) [
       | inr fresh ↦ rw (u, fresh) refl
       | inl before ↦ (let q = moves_open_alone H t r a suits o (rw before refl) in
-          let x : ended (H ++ entry r a ∷ []) t ≡ ended H t = ended_push H (entry r a) t ∙ rw q.no_end (or_nothing (ended H t)) in
+          let x : ended (H ++ entry r a ∷ []) t ≡ ended H t = ended_push H (entry r a) t ∙ rw q.no_end (or_false (ended H t)) in
           rw (u, x) refl)
     ]
 
@@ -265,7 +260,7 @@ just_granted day H id id' txn moment login count n l d o =
     let e : Entry = entry (Reserve id txn moment login count) (Granted id' n) in
     let still : closed (H ++ e ∷ []) (transaction id txn) ≡ false = closed_same H e refl (λ u. refl) (transaction id txn) ∙ o.open_still in
     let kept : has_retired_run (H ++ e ∷ []) (transaction id txn) ≡ false = neither_first (has_retired_run (H ++ e ∷ []) (transaction id txn)) (ended (H ++ e ∷ []) (transaction id txn)) still in
-    rw kept (nothing_either_way (same_text l login && (day moment == d)) 0 refl)
+    rw kept (if_zero (same_text l login && (day moment == d)) 0 refl)
 
 plus_none : (c b : Bool) (n : ℕ) → (if c then n + (if b then 0 else 0) else 0) ≡ (if c then n else 0)
 plus_none true true n = omega arith
@@ -315,7 +310,7 @@ settled_entry day H l d (Usage login d') (Settled id' n) suits o = absurd suits
 settled_entry day H l d (ListRequest d' after) (Settled id' n) suits o = absurd suits
 settled_entry day H l d (Retire id) (Retired id') suits o = retire_settles day H id id' l d
 settled_entry day H l d (Retire id) a suits o = absurd o
-settled_entry day H l d r a suits o = settled_by day H r a l d 0 suits o (λ u. refl) (plus_none (concerns day l d r) (is_abandoned (H ++ entry r a ∷ []) r) 0 ∙ nothing_either_way (concerns day l d r) 0 refl)
+settled_entry day H l d r a suits o = settled_by day H r a l d 0 suits o (λ u. refl) (plus_none (concerns day l d r) (is_abandoned (H ++ entry r a ∷ []) r) 0 ∙ if_zero (concerns day l d r) 0 refl)
 
 pub settled_more : (day : ℕ → ℕ) (default : ℕ) (H : List Entry) (e : Entry) (l : List ℕ) (d : ℕ) → e.reply ≡ answer day default H e.request → settled day (H ++ e ∷ []) l d ≡ settled day H l d + settles day H l d e.request e.reply
 settled_more day default H e l d is =

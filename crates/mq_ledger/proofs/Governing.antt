@@ -3,9 +3,12 @@ use Rattle.std.proofs.Common.{◌≡◌, ℕ, ◌<◌, ◌≤◌, List, [], ◌�
 use Rattle.std.specs.Prelude.{if◌then◌else◌, ◌⊎◌, nat_le, Some, None}
 use Rattle.std.proofs.lemmas.Bool.Decides.{nat_tests}
 use Rattle.std.proofs.lemmas.List.Sums.{fold_push}
+use Rattle.mq_lemmas.proofs.Booleans.{either, first_so, second_so}
+use Rattle.mq_lemmas.proofs.Numbers.{le_or_lt, number_itself}
+use Rattle.mq_lemmas.proofs.Options.{some_none, some_is}
+use Rattle.mq_lemmas.proofs.Lists.{by_pushes}
 use Rattle.mq_ledger.specs.declared.entry.Entry.{Entry}
 use Rattle.mq_ledger.specs.Limits.{from_of, cap_of, sets, governs, limits, latest, cap, sets_from, set_cap}
-use Rattle.mq_ledger.proofs.Basics.{either, first_so, second_so, le_or_lt, some_none, some_is, number_itself, by_pushes}
 use Rattle.mq_ledger.proofs.LimitFacts.{cap_push_other, cap_push_newer, cap_push_older, latest_push_newer, latest_push_older, limits_other, limits_more}
 
 pub set_cap_push : (H : List Entry) (e : Entry) (l : List ℕ) (d : ℕ) → set_cap (H ++ e ∷ []) l d ≡ (if sets_from l d e then Some (cap_of e.request) else set_cap H l d)

@@ -8,6 +8,7 @@ pub mod Floors
 pub mod Freeing
 pub mod Governing
 pub mod Keeping
+pub mod Leaving
 pub mod LimitFacts
 pub mod Numbers
 pub mod Overs
@@ -17,5 +18,6 @@ pub mod Ranges
 pub mod Rules
 pub mod Suiting
 pub mod Summing
+pub mod Telling
 pub mod Transactions
 pub mod Within

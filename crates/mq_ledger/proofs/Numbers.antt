@@ -7,24 +7,23 @@ use Rattle.std.proofs.lemmas.List.Elements.{recursion_from_All, All-from_recursi
 use Rattle.std.proofs.lemmas.List.Folds.{find-append}
 use Rattle.std.proofs.lemmas.List.Sums.{fold_push}
 use Rattle.std.specs.Prelude.{All}
+use Rattle.mq_lemmas.proofs.Booleans.{either, or_second}
 use Rattle.mq_request.specs.declared.message.Id.{Id}
 use Rattle.mq_request.specs.declared.message.Request.{Request}
-use Rattle.mq_request.specs.declared.message.Request.TheVariants.{Reserve, Settle, Release, Limit, Usage, List as ListRequest, Retire}
 use Rattle.mq_request.specs.declared.message.Reply.{Reply}
 use Rattle.mq_request.specs.declared.message.Reply.TheVariants.{Old}
 use Rattle.mq_request.specs.Range.{IsRequest}
-use Rattle.mq_request.specs.Same.{same_request}
+use Rattle.mq_request.proofs.Alike.{request_itself, id_itself}
 use Rattle.mq_ledger.specs.declared.entry.Entry.{Entry}
 use Rattle.mq_ledger.specs.Answer.{answer, appended, build, stored, reply, reply_to, reply_by, known_by, with_arrival, with_arrival_by, history_of}
 use Rattle.mq_ledger.specs.Arrivals.{id_of, has_id, raised, floor, is_below, kept_with, first}
 use Rattle.mq_ledger.specs.History.{requests}
 use Rattle.mq_ledger.specs.Legal.{IsLegal}
-use Rattle.mq_ledger.proofs.Basics.{either, text_itself, number_itself}
-use Rattle.mq_ledger.proofs.Transactions.{entry, id_itself, floor_push, under_greater}
+use Rattle.mq_ledger.proofs.Transactions.{entry, floor_push, under_greater}
 
 -- First arrivals.
 
-abbrev step : List Request → Request → List Request
+abbrev pub step : List Request → Request → List Request
 step kept r = kept_with kept r (id_of r)
 
 pub first_push : (A : List Request) (r : Request) → first (A ++ r ∷ []) ≡ step (first A) r
@@ -67,7 +66,7 @@ first_all P A h = kept_steps P [] A tt h
 pub requests_push : (H : List Entry) (r : Request) (a : Reply) → requests (H ++ entry r a ∷ []) ≡ requests H ++ r ∷ []
 requests_push H r a = map-append (λ e. e.request) H (entry r a ∷ [])
 
-requests_steps : (day : ℕ → ℕ) (default : ℕ) (H : List Entry) (rs : List Request) → requests (fold (appended day default) H rs) ≡ requests H ++ rs
+pub requests_steps : (day : ℕ → ℕ) (default : ℕ) (H : List Entry) (rs : List Request) → requests (fold (appended day default) H rs) ≡ requests H ++ rs
 requests_steps day default H [] = sym (append-nil (requests H))
 requests_steps day default H (r ∷ rs) =
     requests_steps day default (appended day default H r) rs
@@ -146,10 +145,7 @@ stored_later day default A (r ∷ B) id x h =
 -- Floors rise.
 
 floor_rises : (id : Id) (kept : List Request) (r : Request) → is_below kept id ≡ true → is_below (kept ++ r ∷ []) id ≡ true
-floor_rises id kept r h = ap (nat_lt id.run) (floor_push kept r id.host) ∙ under_greater id.run (floor kept id.host) (raised id.host r) ∙ or_so (nat_lt id.run (raised id.host r)) (is_below kept id) h where
-  or_so : (a b : Bool) → b ≡ true → (a || b) ≡ true
-  or_so true b g = refl
-  or_so false b g = g
+floor_rises id kept r h = ap (nat_lt id.run) (floor_push kept r id.host) ∙ under_greater id.run (floor kept id.host) (raised id.host r) ∙ or_second (nat_lt id.run (raised id.host r)) (is_below kept id) h
 
 pub below_step : (id : Id) (kept : List Request) (r : Request) (o : Option Id) → is_below kept id ≡ true → is_below (kept_with kept r o) id ≡ true
 below_step id kept r None h = h
@@ -192,15 +188,6 @@ stored_reply_stays day default A B r id x e above h =
     reply_stored day default (history_of day default (A ++ B)) r id x e (below_of day default (A ++ B) id false above) (stored_later day default A B id x h)
     ∙ sym (reply_stored day default (history_of day default A) r id x e (below_of day default A id false (not_below_before A B id above)) h)
 
-same_itself : (r : Request) → same_request r r ≡ true
-same_itself (Reserve id txn moment login count) = rw (id_itself id, number_itself txn, number_itself moment, text_itself login, number_itself count) refl
-same_itself (Settle id txn moment login count) = rw (id_itself id, number_itself txn, number_itself moment, text_itself login, number_itself count) refl
-same_itself (Release id txn moment login) = rw (id_itself id, number_itself txn, number_itself moment, text_itself login) refl
-same_itself (Limit id from_day c login) = rw (id_itself id, number_itself from_day, number_itself c, text_itself login) refl
-same_itself (Usage login d) = rw (text_itself login, number_itself d) refl
-same_itself (ListRequest d after) = rw (number_itself d, text_itself after) refl
-same_itself (Retire id) = id_itself id
-
 stored_new : (H : List Entry) (r : Request) (a : Reply) (id : Id) → id_of r ≡ Some id → stored H id ≡ None → stored (H ++ entry r a ∷ []) id ≡ Some (entry r a)
 stored_new H r a id e none = find-append (λ x. has_id id x.request) H (entry r a ∷ []) ∙ rw (none, e, id_itself id) refl
 
@@ -217,7 +204,7 @@ arrival_is_stored day default H r id e above None h =
     let a : Reply = answer day default H r in
     let there : stored (H ++ entry r a ∷ []) id ≡ Some (entry r a) = stored_new H r a id e h in
     let before : reply day default H r ≡ a = ap (reply_to day default H r) e ∙ rw above (ap (reply_by day default H r id) h) in
-    let now : is_below (requests (H ++ entry r a ∷ [])) id ≡ false → reply day default (H ++ entry r a ∷ []) r ≡ a = λ still. reply_stored day default (H ++ entry r a ∷ []) r id (entry r a) e still there ∙ rw (same_itself r) refl in
+    let now : is_below (requests (H ++ entry r a ∷ [])) id ≡ false → reply day default (H ++ entry r a ∷ []) r ≡ a = λ still. reply_stored day default (H ++ entry r a ∷ []) r id (entry r a) e still there ∙ rw (request_itself r) refl in
     rw (above, h) (record { found = entry r a; there = there; same = λ still. now still ∙ sym before })
 
 -- the reply to a numbered request is the same whenever it comes again until it is retired

@@ -3,6 +3,10 @@ use Rattle.std.proofs.Common.{◌≡◌, ℕ, ◌+◌, false, ◌<◌, ◌≤◌
 use Rattle.std.specs.Prelude.{nat_lt, nat_le, Bool, filter, ◌&&◌, ◌==◌, ◌⊎◌, if◌then◌else◌}
 use Rattle.std.proofs.lemmas.Bool.Decides.{nat_tests}
 use Rattle.std.proofs.lemmas.List.Elements.{filter_map-append}
+use Rattle.mq_lemmas.proofs.Booleans.{either, first_so, second_so}
+use Rattle.mq_lemmas.proofs.Options.{option_cases, some_none, some_is}
+use Rattle.mq_lemmas.proofs.Numbers.{le_or_lt, zero_or_more, number_is}
+use Rattle.mq_lemmas.proofs.Lists.{In, in_filter}
 use Rattle.mq_request.specs.declared.message.Request.{Request}
 use Rattle.mq_request.specs.declared.message.Request.TheVariants.{Reserve, Settle}
 use Rattle.mq_request.specs.declared.message.Reply.{Reply}
@@ -11,7 +15,7 @@ use Rattle.mq_request.specs.Same.{same_text}
 use Rattle.mq_ledger.specs.declared.entry.Entry.{Entry}
 use Rattle.mq_ledger.specs.History.{concerns, granted, counted, is_open, is_abandoned, reserved_of, settled_of, reserved, used}
 use Rattle.mq_ledger.specs.Over.{day_from, days_from, lesser, least, over, IsLeastOver}
-use Rattle.mq_ledger.proofs.Basics.{either, first_so, second_so, option_cases, some_none, some_is, le_or_lt, zero_or_more, number_is, In, in_filter, filter_in, in_filter_map, filter_map_in, some_part}
+use Rattle.mq_ledger.proofs.Basics.{filter_in, in_filter_map, filter_map_in, some_part}
 
 -- The least of a list.
 

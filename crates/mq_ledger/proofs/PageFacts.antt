@@ -4,9 +4,12 @@ use Rattle.std.specs.Prelude.{◌⊎◌, Contains}
 use Rattle.std.specs.List.{AllByRecursion, list_any}
 use Rattle.std.proofs.lemmas.List.{length-take}
 use Rattle.std.proofs.lemmas.List.Elements.{recursion_from_All, All-from_recursion}
+use Rattle.mq_lemmas.proofs.Booleans.{either}
+use Rattle.mq_lemmas.proofs.Lists.{In, all_of, all_at, all_push}
+use Rattle.mq_request.proofs.Alike.{text_is, text_itself}
 use Rattle.mq_ledger.specs.declared.entry.Entry.{Entry}
 use Rattle.mq_ledger.specs.Page.{below, login_on, logins_on, logins_above, page, IsAscending, is_login, has_reserve, IsLoginPage}
-use Rattle.mq_ledger.proofs.Basics.{either, text_is, text_itself, In, all_of, all_at, all_push, in_filter_map, filter_map_in}
+use Rattle.mq_ledger.proofs.Basics.{in_filter_map, filter_map_in}
 use Rattle.mq_ledger.proofs.Pages.{below_trans, not_below_itself, same_ascending, above_ascending, IsAbove, above_in, in_above}
 
 -- Members by place.

@@ -10,17 +10,20 @@ use Rattle.std.specs.declared.cmp.Ordering.TheVariants.{Less, Equal, Greater}
 use Rattle.std.proofs.lemmas.Cmp.{nat_list_cmp_total}
 use Rattle.std.proofs.lemmas.List.Elements.{filter-append, filter_map-append}
 use Rattle.std.proofs.lemmas.List.Sums.{fold_push}
+use Rattle.mq_lemmas.proofs.Booleans.{either}
+use Rattle.mq_lemmas.proofs.Options.{some_none, some_is}
+use Rattle.mq_lemmas.proofs.Lists.{In, all_of, all_at, in_filter}
 use Rattle.mq_request.specs.declared.usage.UsageRow.{UsageRow}
 use Rattle.mq_ledger.specs.declared.entry.Entry.{Entry}
 use Rattle.mq_ledger.specs.Page.{below, login_on, logins_on, put, nearer, ascending, logins_above, page, IsAscending}
-use Rattle.mq_ledger.proofs.Basics.{either, some_none, some_is, In, all_of, all_at, in_filter, filter_in}
+use Rattle.mq_ledger.proofs.Basics.{filter_in}
 
 -- Byte order.
 
-order : IsTotalOrder (slice_cmp nat_cmp)
+pub order : IsTotalOrder (slice_cmp nat_cmp)
 order = nat_list_cmp_total
 
-lt_is : (c : Ordering) → is_lt c ≡ true → c ≡ Less
+pub lt_is : (c : Ordering) → is_lt c ≡ true → c ≡ Less
 lt_is Less h = refl
 lt_is Equal h = cc
 lt_is Greater h = cc
@@ -28,21 +31,21 @@ lt_is Greater h = cc
 pub below_trans : (a b c : List ℕ) → below a b ≡ true → below b c ≡ true → below a c ≡ true
 below_trans a b c h g = ap is_lt (order.trans a b c (lt_is _ h) (lt_is _ g))
 
-same_order : (a b : List ℕ) → slice_cmp nat_cmp a b ≡ Equal → a ≡ b
+pub same_order : (a b : List ℕ) → slice_cmp nat_cmp a b ≡ Equal → a ≡ b
 same_order a b h = (let e : eq_by_cmp (slice_cmp nat_cmp) a b ≡ true = rw h refl in (bytes_decides a b).0 (texts_ties a b ∙ e))
 
 -- of two logins one is below the other, or they are one
-data Order (a b : List ℕ) : Type 0 where
+pub data Order (a b : List ℕ) : Type 0 where
   Before : below a b ≡ true → Order a b
   Same : a ≡ b → Order a b
   After : below b a ≡ true → Order a b
 
-order_by : (a b : List ℕ) (c : Ordering) → slice_cmp nat_cmp a b ≡ c → Order a b
+pub order_by : (a b : List ℕ) (c : Ordering) → slice_cmp nat_cmp a b ≡ c → Order a b
 order_by a b Less h = Before (ap is_lt h)
 order_by a b Equal h = Same (same_order a b h)
 order_by a b Greater h = After (ap is_lt (order.antisymm b a ∙ ap ordering_reverse h))
 
-ordered : (a b : List ℕ) → Order a b
+pub ordered : (a b : List ℕ) → Order a b
 ordered a b = order_by a b _ refl
 
 not_itself : (c : Ordering) → c ≡ ordering_reverse c → is_lt c ≡ true → ⊥

@@ -1,10 +1,13 @@
 -- The answers over a history of requests in range are in range.
 use Rattle.std.proofs.Common.{◌≡◌, ℕ, ◌+◌, ◌≤◌, List, [], ◌∷◌, map, Bool, true, false, Some, None, Option, refl, sym, subst, inl, inr, arith}
-use Rattle.std.specs.Prelude.{filter, fold, nat_lt, nat_le, not, ◌==◌, ◌&&◌, if◌then◌else◌}
+use Rattle.std.specs.Prelude.{fold, nat_lt, nat_le, not, ◌==◌, ◌&&◌, if◌then◌else◌}
 use Rattle.std.specs.List.{AllByRecursion}
 use Rattle.std.proofs.lemmas.Bool.Decides.{nat_tests}
 use Rattle.std.proofs.lemmas.List.Elements.{recursion_from_All, All-from_recursion, All-map}
 use Rattle.std.proofs.lemmas.List.{length-map}
+use Rattle.mq_lemmas.proofs.Booleans.{either, neither_second}
+use Rattle.mq_lemmas.proofs.Options.{some_none, some_is}
+use Rattle.mq_lemmas.proofs.Lists.{all_of, all_at, all_push, all_filter}
 use Rattle.mq_request.specs.declared.message.Id.{Id}
 use Rattle.mq_request.specs.declared.message.Request.{Request}
 use Rattle.mq_request.specs.declared.message.Request.TheVariants.{Reserve, Settle, Release, Limit, Usage, List as ListRequest, Retire}
@@ -21,7 +24,7 @@ use Rattle.mq_ledger.specs.Legal.{IsLegal}
 use Rattle.mq_ledger.specs.Limits.{cap, cap_of, from_of, governs, limits, latest, last_cap}
 use Rattle.mq_ledger.specs.Over.{day_from, over}
 use Rattle.mq_ledger.specs.Page.{page, row, login_on}
-use Rattle.mq_ledger.proofs.Basics.{either, neither_second, some_none, some_is, all_of, all_at, all_push, filter_in, filter_map_in}
+use Rattle.mq_ledger.proofs.Basics.{filter_in, filter_map_in}
 use Rattle.mq_ledger.proofs.Overs.{least_in}
 use Rattle.mq_ledger.proofs.PageFacts.{page_few, in_page}
 use Rattle.mq_ledger.proofs.Transactions.{entry, transaction_itself, used_is, held_goes}
@@ -48,13 +51,9 @@ last_cap_fits : (default : ℕ) (es : List Entry) → default ≤ 1000000 → Ar
 last_cap_fits default [] low all = low
 last_cap_fits default (e ∷ es) low all = last_cap_fits (cap_of e.request) es (cap_of_fits e.request all.0) all.1
 
-filter_all : {X : Type 0} (P : X → Type 0) (p : X → Bool) (xs : List X) → AllByRecursion P xs → AllByRecursion P (filter p xs)
-filter_all P p [] all = tt
-filter_all P p (x ∷ xs) all = elim (either (p x)) [ inl t ↦ rw t (all.0, filter_all P p xs all.1) | inr f ↦ rw f (filter_all P p xs all.1) ]
-
 pub cap_fits : (default : ℕ) (H : List Entry) → default ≤ 1000000 → AreRequests H → (l : List ℕ) (d : ℕ) → cap default H l d ≤ 1000000
 cap_fits default H low all l d =
-    last_cap_fits default _ low (filter_all (λ e. IsRequest e.request) (λ e. from_of e.request == latest (limits H l d)) (limits H l d) (filter_all (λ e. IsRequest e.request) (governs l d) H all))
+    last_cap_fits default _ low (all_filter (λ e. IsRequest e.request) (λ e. from_of e.request == latest (limits H l d)) (limits H l d) (all_filter (λ e. IsRequest e.request) (governs l d) H all))
 
 -- A history whose requests, default and days are in range, as it was built.
 pub record IsRanged (day : ℕ → ℕ) (default : ℕ) (H : List Entry) : Type 0 where
@@ -214,7 +213,7 @@ stored_range (e ∷ H) id x all h = elim (either (has_id id e.request)) [
 ]
 
 -- a request in range has a number in range
-id_range : (r : Request) (id : Id) → IsRequest r → id_of r ≡ Some id → IsId id
+pub id_range : (r : Request) (id : Id) → IsRequest r → id_of r ≡ Some id → IsId id
 id_range (Reserve id' txn moment login count) id h e = subst IsId (some_is _ _ e) h.0
 id_range (Settle id' txn moment login count) id h e = subst IsId (some_is _ _ e) h.0
 id_range (Release id' txn moment login) id h e = subst IsId (some_is _ _ e) h.0

@@ -3,12 +3,17 @@ use Rattle.std.proofs.Common.{◌≡◌, ℕ, ◌+◌, ◌<◌, ◌≤◌, List,
 use Rattle.std.specs.Prelude.{if◌then◌else◌, sum_by, fold, ◌&&◌, ◌==◌, ◌⊎◌, not, Some, None, is_some}
 use Rattle.std.specs.List.{AllByRecursion, list_any}
 use Rattle.std.proofs.lemmas.List.Sums.{sum_by-cons}
+use Rattle.mq_lemmas.proofs.Booleans.{either, both_so, first_so, second_so, neither_first, neither_second}
+use Rattle.mq_lemmas.proofs.Options.{option_cases, some_none, some_is}
+use Rattle.mq_lemmas.proofs.Numbers.{zero_or_more, number_is, number_itself, if_zero}
+use Rattle.mq_lemmas.proofs.Lists.{In, all_of, all_at}
 use Rattle.mq_request.specs.declared.message.Request.{Request}
 use Rattle.mq_request.specs.declared.message.Request.TheVariants.{Reserve, Settle, Release, Limit, Usage, List as ListRequest, Retire}
 use Rattle.mq_request.specs.declared.message.Reply.{Reply}
 use Rattle.mq_request.specs.declared.message.Reply.TheVariants.{Granted, Settled}
 use Rattle.mq_request.specs.Range.{IsAmount}
 use Rattle.mq_request.specs.Same.{same_text}
+use Rattle.mq_request.proofs.Alike.{text_itself}
 use Rattle.mq_ledger.specs.declared.entry.Entry.{Entry}
 use Rattle.mq_ledger.specs.Answer.{answer, appended}
 use Rattle.mq_ledger.specs.History.{requests, Transaction, transaction, same_transaction, is_of, is_at, ended, has_retired_run, closed, abandoned, named, agrees, granted, counted, granted_in, counted_in, held, settled_in, concerns, is_open, is_abandoned, reserved_of, settled_of, reserved, settled, used}
@@ -17,9 +22,9 @@ use Rattle.mq_ledger.specs.Legal.{IsLegal}
 use Rattle.mq_ledger.specs.Limits.{cap}
 use Rattle.mq_ledger.specs.Page.{is_login, login_on, has_reserve}
 use Rattle.mq_ledger.specs.Sums.{is_for, names_for, held_on, settled_on, AreDistinct, HasAllNamed}
-use Rattle.mq_ledger.proofs.Basics.{either, both_so, first_so, second_so, neither_first, neither_second, option_cases, some_none, some_is, zero_or_more, text_itself, number_is, number_itself, In, all_of, all_at, always, sums_le, sums_are, two_sums_are, sum_of_none, sum_if, sums_swap, some_part}
+use Rattle.mq_ledger.proofs.Basics.{always, sums_le, sums_are, two_sums_are, sum_of_none, sum_if, sums_swap, some_part}
 use Rattle.mq_ledger.proofs.Entries.{counted_of, granted_in_push, counted_in_push, unended_counted, unheard_held, unheard_settled}
-use Rattle.mq_ledger.proofs.Freeing.{of_another, concerned, nothing_either_way}
+use Rattle.mq_ledger.proofs.Freeing.{of_another, concerned}
 use Rattle.mq_ledger.proofs.Ranges.{legal_good, legal_ranged, used_fits, cap_fits}
 use Rattle.mq_ledger.proofs.Suiting.{Opens, answer_opens}
 use Rattle.mq_ledger.proofs.Transactions.{entry, transaction_is, transaction_itself, moved, held_of, IsUniformAt, IsUniform}
@@ -141,9 +146,9 @@ open_mine H t r a some mine = absurd (omega arith)
 held_cell : (day : ℕ → ℕ) (H : List Entry) (l : List ℕ) (d : ℕ) (t : Transaction) (moment : ℕ) (login : List ℕ) (x : Entry) → IsUniformAt t moment login x →
     cell (reserved_of day H l d) t x ≡ (if (same_text l login && (day moment == d)) && not (closed H t) then held_of t x else 0)
 held_cell day H l d t moment login x uniform = elim (either (is_of t x.request)) [
-  | inr other ↦ rw other (sym (nothing_either_way ((same_text l login && (day moment == d)) && not (closed H t)) 0 refl))
+  | inr other ↦ rw other (sym (if_zero ((same_text l login && (day moment == d)) && not (closed H t)) 0 refl))
   | inl mine ↦ elim (zero_or_more (granted x.request x.reply)) [
-    | inl none ↦ rw (mine, none) (nothing_either_way (concerns day l d x.request && is_open H x.request) 0 refl ∙ sym (nothing_either_way ((same_text l login && (day moment == d)) && not (closed H t)) 0 refl))
+    | inl none ↦ rw (mine, none) (if_zero (concerns day l d x.request && is_open H x.request) 0 refl ∙ sym (if_zero ((same_text l login && (day moment == d)) && not (closed H t)) 0 refl))
     | inr some ↦ (let c = concerned day moment login x.request x.reply (omega (arith, some)) (uniform mine (omega (arith, some))) l d in
         rw (mine, c, open_mine H t x.request x.reply some mine) refl)
   ]
@@ -169,8 +174,8 @@ held_cells day H l d uniform t = elim (option_cases (named H t)) [
 -- a granted reserve of the transaction is abandoned with it
 abandoned_mine : (H : List Entry) (t : Transaction) (r : Request) (a : Reply) → is_of t r ≡ true → (if is_abandoned H r then granted r a else 0) ≡ (if abandoned H t then granted r a else 0)
 abandoned_mine H t (Reserve id txn moment login count) a mine = (let same = transaction_is t (transaction id txn) mine in ap (λ (u : Transaction). if abandoned H u then granted (Reserve id txn moment login count) a else 0) (sym same))
-abandoned_mine H t (Settle id txn moment login count) a mine = sym (nothing_either_way (abandoned H t) 0 refl)
-abandoned_mine H t (Release id txn moment login) a mine = sym (nothing_either_way (abandoned H t) 0 refl)
+abandoned_mine H t (Settle id txn moment login count) a mine = sym (if_zero (abandoned H t) 0 refl)
+abandoned_mine H t (Release id txn moment login) a mine = sym (if_zero (abandoned H t) 0 refl)
 abandoned_mine H t (Limit id from c login) a mine = cc
 abandoned_mine H t (Usage login d) a mine = cc
 abandoned_mine H t (ListRequest d after) a mine = cc
@@ -233,7 +238,7 @@ all_count v H ts none_of has = all_of (CountsIn v ts) H (λ x i. (elim (zero_or_
 ]))
 
 reserved_none : (day : ℕ → ℕ) (H : List Entry) (l : List ℕ) (d : ℕ) (x : Entry) → moved x.request x.reply ≡ 0 → reserved_of day H l d x ≡ 0
-reserved_none day H l d x none = nothing_either_way (concerns day l d x.request && is_open H x.request) (granted x.request x.reply) (omega (arith, none))
+reserved_none day H l d x none = if_zero (concerns day l d x.request && is_open H x.request) (granted x.request x.reply) (omega (arith, none))
 
 settled_none : (day : ℕ → ℕ) (H : List Entry) (l : List ℕ) (d : ℕ) (x : Entry) → moved x.request x.reply ≡ 0 → settled_of day H l d x ≡ 0
 settled_none day H l d x none = nothing_at_all (concerns day l d x.request) (is_abandoned H x.request) (counted x.request x.reply) (granted x.request x.reply) (omega (arith, none)) (omega (arith, none))
@@ -314,7 +319,7 @@ none_concerns day l d x none some = elim (either (concerns day l d x.request)) [
 
 reserved_of_none : (day : ℕ → ℕ) (H : List Entry) (l : List ℕ) (d : ℕ) (x : Entry) → HasNone day l d x → reserved_of day H l d x ≡ 0
 reserved_of_none day H l d x none = elim (zero_or_more (granted x.request x.reply)) [
-  | inl zero_granted ↦ nothing_either_way (concerns day l d x.request && is_open H x.request) (granted x.request x.reply) zero_granted
+  | inl zero_granted ↦ if_zero (concerns day l d x.request && is_open H x.request) (granted x.request x.reply) zero_granted
   | inr some ↦ rw (none_concerns day l d x none some) refl
 ]
 
@@ -342,7 +347,7 @@ backed_push H (Settle id txn moment login count) (Settled id' n) o backed = λ u
       | inr apart ↦ (let own : counted_of u e ≡ 0 = rw apart refl in omega (arith, own, backed u, counted_in_push H e u, granted_in_push H e u))
     ]
 backed_push H r a o backed = λ u.
-    let own : counted_of u (entry r a) ≡ 0 = nothing_either_way (is_of u r) 0 refl in
+    let own : counted_of u (entry r a) ≡ 0 = if_zero (is_of u r) 0 refl in
     omega (arith, own, backed u, counted_in_push H (entry r a) u, granted_in_push H (entry r a) u)
 
 backed_all : (day : ℕ → ℕ) (default : ℕ) (H : List Entry) (rs : List Request) → IsBacked H → IsBacked (fold (appended day default) H rs)

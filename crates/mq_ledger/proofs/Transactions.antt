@@ -7,16 +7,20 @@ use Rattle.std.proofs.lemmas.Bool.Decides.{nat_tests}
 use Rattle.std.proofs.lemmas.List.{map-append}
 use Rattle.std.proofs.lemmas.List.Folds.{list_any-append, find-append}
 use Rattle.std.proofs.lemmas.List.Sums.{fold_push}
-use Rattle.mq_request.specs.declared.message.Id.{Id}
+use Rattle.mq_lemmas.proofs.Booleans.{or_second, either, first_so, second_so, both_so}
+use Rattle.mq_lemmas.proofs.Options.{option_cases}
+use Rattle.mq_lemmas.proofs.Numbers.{zero_or_more, number_is, number_itself}
+use Rattle.mq_lemmas.proofs.Lists.{all_push}
 use Rattle.mq_request.specs.declared.message.Request.{Request}
 use Rattle.mq_request.specs.declared.message.Request.TheVariants.{Reserve, Settle, Release, Limit, Usage, List as ListRequest, Retire}
 use Rattle.mq_request.specs.declared.message.Reply.{Reply}
 use Rattle.mq_request.specs.declared.message.Reply.TheVariants.{Granted, Settled}
-use Rattle.mq_request.specs.Same.{same_text, same_id}
+use Rattle.mq_request.specs.Same.{same_text}
+use Rattle.mq_request.proofs.Alike.{text_is, text_itself}
 use Rattle.mq_ledger.specs.declared.entry.Entry.{Entry}
 use Rattle.mq_ledger.specs.Arrivals.{raised, greater, floor}
 use Rattle.mq_ledger.specs.History.{requests, Transaction, transaction, same_transaction, is_of, is_at, closes, ended, has_retired_run, retires, closed, named, agrees, granted, granted_in, counted, concerns, reserved_of, settled_of, used}
-use Rattle.mq_ledger.proofs.Basics.{either, first_so, second_so, both_so, option_cases, zero_or_more, text_is, text_itself, number_is, number_itself, all_push, always, sums_le, two_sums_le, two_sums_are}
+use Rattle.mq_ledger.proofs.Basics.{always, sums_le, two_sums_le, two_sums_are}
 
 abbrev pub entry : Request → Reply → Entry
 entry r a = record { request = r; reply = a }
@@ -32,16 +36,6 @@ transaction_is t u h =
 
 pub transaction_itself : (t : Transaction) → same_transaction t t ≡ true
 transaction_itself t = rw (text_itself t.host, number_itself t.run, number_itself t.txn) refl
-
-pub id_is : (a b : Id) → same_id a b ≡ true → a ≡ b
-id_is a b h =
-    let host : a.host ≡ b.host = text_is _ _ (first_so (same_text a.host b.host) _ h) in
-    let run : a.run ≡ b.run = number_is _ _ (first_so (a.run == b.run) (a.number == b.number) (second_so (same_text a.host b.host) _ h)) in
-    let number : a.number ≡ b.number = number_is _ _ (second_so (a.run == b.run) (a.number == b.number) (second_so (same_text a.host b.host) _ h)) in
-    λ i. record { host = host i; run = run i; number = number i }
-
-pub id_itself : (a : Id) → same_id a a ≡ true
-id_itself a = rw (text_itself a.host, number_itself a.run, number_itself a.number) refl
 
 -- One more entry.
 
@@ -229,13 +223,9 @@ ended_now H e t u same mine closing = let P : Transaction → Type 0 = λ v. not
 unended_then : (H : List Entry) (t u : Transaction) → t ≡ u → ended H t ≡ false → not (ended H u) ≡ true
 unended_then H t u same f = let P : Transaction → Type 0 = λ v. not (ended H v) ≡ true in subst P same (ap not f)
 
-or_true : (a b : Bool) → b ≡ true → (a || b) ≡ true
-or_true true b h = refl
-or_true false b h = h
-
 pub closed_now : (H : List Entry) (e : Entry) (t u : Transaction) → t ≡ u → is_of t e.request ≡ true → closes e.reply ≡ true → not (closed (H ++ e ∷ []) u) ≡ false
 closed_now H e t u same mine closing =
-    let shut : closed (H ++ e ∷ []) t ≡ true = or_true (has_retired_run (H ++ e ∷ []) t) (ended (H ++ e ∷ []) t) (ended_push H e t ∙ or_true (ended H t) (is_of t e.request && closes e.reply) (both_so (is_of t e.request) (closes e.reply) mine closing)) in
+    let shut : closed (H ++ e ∷ []) t ≡ true = or_second (has_retired_run (H ++ e ∷ []) t) (ended (H ++ e ∷ []) t) (ended_push H e t ∙ or_second (ended H t) (is_of t e.request && closes e.reply) (both_so (is_of t e.request) (closes e.reply) mine closing)) in
     let P : Transaction → Type 0 = λ v. not (closed (H ++ e ∷ []) v) ≡ false in subst P same (ap not shut)
 
 pub open_then : (H : List Entry) (t u : Transaction) → t ≡ u → closed H t ≡ false → not (closed H u) ≡ true

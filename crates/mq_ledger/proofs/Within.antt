@@ -4,18 +4,20 @@ use Rattle.std.specs.Prelude.{if◌then◌else◌, nat_lt, nat_le, sum_by, fold,
 use Rattle.std.specs.List.{AllByRecursion}
 use Rattle.std.proofs.lemmas.Bool.Decides.{nat_tests}
 use Rattle.std.proofs.lemmas.List.Sums.{sum_by_push}
+use Rattle.mq_lemmas.proofs.Booleans.{either, first_so, second_so, neither_second}
+use Rattle.mq_lemmas.proofs.Numbers.{le_or_lt, number_is}
 use Rattle.mq_request.specs.declared.message.Id.{Id}
 use Rattle.mq_request.specs.declared.message.Request.{Request}
 use Rattle.mq_request.specs.declared.message.Request.TheVariants.{Reserve, Settle, Release, Limit, Usage, List as ListRequest, Retire}
 use Rattle.mq_request.specs.declared.message.Reply.{Reply}
 use Rattle.mq_request.specs.declared.message.Reply.TheVariants.{Granted, Full, Settled, Released, LimitSet, Closed, Mismatch, TooMany}
 use Rattle.mq_request.specs.Same.{same_text}
+use Rattle.mq_request.proofs.Alike.{text_is}
 use Rattle.mq_ledger.specs.declared.entry.Entry.{Entry}
 use Rattle.mq_ledger.specs.Answer.{set_or_over, appended, build}
 use Rattle.mq_ledger.specs.History.{Transaction, transaction, ended, has_retired_run, closed, named, agrees, granted, granted_in, counted, held, used}
 use Rattle.mq_ledger.specs.Limits.{governs, latest, limits, cap}
 use Rattle.mq_ledger.specs.Over.{over}
-use Rattle.mq_ledger.proofs.Basics.{either, first_so, second_so, neither_second, le_or_lt, text_is, number_is}
 use Rattle.mq_ledger.proofs.LimitFacts.{cap_push_other, cap_push_newer, cap_push_older}
 use Rattle.mq_ledger.proofs.Overs.{over_least}
 use Rattle.mq_ledger.proofs.Transactions.{entry, transaction_itself, unended_of, counted_for, unended, counted_on, used_is, unended_falls, IsUniformAt, IsUniform, IsAgreed, uniform_push, held_goes}

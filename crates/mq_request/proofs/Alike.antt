@@ -2,34 +2,18 @@
 use Rattle.std.proofs.Common.{◌≡◌, ℕ, Bool, true, false, List, refl, subst}
 use Rattle.std.specs.Prelude.{◌==◌, ◌&&◌}
 use Rattle.std.specs.Cmp.Lexicographic.{bytes_decides}
-use Rattle.std.proofs.lemmas.Bool.Decides.{Decides-eqb}
+use Rattle.mq_lemmas.proofs.Booleans.{first_so, second_so, both_so}
+use Rattle.mq_lemmas.proofs.Numbers.{number_is, number_itself}
 use Rattle.mq_request.specs.Same.{same_text, same_id, same_request}
 use Rattle.mq_request.specs.declared.message.Id.{Id}
 use Rattle.mq_request.specs.declared.message.Request.{Request}
 use Rattle.mq_request.specs.declared.message.Request.TheVariants.{Reserve, Settle, Release, Limit, Usage, List as ListRequest, Retire}
 
-first_so : (a b : Bool) → (a && b) ≡ true → a ≡ true
-first_so true b h = refl
-first_so false b h = h
-
-second_so : (a b : Bool) → (a && b) ≡ true → b ≡ true
-second_so true b h = h
-second_so false b h = cc
-
-both_so : (a b : Bool) → a ≡ true → b ≡ true → (a && b) ≡ true
-both_so a b h g = rw (h, g) refl
-
-text_is : (a b : List ℕ) → same_text a b ≡ true → a ≡ b
+pub text_is : (a b : List ℕ) → same_text a b ≡ true → a ≡ b
 text_is a b h = (bytes_decides a b).0 h
 
-text_alike : (a : List ℕ) → same_text a a ≡ true
-text_alike a = (bytes_decides a a).1 refl
-
-number_is : (a b : ℕ) → (a == b) ≡ true → a ≡ b
-number_is a b h = (Decides-eqb a b).0 h
-
-number_alike : (a : ℕ) → (a == a) ≡ true
-number_alike a = (Decides-eqb a a).1 refl
+pub text_itself : (a : List ℕ) → same_text a a ≡ true
+text_itself a = (bytes_decides a a).1 refl
 
 id_of : (a b : Id) → a.host ≡ b.host → a.run ≡ b.run → a.number ≡ b.number → a ≡ b
 id_of a b p q r = λ i. record { host = p i; run = q i; number = r i }
@@ -39,11 +23,11 @@ id_is a b h =
     let rest = second_so (same_text a.host b.host) ((a.run == b.run) && (a.number == b.number)) h in
     id_of a b (text_is a.host b.host (first_so (same_text a.host b.host) ((a.run == b.run) && (a.number == b.number)) h)) (number_is a.run b.run (first_so (a.run == b.run) (a.number == b.number) rest)) (number_is a.number b.number (second_so (a.run == b.run) (a.number == b.number) rest))
 
-id_alike : (a : Id) → same_id a a ≡ true
-id_alike a = both_so (same_text a.host a.host) ((a.run == a.run) && (a.number == a.number)) (text_alike a.host) (both_so (a.run == a.run) (a.number == a.number) (number_alike a.run) (number_alike a.number))
+pub id_itself : (a : Id) → same_id a a ≡ true
+id_itself a = both_so (same_text a.host a.host) ((a.run == a.run) && (a.number == a.number)) (text_itself a.host) (both_so (a.run == a.run) (a.number == a.number) (number_itself a.run) (number_itself a.number))
 
 pub same_from_id : (a b : Id) → a ≡ b → same_id a b ≡ true
-same_from_id a b e = subst (λ (x : Id). same_id a x ≡ true) e (id_alike a)
+same_from_id a b e = subst (λ (x : Id). same_id a x ≡ true) e (id_itself a)
 
 five_so : (a b c d e : Bool) → (a && (b && (c && (d && e)))) ≡ true → (a ≡ true) × (b ≡ true) × (c ≡ true) × (d ≡ true) × (e ≡ true)
 five_so true true true true e h = (refl, refl, refl, refl, h)
@@ -102,14 +86,14 @@ request_is (Retire i) (Retire i') h =
     cc
 request_is _ _ h = absurd cc
 
-request_alike : (a : Request) → same_request a a ≡ true
-request_alike (Reserve i t moment l n) = rw (id_alike i, number_alike t, number_alike moment, text_alike l, number_alike n) refl
-request_alike (Settle i t moment l n) = rw (id_alike i, number_alike t, number_alike moment, text_alike l, number_alike n) refl
-request_alike (Release i t moment l) = rw (id_alike i, number_alike t, number_alike moment, text_alike l) refl
-request_alike (Limit i d cap l) = rw (id_alike i, number_alike d, number_alike cap, text_alike l) refl
-request_alike (Usage l d) = rw (text_alike l, number_alike d) refl
-request_alike (ListRequest d l) = rw (number_alike d, text_alike l) refl
-request_alike (Retire i) = rw (id_alike i) refl
+pub request_itself : (a : Request) → same_request a a ≡ true
+request_itself (Reserve i t moment l n) = rw (id_itself i, number_itself t, number_itself moment, text_itself l, number_itself n) refl
+request_itself (Settle i t moment l n) = rw (id_itself i, number_itself t, number_itself moment, text_itself l, number_itself n) refl
+request_itself (Release i t moment l) = rw (id_itself i, number_itself t, number_itself moment, text_itself l) refl
+request_itself (Limit i d cap l) = rw (id_itself i, number_itself d, number_itself cap, text_itself l) refl
+request_itself (Usage l d) = rw (text_itself l, number_itself d) refl
+request_itself (ListRequest d l) = rw (number_itself d, text_itself l) refl
+request_itself (Retire i) = rw (id_itself i) refl
 
 pub same_from_request : (a b : Request) → a ≡ b → same_request a b ≡ true
-same_from_request a b e = subst (λ (x : Request). same_request a x ≡ true) e (request_alike a)
+same_from_request a b e = subst (λ (x : Request). same_request a x ≡ true) e (request_itself a)

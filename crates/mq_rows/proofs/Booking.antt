@@ -10,7 +10,10 @@ use Rattle.std.specs.Option.{option_or}
 use Rattle.std.specs.Ordering.{is_eq, int_eq, nat_cmp, int_cmp}
 use Rattle.std.proofs.lemmas.Int.{ints}
 use Rattle.std.proofs.lemmas.List.Folds.{find-append}
+use Rattle.mq_lemmas.proofs.Booleans.{either, or_true, or_false}
+use Rattle.mq_lemmas.proofs.Lists.{In}
 use Rattle.mq_request.specs.Same.{same_text}
+use Rattle.mq_request.proofs.Alike.{text_is, text_itself}
 use Rattle.mq_rows.specs.declared.audited.Pair.{Pair}
 use Rattle.mq_rows.specs.declared.audited.TransactionFigures.{TransactionFigures}
 use Rattle.mq_rows.specs.declared.books.Day.{Day}
@@ -18,8 +21,6 @@ use Rattle.mq_rows.specs.declared.books.Sums.{Sums}
 use Rattle.mq_rows.specs.Audit.{total, transactions_of, is_moment_of}
 use Rattle.mq_rows.specs.Books.{day_or, sums_of, with_row, HasPairs}
 use Rattle.mq_rows.specs.Pair.{pair_cmp, same_pair}
-use Rattle.mq_rows.proofs.Lists.{either, text_is, text_itself}
-use Rattle.mq_rows.proofs.Rightness.{In}
 
 -- Pairs.
 
@@ -144,14 +145,6 @@ module _ (q : Pair) (d : Day) (old new : Pair → Option Day) (updates : (p : Pa
         let other : same_pair p q ≡ false = sym (pair_tied p q) ∙ f in
         ap is_some here ∙ had p ∙ sym (longer p ∙ ap (λ b. list_any (same_pair p) ps || b) other ∙ or_false (list_any (same_pair p) ps)))
   ]
-    where
-      or_true : (b : Bool) → (b || true) ≡ true
-      or_true true = refl
-      or_true false = refl
-
-      or_false : (b : Bool) → (b || false) ≡ b
-      or_false true = refl
-      or_false false = refl
 
 any_joined : {X : Type 0} (p : X → Bool) (xs ys : List X) → list_any p (xs ++ ys) ≡ (list_any p xs || list_any p ys)
 any_joined p [] ys = refl
@@ -159,10 +152,6 @@ any_joined p (x ∷ xs) ys = elim (either (p x)) [ inl t ↦ rw t refl | inr f �
 
 any_one : {X : Type 0} (p : X → Bool) (x : X) → list_any p (x ∷ []) ≡ p x
 any_one p x = elim (either (p x)) [ inl t ↦ rw t refl | inr f ↦ rw f refl ]
-
-pub mapped_more : {X Y : Type 0} (f : X → Y) (xs : List X) (x : X) → map f (xs ++ x ∷ []) ≡ map f xs ++ f x ∷ []
-mapped_more f [] x = refl
-mapped_more f (y ∷ xs) x = ap (λ ys. f y ∷ ys) (mapped_more f xs x)
 
 swapped : (a b c : Bool) → ((a || b) || c) ≡ ((a || c) || b)
 swapped true b c = refl

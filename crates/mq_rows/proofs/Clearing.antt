@@ -3,12 +3,16 @@ use Rattle.std.proofs.Common.{◌≡◌, ◌≢◌, ℕ, ◌+◌, ◌-◌, ◌�
 use Rattle.std.specs.Prelude.{find, ◌&&◌, ◌||◌, ◌==◌, nat_lt, nat_le, if◌then◌else◌, Option, Some, None}
 use Rattle.std.specs.List.{enumerate_from}
 use Rattle.std.proofs.lemmas.Bool.Decides.{nat_tests}
+use Rattle.mq_lemmas.proofs.Booleans.{and_false, either}
+use Rattle.mq_lemmas.proofs.Numbers.{number_is}
 use Rattle.mq_request.specs.declared.message.Id.{Id}
 use Rattle.mq_request.specs.Same.{same_text}
+use Rattle.mq_request.proofs.Alike.{text_is, text_itself}
 use Rattle.mq_frame.specs.Spelling.{request_body, reply_body}
 use Rattle.mq_ledger.specs.declared.entry.Entry.{Entry}
 use Rattle.mq_ledger.specs.Arrivals.{raised, greater, floor, is_below}
 use Rattle.mq_ledger.specs.History.{requests, Transaction, transaction, retires}
+use Rattle.mq_ledger.proofs.Floors.{greater_zero}
 use Rattle.mq_rows.specs.declared.record.AnswerRecord.{AnswerRecord}
 use Rattle.mq_rows.specs.declared.record.RetiredRecord.{RetiredRecord}
 use Rattle.mq_rows.specs.declared.plan.Runs.{Runs}
@@ -16,7 +20,7 @@ use Rattle.mq_rows.specs.Rows.{number_of, answer_of, answer_row, answer_rows, re
 use Rattle.mq_rows.specs.Tables.{AreRetired, those}
 use Rattle.mq_rows.specs.Plan.{Leads, same_host, set_run, raised_to, is_among, cleared_in, cleared}
 use Rattle.mq_rows.specs.Retiring.{retire_entry, runs_below}
-use Rattle.mq_rows.proofs.Lists.{either, text_is, text_itself, number_is, find_of_those, insert, update}
+use Rattle.mq_rows.proofs.Lists.{find_of_those, insert, update}
 
 -- what the ledger's laws say of floors
 pub record Floors : Type 0 where
@@ -39,10 +43,6 @@ same_rows F G n (x ∷ H) same =
 
 not_less : (n : ℕ) → nat_lt n n ≡ false
 not_less n = grind (arith, nat_tests)
-
-and_false : (b : Bool) → (b && false) ≡ false
-and_false true = refl
-and_false false = refl
 
 -- a cleared reply, and one that was cleared before
 clear : (host : Bool) (low high : Bool) (body : List ℕ) (old : Bool) → (host ≡ true → low ≡ false → old ≡ true)
@@ -123,9 +123,6 @@ other_rows F H e stays above =
     ∙ ap (λ k. answer_rows H ++ answer_of k e ∷ []) (omega arith)
 
 -- Floors.
-
-greater_zero : (n : ℕ) → greater n 0 ≡ n
-greater_zero n = grind (arith, nat_tests)
 
 pub floors_stay : (F : Floors) (H : List Entry) (e : Entry) (rows : List RetiredRecord) → ((h : List ℕ) → raised h e.request ≡ 0) → AreRetired H rows → AreRetired (H ++ e ∷ []) rows
 floors_stay F H e rows none are h =

@@ -6,9 +6,13 @@ use Rattle.std.specs.Option.{option_or}
 use Rattle.std.proofs.lemmas.Bool.Decides.{nat_tests}
 use Rattle.std.proofs.lemmas.List.Sums.{sum_by-cons}
 use Rattle.std.proofs.lemmas.List.Sorted.{sum_by_pushed}
+use Rattle.mq_lemmas.proofs.Booleans.{first_so, second_so, or_false, or_true, is_not, either}
+use Rattle.mq_lemmas.proofs.Numbers.{if_zero, number_is, number_itself}
+use Rattle.mq_lemmas.proofs.Options.{option_cases}
 use Rattle.mq_request.specs.declared.message.Id.{Id}
 use Rattle.mq_request.specs.declared.message.Request.TheVariants.{Retire}
 use Rattle.mq_request.specs.Same.{same_text}
+use Rattle.mq_request.proofs.Alike.{text_is, text_itself}
 use Rattle.mq_ledger.specs.declared.entry.Entry.{Entry}
 use Rattle.mq_ledger.specs.History.{Transaction, same_transaction, named, agrees, retires, closed, held, settled_in, reserved, settled, used}
 use Rattle.mq_ledger.specs.Page.{has_reserve}
@@ -19,8 +23,9 @@ use Rattle.mq_rows.specs.Rows.{transaction_of, transaction_row, is_transaction, 
 use Rattle.mq_rows.specs.Tables.{those, AreTransactions, AreUsage}
 use Rattle.mq_rows.specs.Plan.{Updates, Leads, key_of, same_key, set_transaction, same_day, set_usage, freed, abandoned_row, Has, fits}
 use Rattle.mq_rows.specs.Retiring.{retire_entry}
-use Rattle.mq_rows.proofs.Lists.{either, option_cases, text_is, number_is, text_itself, number_itself, those_are_found, find_of_those, updated, parted, Parted, update}
+use Rattle.mq_rows.proofs.Lists.{those_are_found, find_of_those, updated, parted, Parted, update}
 use Rattle.mq_rows.proofs.RowSums.{is_on, total, summed_row, IsRowOf, row_of, agreed, day_is, all_at, Laws, held_total, settled_total, summed_is}
+use Rattle.mq_rows.proofs.Trans.{or_none}
 
 -- the transaction is open, and the retire retires its run
 abbrev pub is_to_close : Id → TransactionRecord → Bool
@@ -62,34 +67,6 @@ pub record Reserves (day : ℕ → ℕ) (H : List Entry) : Type 0 where
   pub held_is_reserved : (t : Transaction) (moment : ℕ) (login : List ℕ) → agrees moment login (named H t) ≡ true → held H t ≤ reserved day H login (day moment)
   pub none : (l : List ℕ) (d : ℕ) → has_reserve day H d l ≡ false → (reserved day H l d ≡ 0) × (settled day H l d ≡ 0)
 
-first_so : (a b : Bool) → (a && b) ≡ true → a ≡ true
-first_so true b h = refl
-first_so false b h = h
-
-second_so : (a b : Bool) → (a && b) ≡ true → b ≡ true
-second_so true b h = h
-second_so false b h = cc
-
-not_true : (b : Bool) → not b ≡ true → b ≡ false
-not_true true h = cc
-not_true false h = refl
-
-or_none : (o : Option Entry) → option_or o None ≡ o
-or_none None = refl
-or_none (Some e) = refl
-
-or_false : (x : Bool) → (x || false) ≡ x
-or_false true = refl
-or_false false = refl
-
-or_true : (x : Bool) → (x || true) ≡ true
-or_true true = refl
-or_true false = refl
-
-zero_if : (x : Bool) (n : ℕ) → n ≡ 0 → (if x then n else 0) ≡ 0
-zero_if true n h = h
-zero_if false n h = refl
-
 zero_either : (x : Bool) (n : ℕ) → (if x || true then 0 else n) ≡ 0
 zero_either true n = refl
 zero_either false n = refl
@@ -110,7 +87,7 @@ module _ (day : ℕ → ℕ) (H : List Entry) (id : Id) (L : Retires H id) where
   abandoned_is was here open_so =
       let is = row_of day H was here in
       let k : Transaction = key_of was in
-      let still : was.closed ≡ false = not_true was.closed (first_so (not was.closed) _ open_so) in
+      let still : was.closed ≡ false = is_not was.closed (first_so (not was.closed) _ open_so) in
       let gone : retires (Retire id) k ≡ true = second_so (not was.closed) _ open_so in
       let shut : closed H k ≡ false = ap (λ (x : TransactionRecord). x.closed) is.row ∙ still in
       let c : closed H' k ≡ true = L.closed_more k ∙ ap (λ b. b || (closed H k || false)) gone in
@@ -126,7 +103,7 @@ module _ (day : ℕ → ℕ) (H : List Entry) (id : Id) (L : Retires H id) where
   closed_behind : (was : TransactionRecord) → transaction_row day H' (key_of was) ≡ Some was → is_to_close id was ≡ true → ⊥
   closed_behind was here open_so =
       let is = row_of day H' was here in
-      let still : was.closed ≡ false = not_true was.closed (first_so (not was.closed) _ open_so) in
+      let still : was.closed ≡ false = is_not was.closed (first_so (not was.closed) _ open_so) in
       let gone : retires (Retire id) (key_of was) ≡ true = second_so (not was.closed) _ open_so in
       let c : closed H' (key_of was) ≡ true = L.closed_more (key_of was) ∙ ap (λ b. b || (closed H (key_of was) || false)) gone in
       let clash : true ≡ false = sym c ∙ ap (λ (x : TransactionRecord). x.closed) is.row ∙ still in cc
@@ -193,23 +170,19 @@ module _ (day : ℕ → ℕ) (H : List Entry) (id : Id) (L : Retires H id) where
 
     none_settled : was.settled ≡ 0
     none_settled =
-        let still : was.closed ≡ false = not_true was.closed (first_so (not was.closed) _ open_so) in
+        let still : was.closed ≡ false = is_not was.closed (first_so (not was.closed) _ open_so) in
         sym (ap (λ (x : TransactionRecord). x.settled) is.row) ∙ L.open_settled k (ap (λ (x : TransactionRecord). x.closed) is.row ∙ still)
 
     none_sum : (c : Bool) → (if c then was.settled else 0) ≡ 0
     none_sum true = none_settled
     none_sum false = refl
 
-    nothing : (c : Bool) (n : ℕ) → n ≡ 0 → (if c then n else 0) ≡ 0
-    nothing true n h = h
-    nothing false n h = refl
-
     -- the held ones are settled
     settled_then : (l : List ℕ) (d : ℕ) → total (λ r. r.settled) l d after ≡ total (λ r. r.settled) l d rows + (if is_on l d was then was.held else 0)
     settled_then l d = (let a = sum_then (λ r. r.settled) l d in let c = sum_of (λ r. r.settled) l d in let z = none_sum (is_on l d was) in omega (arith, a, c, z))
 
     held_then : (l : List ℕ) (d : ℕ) → total (λ r. r.held) l d after + (if is_on l d was then was.held else 0) ≡ total (λ r. r.held) l d rows
-    held_then l d = (let a = sum_then (λ r. r.held) l d in let c = sum_of (λ r. r.held) l d in let z = nothing (is_on l d was) 0 refl in omega (arith, a, c, z))
+    held_then l d = (let a = sum_then (λ r. r.held) l d in let c = sum_of (λ r. r.held) l d in let z = if_zero (is_on l d was) 0 refl in omega (arith, a, c, z))
 
     sums_then : (l : List ℕ) (d : ℕ) → total (λ r. r.held) l d after + total (λ r. r.settled) l d after ≡ used day H l d
     sums_then l d = (let s = settled_then l d in let h = held_then l d in let u = b.sums l d in omega (arith, s, h, u))
@@ -252,7 +225,7 @@ module _ (day : ℕ → ℕ) (H : List Entry) (id : Id) (L : Retires H id) where
     none_then : (was.held == 0) ≡ true → (l : List ℕ) (d : ℕ) → summed_row day H after l d ≡ summed_row day H rows l d
     none_then z l d =
         let zero_so : was.held ≡ 0 = number_is was.held 0 z in
-        let n : (if is_on l d was then was.held else 0) ≡ 0 = nothing (is_on l d was) was.held zero_so in
+        let n : (if is_on l d was then was.held else 0) ≡ 0 = if_zero (is_on l d was) was.held zero_so in
         let s : total (λ r. r.settled) l d after ≡ total (λ r. r.settled) l d rows = (let e = settled_then l d in omega (arith, e, n)) in
         let h : total (λ r. r.held) l d after ≡ total (λ r. r.held) l d rows = (let e = held_then l d in omega (arith, e, n)) in
         (λ i. if has_reserve day H d l then Some (record { login = l; day = d; settled = s i; reserved = h i }) else None)
@@ -365,7 +338,7 @@ module _ (day : ℕ → ℕ) (H : List Entry) (id : Id) (L : Retires H id) where
       | inr shut ↦ (let none : held H t ≡ 0 = rw shut refl in
           let c : closed H' t ≡ closed H t = L.closed_more t ∙ ap (λ b. retires (Retire id) t || (b || false)) shut ∙ or_true (retires (Retire id) t) ∙ sym shut in
           let h : held H' t ≡ held H t = L.held_more t ∙ ap (λ b. if retires (Retire id) t || (b || false) then 0 else held H t + 0) shut ∙ zero_either (retires (Retire id) t) (held H t + 0) ∙ sym none in
-          let s : settled_in H' t ≡ settled_in H t = (let m = L.settled_more t in let z : (if retires (Retire id) t then held H t else 0) ≡ 0 = zero_if (retires (Retire id) t) (held H t) none in omega (arith, m, z)) in
+          let s : settled_in H' t ≡ settled_in H t = (let m = L.settled_more t in let z : (if retires (Retire id) t then held H t else 0) ≡ 0 = if_zero (retires (Retire id) t) (held H t) none in omega (arith, m, z)) in
           same_row (transaction_of day H t e) _ _ _ _ _ _ h s c)
     ]
 

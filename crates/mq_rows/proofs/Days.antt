@@ -1,17 +1,21 @@
 -- What one more entry does to the rows of what logins have used.
 use Rattle.std.proofs.Common.{◌≡◌, ℕ, ◌+◌, ◌-◌, ◌≤◌, List, [], ◌∷◌, ◌++◌, Bool, true, false, refl, ◌∙◌, ap, sym, subst, inl, inr, arith}
 use Rattle.std.specs.Prelude.{◌&&◌, ◌||◌, ◌==◌, nat_lt, if◌then◌else◌, Option, Some, None}
+use Rattle.mq_lemmas.proofs.Booleans.{or_false, or_true, both_parts, either}
+use Rattle.mq_lemmas.proofs.Numbers.{if_zero, number_is, number_itself}
 use Rattle.mq_request.specs.declared.message.Id.{Id}
 use Rattle.mq_request.specs.declared.message.Request.{Request}
 use Rattle.mq_request.specs.declared.message.Request.TheVariants.{Reserve, Settle, Release, Limit, Usage, List as ListRequest, Retire}
 use Rattle.mq_request.specs.declared.message.Reply.{Reply}
 use Rattle.mq_request.specs.declared.message.Reply.TheVariants.{Granted, Full, Settled, Released, LimitSet, Over, Closed, Mismatch, TooMany, Conflict, Usage as UsageReply, List as ListReply, Old}
 use Rattle.mq_request.specs.Same.{same_text}
+use Rattle.mq_request.proofs.Alike.{text_is, text_itself}
 use Rattle.mq_ledger.specs.declared.entry.Entry.{Entry}
 use Rattle.mq_ledger.specs.Answer.{answer, if_open, settled_or_too_many}
 use Rattle.mq_ledger.specs.History.{transaction, named, agrees, closed, concerns, granted, gained, freed as ended, settles, held, reserved, settled}
 use Rattle.mq_ledger.specs.Page.{is_login, login_on, has_reserve}
 use Rattle.mq_ledger.specs.Suits.{Suits}
+use Rattle.mq_ledger.proofs.Transactions.{entry}
 use Rattle.mq_rows.specs.declared.record.UsageRecord.{UsageRecord}
 use Rattle.mq_rows.specs.declared.plan.Write.TheVariants.{Keep, Update}
 use Rattle.mq_rows.specs.Rows.{usage_row, is_usage}
@@ -19,8 +23,7 @@ use Rattle.mq_rows.specs.Listing.{settled_by}
 use Rattle.mq_rows.specs.Retiring.{is_retire}
 use Rattle.mq_rows.specs.Tables.{those, AreUsage}
 use Rattle.mq_rows.specs.Plan.{reserved_more, freed, usage_write, Updates, Leads, same_day, set_usage}
-use Rattle.mq_rows.proofs.Lists.{either, text_is, text_itself, number_is, number_itself, insert, update}
-use Rattle.mq_rows.proofs.Trans.{entry}
+use Rattle.mq_rows.proofs.Lists.{insert, update}
 
 -- What the ledger's laws say of one more answer and of what logins have used.
 pub record Uses (day : ℕ → ℕ) (default : ℕ) (H : List Entry) : Type 0 where
@@ -49,14 +52,6 @@ row_if b l d s v = if b then Some (record { login = l; day = d; settled = s; res
 row_if_same : (l : List ℕ) (d : ℕ) (b b' : Bool) (s s' v v' : ℕ) → b' ≡ b → s' ≡ s → v' ≡ v → row_if b' l d s' v' ≡ row_if b l d s v
 row_if_same l d b b' s s' v v' p q r = λ i. row_if (p i) l d (q i) (r i)
 
-or_false : (b : Bool) → (b || false) ≡ b
-or_false true = refl
-or_false false = refl
-
-or_true : (b : Bool) → (b || true) ≡ true
-or_true true = refl
-or_true false = refl
-
 and_true_false : (b : Bool) → (b && true) ≡ false → b ≡ false
 and_true_false true h = h
 and_true_false false h = refl
@@ -65,23 +60,15 @@ and_true_false false h = refl
 abbrev pub is_of_key : Key → Key → Bool
 is_of_key k q = same_text k.0 q.0 && (q.1 == k.1)
 
-pub both_split : (a b : Bool) → (a && b) ≡ true → (a ≡ true) × (b ≡ true)
-both_split true b h = (refl, h)
-both_split false b h = absurd (cc h)
-
 key_is : (k : Key) (u : UsageRecord) → is_at_key k u ≡ true → k ≡ key_of_usage u
 key_is k u h =
-    let b = both_split (same_text k.0 u.login) (u.day == k.1) h in
+    let b = both_parts (same_text k.0 u.login) (u.day == k.1) h in
     let l : k.0 ≡ u.login = text_is k.0 u.login b.0 in
     let d : u.day ≡ k.1 = number_is u.day k.1 b.1 in
     λ i. (l i, sym d i)
 
 key_itself : (u : UsageRecord) → is_at_key (key_of_usage u) u ≡ true
 key_itself u = rw (text_itself u.login, number_itself u.day) refl
-
-if_zero : (b : Bool) (n : ℕ) → n ≡ 0 → (if b then n else 0) ≡ 0
-if_zero true n h = h
-if_zero false n h = refl
 
 -- what is known where a settle was settled
 record IsSettledSo (H : List Entry) (id : Id) (txn moment : ℕ) (login : List ℕ) (count : ℕ) : Type 0 where
@@ -216,7 +203,7 @@ module _ (day : ℕ → ℕ) (default : ℕ) (H : List Entry) (us : Uses day def
     close_nothing : h ≡ 0 → (k : Key) → row_at day (H ++ e ∷ []) k ≡ row_at day H k
     close_nothing z k = elim (either (same_text k.0 login && (day moment == k.1))) [
       | inr f ↦ close_others k f
-      | inl t ↦ (let b = both_split (same_text k.0 login) (day moment == k.1) t in
+      | inl t ↦ (let b = both_parts (same_text k.0 login) (day moment == k.1) t in
           let l : k.0 ≡ login = text_is k.0 login b.0 in
           let d : day moment ≡ k.1 = number_is (day moment) k.1 b.1 in
           let f : ended day H k.0 k.1 e.request e.reply ≡ 0 = rw (l, ← d) (c.ends ∙ z) in

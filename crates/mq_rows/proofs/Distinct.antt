@@ -1,31 +1,20 @@
 -- In a legal history no number comes twice, so it has one row at most.
-use Rattle.std.proofs.Common.{◌≡◌, ℕ, ◌+◌, ◌≤◌, List, [], ◌∷◌, ◌++◌, Bool, true, false, refl, ◌∙◌, ap, sym, subst, inl, inr, arith, length, length-append, append_assoc}
-use Rattle.std.specs.Prelude.{fold, find, ◌&&◌, ◌||◌, ◌==◌, Option, Some, None}
+use Rattle.std.proofs.Common.{◌≡◌, ℕ, ◌+◌, ◌≤◌, List, [], ◌∷◌, ◌++◌, true, false, refl, ◌∙◌, ap, sym, subst, inl, inr, arith, length, length-append, append_assoc}
+use Rattle.std.specs.Prelude.{fold, find, ◌||◌, Option, Some, None}
 use Rattle.std.specs.List.{AllByRecursion, list_any}
+use Rattle.mq_lemmas.proofs.Booleans.{or_second, either}
 use Rattle.mq_request.specs.declared.message.Id.{Id}
 use Rattle.mq_request.specs.declared.message.Request.{Request}
 use Rattle.mq_request.specs.Range.{IsId}
-use Rattle.mq_request.specs.Same.{same_text, same_id}
+use Rattle.mq_request.specs.Same.{same_id}
+use Rattle.mq_request.proofs.Alike.{id_is}
 use Rattle.mq_ledger.specs.declared.entry.Entry.{Entry}
 use Rattle.mq_ledger.specs.Arrivals.{id_of, is_id, has_id, is_below, kept_with}
 use Rattle.mq_ledger.specs.History.{requests}
+use Rattle.mq_ledger.proofs.Numbers.{step}
 use Rattle.mq_rows.specs.declared.record.AnswerRecord.{AnswerRecord}
 use Rattle.mq_rows.specs.Rows.{number_of, answer_row}
-use Rattle.mq_rows.proofs.Lists.{either, text_is, number_is}
 use Rattle.mq_rows.proofs.Numbered.{rows_from, number_test}
-
-both_true : (a b : Bool) → (a && b) ≡ true → (a ≡ true) × (b ≡ true)
-both_true true b h = (refl, h)
-both_true false b h = absurd (cc h)
-
-pub id_is : (a b : Id) → same_id a b ≡ true → a ≡ b
-id_is a b h =
-    let one = both_true (same_text a.host b.host) ((a.run == b.run) && (a.number == b.number)) h in
-    let two = both_true (a.run == b.run) (a.number == b.number) one.1 in
-    let host : a.host ≡ b.host = text_is a.host b.host one.0 in
-    let run : a.run ≡ b.run = number_is a.run b.run two.0 in
-    let number : a.number ≡ b.number = number_is a.number b.number two.1 in
-    λ i. record { host = host i; run = run i; number = number i }
 
 any_more : (id : Id) (xs : List Request) (r : Request) → list_any (has_id id) xs ≡ true → list_any (has_id id) (xs ++ r ∷ []) ≡ true
 any_more id [] r h = absurd (cc h)
@@ -40,9 +29,6 @@ any_last id (x ∷ xs) r h = elim (either (has_id id x)) [
   | inl t ↦ rw t refl
   | inr f ↦ rw f (any_last id xs r h)
 ]
-
-abbrev step : List Request → Request → List Request
-step kept r = kept_with kept r (id_of r)
 
 one_longer : (kept : List Request) (r : Request) (o : Option Id) → length (kept_with kept r o) ≤ length kept + 1
 one_longer kept r None = omega arith
@@ -71,16 +57,12 @@ rest_kept kept r A same =
     let put : kept_with kept r (id_of r) ≡ kept ++ r ∷ [] = step_by kept r A (id_of r) same in
     ap (λ (k : List Request). fold step k A) (sym put) ∙ same ∙ sym (append_assoc kept (r ∷ []) A)
 
-second : (a b : Bool) → b ≡ true → (a || b) ≡ true
-second true b h = refl
-second false b h = h
-
 twice : (id : Id) (kept : List Request) (r : Request) (o : Option Id) → list_any (has_id id) kept ≡ true → is_id id o ≡ true → kept_with kept r o ≡ kept ++ r ∷ [] → ⊥
 twice id kept r None there same put = absurd (cc same)
 twice id kept r (Some other) there same put =
     let k : id ≡ other = id_is id other same in
     let there' : list_any (has_id other) kept ≡ true = subst (λ (x : Id). list_any (has_id x) kept ≡ true) k there in
-    let known : (is_below kept other || list_any (has_id other) kept) ≡ true = second (is_below kept other) (list_any (has_id other) kept) there' in
+    let known : (is_below kept other || list_any (has_id other) kept) ≡ true = or_second (is_below kept other) (list_any (has_id other) kept) there' in
     let short : kept ≡ kept ++ r ∷ [] = rw known at put in
     omega (arith, ap length short, length-append kept (r ∷ []))
 

@@ -1,5 +1,5 @@
 -- The limit that governs a pair, and how it is found by its key.
-use Rattle.std.proofs.Common.{◌≡◌, ℕ, pos, List, [], ◌∷◌, ◌++◌, Bool, true, false, refl, ◌∙◌, ap, sym, subst, inl, inr, arith}
+use Rattle.std.proofs.Common.{◌≡◌, ℕ, pos, List, [], ◌∷◌, ◌++◌, true, false, refl, ◌∙◌, ap, sym, subst, inl, inr, arith}
 use Rattle.std.specs.Prelude.{ℤ, ◌≤ℤ◌, ◌<ℤ◌, find, fold, ◌&&◌, ◌⊎◌, int_le, int_lt, if◌then◌else◌, Option, Some, None, option_map, IsSome}
 use Rattle.std.specs.BTreeMap.{BTreeMap, get}
 use Rattle.std.specs.BTreeMap.Range.{IsRangeOf}
@@ -10,15 +10,17 @@ use Rattle.std.specs.Cmp.Lexicographic.{slice_cmp}
 use Rattle.std.specs.List.{AllByRecursion}
 use Rattle.std.specs.Ordering.{is_eq, is_lt, is_gt, nat_cmp, int_cmp, ordering_then}
 use Rattle.std.proofs.lemmas.Int.{ints}
+use Rattle.mq_lemmas.proofs.Booleans.{both_parts, either}
+use Rattle.mq_lemmas.proofs.Lists.{all_at}
 use Rattle.mq_request.specs.Same.{same_text}
+use Rattle.mq_request.proofs.Alike.{text_is, text_itself}
 use Rattle.mq_rows.specs.declared.audited.LimitFigures.{LimitFigures}
 use Rattle.mq_rows.specs.declared.audited.Pair.{Pair}
 use Rattle.mq_rows.specs.Audit.{is_due, is_later, governing, cap_or}
 use Rattle.mq_rows.specs.Books.{HasCaps}
 use Rattle.mq_rows.specs.Pair.{pair_cmp, same_pair}
 use Rattle.mq_rows.proofs.Booking.{pair_is, pair_itself, texts_tied}
-use Rattle.mq_rows.proofs.Lists.{either, text_is, text_itself}
-use Rattle.mq_rows.proofs.Rightness.{found, all_at}
+use Rattle.mq_rows.proofs.Rightness.{found}
 
 -- Tests of whole numbers.
 
@@ -36,10 +38,6 @@ so_le a b h = grind (arith, ints)
 
 pub not_le : (a b : ℤ) → b <ℤ a → int_le a b ≡ false
 not_le a b h = grind (arith, ints)
-
-both_parts : (a b : Bool) → (a && b) ≡ true → (a ≡ true) × (b ≡ true)
-both_parts true b h = (refl, h)
-both_parts false b h = absurd (cc h)
 
 -- How pairs of one login compare.
 

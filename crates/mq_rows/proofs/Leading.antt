@@ -5,7 +5,10 @@ use Rattle.std.specs.List.{AllByRecursion}
 use Rattle.std.specs.List.Sorted.{IsPermutation}
 use Rattle.std.proofs.lemmas.List.Sorted.{IsPermutation-trans, IsPermutation-sym}
 use Rattle.sqlite_trees.proofs.ListLemmas.{IsPermutation-filter, filter_all, all-permutation, all_weaker}
+use Rattle.mq_lemmas.proofs.Booleans.{either}
+use Rattle.mq_lemmas.proofs.Numbers.{number_itself}
 use Rattle.mq_request.specs.declared.message.Id.{Id}
+use Rattle.mq_request.proofs.Alike.{text_itself}
 use Rattle.mq_ledger.specs.declared.entry.Entry.{Entry}
 use Rattle.mq_ledger.specs.History.{used}
 use Rattle.mq_rows.specs.declared.record.TransactionRecord.{TransactionRecord}
@@ -17,8 +20,8 @@ use Rattle.mq_rows.specs.Tables.{those}
 use Rattle.mq_rows.specs.Plan.{Leads, key_of, same_key, set_transaction, same_day, set_usage, freed, abandoned_row, LeadsAll}
 use Rattle.mq_rows.specs.Plan.{Has, IsOneIn, fits}
 use Rattle.mq_rows.proofs.Closing.{Retires, Reserves, is_to_close, AreRetiring, one_closed, closing_fits}
-use Rattle.mq_rows.proofs.RowSums.{summed_row}
-use Rattle.mq_rows.proofs.Lists.{either, text_itself, number_itself, find_of_those, those_are_found, in_any_order, none_pass}
+use Rattle.mq_rows.proofs.RowSums.{summed_row, all_at}
+use Rattle.mq_rows.proofs.Lists.{find_of_those, those_are_found, in_any_order, none_pass}
 
 -- what a write leads to leads on
 pub leads_on : {R : Type 0} (same : R → R → Bool) (set : R → R → R) (w : Write R) (rows : List R) (P Q : List R → Type 0) → ((after : List R) → P after → Q after) → Leads same set w rows P → Leads same set w rows Q
@@ -70,11 +73,6 @@ module _ {R : Type 0} (q : R → Bool) (x : R) (is : q x ≡ true) where
       let right : filter others (x ∷ ys) ≡ ys = filter_past others x ys (ap not is) ∙ filter_all others ys (not_so q ys apart) in
       subst (λ l. IsPermutation l ys) left (subst (λ l. IsPermutation (filter others (x ∷ xs)) l) right (IsPermutation-filter others (x ∷ xs) (x ∷ ys) same))
 
-found_at : {R : Type 0} (P : R → Type 0) (rows : List R) (x : R) → AllByRecursion P rows → Has rows x → P x
-found_at P [] x h i = absurd i
-found_at P (y ∷ rows) x h (inl e) = subst P e h.0
-found_at P (y ∷ rows) x h (inr i) = found_at P rows x h.1 i
-
 none_found : {R : Type 0} (p : R → Bool) (rows : List R) → AllByRecursion (λ r. p r ≡ false) rows → find p rows ≡ None
 none_found p [] h = refl
 none_found p (r ∷ rows) h = rw h.0 (none_found p rows h.1)
@@ -82,7 +80,7 @@ none_found p (r ∷ rows) h = rw h.0 (none_found p rows h.1)
 -- where at most one row passes, it is the one that is found
 one_found : {R : Type 0} (p : R → Bool) (rows : List R) (u o : Option R) → filter p rows ≡ those o → IsOneIn p rows u → u ≡ find p rows
 one_found p rows None o are one = sym (none_found p rows one)
-one_found p rows (Some r) o are one = found_at (λ x. p x ≡ true → Some x ≡ find p rows) rows r (those_are_found p rows o are) one.0 one.1
+one_found p rows (Some r) o are one = all_at (λ x. p x ≡ true → Some x ≡ find p rows) rows r (those_are_found p rows o are) one.0 one.1
 
 -- where none is left none is to be closed
 pub none_to_close : (id : Id) (rows : List TransactionRecord) → IsPermutation [] (filter (is_to_close id) rows) → AllByRecursion (λ r. is_to_close id r ≡ false) rows
@@ -109,7 +107,7 @@ module _ (day : ℕ → ℕ) (H : List Entry) (id : Id) (L : Retires H id) (R : 
       let q = is_transaction (key_of was) in
       let one : filter q (w ∷ others) ≡ those (Some w) = filter_head q w others own ∙ ap (λ l. w ∷ l) (none_kept q others alone) in
       let all : filter q rows ≡ those (Some w) = in_any_order q (w ∷ others) rows order (Some w) one in
-      let hit : Some was ≡ find q rows = found_at (λ r. q r ≡ true → Some r ≡ find q rows) rows was (those_are_found q rows (Some w) all) there (own_key was) in
+      let hit : Some was ≡ find q rows = all_at (λ r. q r ≡ true → Some r ≡ find q rows) rows was (those_are_found q rows (Some w) all) there (own_key was) in
       let is : was ≡ w = (let e : Some was ≡ Some w = hit ∙ find_of_those q rows (Some w) all in cc e) in
       let so' : close w ≡ true = ap close (sym is) ∙ so in
       let kept : filter close (w ∷ others) ≡ was ∷ filter close others = filter_head close w others so' ∙ ap (λ x. x ∷ filter close others) (sym is) in

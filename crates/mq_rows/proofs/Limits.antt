@@ -1,21 +1,24 @@
 -- What one more entry does to the rows of limits.
 use Rattle.std.proofs.Common.{◌≡◌, ℕ, List, [], ◌∷◌, ◌++◌, Bool, true, false, refl, ◌∙◌, ap, sym}
 use Rattle.std.specs.Prelude.{◌&&◌, ◌==◌, if◌then◌else◌, Option, Some, None, option_map}
+use Rattle.mq_lemmas.proofs.Numbers.{number_is, number_itself}
+use Rattle.mq_lemmas.proofs.Booleans.{both_parts}
 use Rattle.mq_request.specs.declared.message.Id.{Id}
 use Rattle.mq_request.specs.declared.message.Request.{Request}
 use Rattle.mq_request.specs.declared.message.Request.TheVariants.{Limit}
 use Rattle.mq_request.specs.declared.message.Reply.{Reply}
 use Rattle.mq_request.specs.declared.message.Reply.TheVariants.{LimitSet}
 use Rattle.mq_request.specs.Same.{same_text}
+use Rattle.mq_request.proofs.Alike.{text_is, text_itself}
 use Rattle.mq_ledger.specs.declared.entry.Entry.{Entry}
 use Rattle.mq_ledger.specs.Limits.{cap_of, sets_from, set_cap}
+use Rattle.mq_ledger.proofs.Transactions.{entry}
 use Rattle.mq_rows.specs.declared.record.LimitRecord.{LimitRecord}
 use Rattle.mq_rows.specs.Rows.{limit_row, is_limit}
 use Rattle.mq_rows.specs.Tables.{those, AreLimits}
 use Rattle.mq_rows.specs.Plan.{set_limit_to, limit_write, Leads, same_from, set_limit}
-use Rattle.mq_rows.proofs.Lists.{text_is, text_itself, number_is, number_itself, insert, update}
-use Rattle.mq_rows.proofs.Trans.{entry}
-use Rattle.mq_rows.proofs.Days.{Key, is_of_key, both_split}
+use Rattle.mq_rows.proofs.Lists.{insert, update}
+use Rattle.mq_rows.proofs.Days.{Key, is_of_key}
 
 -- What the ledger's law says of one more entry and the limits that were set.
 abbrev pub Sets : List Entry → Type 0
@@ -36,7 +39,7 @@ row_of_cap l d o = option_map (λ c. record { login = l; day = d; cap = c }) o
 
 pub key_is : (k : Key) (c : LimitRecord) → is_at_key k c ≡ true → k ≡ key_of_limit c
 key_is k c h =
-    let b = both_split (same_text k.0 c.login) (c.day == k.1) h in
+    let b = both_parts (same_text k.0 c.login) (c.day == k.1) h in
     let l : k.0 ≡ c.login = text_is k.0 c.login b.0 in
     let d : c.day ≡ k.1 = number_is c.day k.1 b.1 in
     λ i. (l i, sym d i)

@@ -1,35 +1,13 @@
--- Tests, texts, lists, and rows that stand under a key at most once.
+-- Rows that stand under a key at most once.
 use Rattle.std.proofs.Common.{ap, subst, swap, ◌≡◌, ℕ, zero, suc, ◌<◌, List, [], ◌∷◌, Bool, true, false, refl, ◌∙◌, sym, inl, inr, arith, length, get_or}
-use Rattle.std.specs.Prelude.{find, filter, ◌==◌, ◌⊎◌, Option, Some, None}
+use Rattle.std.specs.Prelude.{find, filter, Option, Some, None}
 use Rattle.std.specs.List.{AllByRecursion}
 use Rattle.std.specs.List.Sorted.{IsPermutation}
-use Rattle.std.specs.Cmp.Lexicographic.{bytes_decides}
 use Rattle.std.proofs.Math.ListN.{set}
-use Rattle.std.proofs.lemmas.Bool.Decides.{Decides-eqb}
 use Rattle.std.proofs.lemmas.List.Sorted.{IsPermutation-refl, IsPermutation-cons, IsPermutation-trans, IsPermutation-append_left, IsPermutation-append_comm, IsPermutation-keeps, IsPermutation-sym}
-use Rattle.mq_request.specs.Same.{same_text}
+use Rattle.mq_lemmas.proofs.Booleans.{either}
 use Rattle.mq_rows.specs.Plan.{Inserts, Updates}
 use Rattle.mq_rows.specs.Tables.{those}
-
-pub either : (b : Bool) → (b ≡ true) ⊎ (b ≡ false)
-either true = inl refl
-either false = inr refl
-
-pub option_cases : {A : Type 0} (o : Option A) → (o ≡ None) ⊎ ((x : A) × (o ≡ Some x))
-option_cases None = inl refl
-option_cases (Some x) = inr (x, refl)
-
-pub text_is : (a b : List ℕ) → same_text a b ≡ true → a ≡ b
-text_is a b h = (bytes_decides a b).0 h
-
-pub text_itself : (a : List ℕ) → same_text a a ≡ true
-text_itself a = (bytes_decides a a).1 refl
-
-pub number_is : (m n : ℕ) → (m == n) ≡ true → m ≡ n
-number_is m n h = (Decides-eqb m n).0 h
-
-pub number_itself : (n : ℕ) → (n == n) ≡ true
-number_itself n = (Decides-eqb n n).1 refl
 
 -- The rows of a key.
 

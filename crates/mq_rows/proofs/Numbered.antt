@@ -2,6 +2,8 @@
 use Rattle.std.proofs.Common.{◌≡◌, ℕ, suc, ◌+◌, ◌≤◌, List, [], ◌∷◌, Bool, true, false, refl, ◌∙◌, ap, sym, inl, inr, arith}
 use Rattle.std.specs.Prelude.{find, map, All, ◌&&◌, ◌==◌, Some, None}
 use Rattle.std.specs.List.{enumerate_from, filter_map}
+use Rattle.mq_lemmas.proofs.Booleans.{either}
+use Rattle.mq_lemmas.proofs.Numbers.{number_is}
 use Rattle.mq_request.specs.declared.message.Id.{Id}
 use Rattle.mq_request.specs.declared.message.Request.{Request}
 use Rattle.mq_request.specs.declared.message.Request.TheVariants.{Reserve, Settle, Release, Limit, Usage, List as ListRequest, Retire}
@@ -10,24 +12,13 @@ use Rattle.mq_frame.specs.Reading.{request_at}
 use Rattle.mq_request.specs.Same.{same_text, same_id}
 use Rattle.mq_frame.specs.Spelling.{request_body}
 use Rattle.mq_ledger.specs.declared.entry.Entry.{Entry}
-use Rattle.mq_ledger.specs.Arrivals.{id_of, has_id}
+use Rattle.mq_ledger.specs.Arrivals.{has_id}
 use Rattle.mq_rows.specs.declared.record.AnswerRecord.{AnswerRecord}
 use Rattle.mq_rows.specs.Rows.{number_of, answer_row}
-use Rattle.mq_rows.proofs.Lists.{either, number_is}
 
 -- the rows of entries under the floors of a history
 abbrev pub rows_from : List Entry → ℕ → List Entry → List AnswerRecord
 rows_from G n H = map (λ p. answer_row G p.0 p.1) (enumerate_from n H)
-
--- a request in range has its number in range
-pub number_in_range : (r : Request) (id : Id) → IsRequest r → id_of r ≡ Some id → IsId id
-number_in_range (Reserve id txn moment login count) id' h e = (let same : id ≡ id' = cc e in rw (← same) h.0)
-number_in_range (Settle id txn moment login count) id' h e = (let same : id ≡ id' = cc e in rw (← same) h.0)
-number_in_range (Release id txn moment login) id' h e = (let same : id ≡ id' = cc e in rw (← same) h.0)
-number_in_range (Limit id from_day cap login) id' h e = (let same : id ≡ id' = cc e in rw (← same) h.0)
-number_in_range (Retire id) id' h e = (let same : id ≡ id' = cc e in rw (← same) h)
-number_in_range (Usage login day) id' h e = absurd (cc e)
-number_in_range (ListRequest day after) id' h e = absurd (cc e)
 
 never_both : (a b c : Bool) → b ≡ false → (a && (b && c)) ≡ false
 never_both true b c h = rw h refl

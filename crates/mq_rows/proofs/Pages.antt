@@ -2,54 +2,21 @@
 use Rattle.std.proofs.Common.{◌≡◌, ℕ, zero, suc, ◌<◌, ◌≤◌, List, [], ◌∷◌, ◌++◌, true, false, refl, ◌∙◌, ap, inl, inr, arith, length}
 use Rattle.std.specs.Prelude.{map, All, Contains, Option, ◌⊎◌, ◌==◌, Some, None, slice_index_or}
 use Rattle.std.specs.List.{AllByRecursion}
-use Rattle.std.specs.Ordering.{nat_cmp, is_lt, eq_by_cmp, ordering_reverse}
-use Rattle.std.specs.Cmp.{IsTotalOrder}
-use Rattle.std.specs.Cmp.Lexicographic.{slice_cmp, texts_ties, bytes_decides}
-use Rattle.std.specs.declared.cmp.Ordering.{Ordering}
-use Rattle.std.specs.declared.cmp.Ordering.TheVariants.{Less, Equal, Greater}
-use Rattle.std.proofs.lemmas.Cmp.{nat_list_cmp_total}
 use Rattle.std.proofs.lemmas.List.{length-map}
+use Rattle.mq_lemmas.proofs.Booleans.{either, both_parts}
+use Rattle.mq_lemmas.proofs.Numbers.{number_is, number_itself}
+use Rattle.mq_lemmas.proofs.Lists.{weaker}
 use Rattle.mq_request.specs.Same.{same_text}
+use Rattle.mq_request.proofs.Alike.{text_is, text_itself}
 use Rattle.mq_ledger.specs.declared.entry.Entry.{Entry}
 use Rattle.mq_ledger.specs.History.{settled, reserved}
 use Rattle.mq_ledger.specs.Page.{below, has_reserve, IsAscending, IsLoginPage}
+use Rattle.mq_ledger.proofs.Pages.{Before, Same, After, below_trans, ordered}
 use Rattle.mq_rows.specs.declared.record.UsageRecord.{UsageRecord}
 use Rattle.mq_rows.specs.Rows.{usage_row, is_usage}
 use Rattle.mq_rows.specs.Tables.{those, AreUsage}
 use Rattle.mq_rows.specs.Listing.{is_above, IsNext, IsNextLogin, AreNext, behind}
-use Rattle.mq_rows.proofs.Lists.{either, number_is, number_itself, text_is, text_itself}
-use Rattle.mq_rows.proofs.Days.{both_split}
 use Rattle.mq_rows.proofs.Replies.{member_is, one_has}
-
--- Byte order.
-
-order : IsTotalOrder (slice_cmp nat_cmp)
-order = nat_list_cmp_total
-
-lt_is : (c : Ordering) → is_lt c ≡ true → c ≡ Less
-lt_is Less h = refl
-lt_is Equal h = cc
-lt_is Greater h = cc
-
-below_trans : (a b c : List ℕ) → below a b ≡ true → below b c ≡ true → below a c ≡ true
-below_trans a b c h g = ap is_lt (order.trans a b c (lt_is _ h) (lt_is _ g))
-
-same_order : (a b : List ℕ) → slice_cmp nat_cmp a b ≡ Equal → a ≡ b
-same_order a b h = (let e : eq_by_cmp (slice_cmp nat_cmp) a b ≡ true = rw h refl in (bytes_decides a b).0 (texts_ties a b ∙ e))
-
--- of two logins one is below the other, or they are one
-data Order (a b : List ℕ) : Type 0 where
-  Before : below a b ≡ true → Order a b
-  Same : a ≡ b → Order a b
-  After : below b a ≡ true → Order a b
-
-order_by : (a b : List ℕ) (c : Ordering) → slice_cmp nat_cmp a b ≡ c → Order a b
-order_by a b Less h = Before (ap is_lt h)
-order_by a b Equal h = Same (same_order a b h)
-order_by a b Greater h = After (ap is_lt (order.antisymm b a ∙ ap ordering_reverse h))
-
-ordered : (a b : List ℕ) → Order a b
-ordered a b = order_by a b _ refl
 
 -- Lists.
 
@@ -61,10 +28,6 @@ all_by_index : {X : Type 0} (P : X → Type 0) (xs : List X) → AllByRecursion 
 all_by_index P [] all = λ k d h. absurd (omega arith)
 all_by_index P (x ∷ xs) all = at_index P x xs all.0 (all_by_index P xs all.1)
 
-implies : {X : Type 0} (P Q : X → Type 0) → ((x : X) → P x → Q x) → (xs : List X) → AllByRecursion P xs → AllByRecursion Q xs
-implies P Q f [] all = tt
-implies P Q f (x ∷ xs) all = (f x all.0, implies P Q f xs all.1)
-
 abbrev logins : List UsageRecord → List (List ℕ)
 logins us = map (λ u. u.login) us
 
@@ -72,7 +35,7 @@ module _ (day : ℕ → ℕ) (H : List Entry) (rows : List UsageRecord) (are : A
   -- a row of the day says that its login has a granted reserve
   reserve_there : (after : List ℕ) (u : UsageRecord) → Contains rows u → is_above d after u ≡ true → has_reserve day H d u.login ≡ true
   reserve_there after u there above =
-      let b = both_split (d == u.day) (below after u.login) above in
+      let b = both_parts (d == u.day) (below after u.login) above in
       let day_is : d ≡ u.day = number_is d u.day b.0 in
       let mine : is_usage u.login d u ≡ true = rw (text_itself u.login, day_is, number_itself u.day) refl in
       let row : usage_row day H u.login d ≡ Some u = member_is (is_usage u.login d) rows there.0 u there.1 there.2 mine (usage_row day H u.login d) (are u.login d) in
@@ -99,10 +62,10 @@ module _ (day : ℕ → ℕ) (H : List Entry) (rows : List UsageRecord) (are : A
   rising : (after : List ℕ) (us : List UsageRecord) → AreNext d after rows us → Rising after (logins us)
   rising after [] next = record { above = tt; ascending = tt; there = tt }
   rising after (u ∷ us) next =
-      let up : below after u.login ≡ true = (both_split (d == u.day) (below after u.login) next.0.1).1 in
+      let up : below after u.login ≡ true = (both_parts (d == u.day) (below after u.login) next.0.1).1 in
       let r = rising u.login us next.1 in
       record {
-        above = (up, implies (λ l. below u.login l ≡ true) (λ l. below after l ≡ true) (λ l h. below_trans after u.login l up h) (logins us) r.above);
+        above = (up, weaker (λ l. below u.login l ≡ true) (λ l. below after l ≡ true) (λ l h. below_trans after u.login l up h) (logins us) r.above);
         ascending = (r.above, r.ascending);
         there = (reserve_there after u next.0.0 next.0.1, r.there);
       }
@@ -164,7 +127,7 @@ module _ (d : ℕ) (after login : List ℕ) where
   -- so a row of the day that is above the one before is above this one
   still_above : (u : UsageRecord) → Least u → IsBare u → is_above d after u ≡ true → is_above d login u ≡ true
   still_above u least bare hit =
-      let b = both_split (d == u.day) (below after u.login) hit in
+      let b = both_parts (d == u.day) (below after u.login) hit in
       elim (ordered login u.login) [
         | Before h ↦ rw (b.0, h) refl
         | Same e ↦ absurd (cc (bare, its_own u e b.0))
@@ -178,7 +141,7 @@ module _ (d : ℕ) (after login : List ℕ) where
   ]
 
   is_above_before : (u : UsageRecord) → below after login ≡ true → is_above d login u ≡ true → is_above d after u ≡ true
-  is_above_before u up hit = (let b = both_split (d == u.day) (below login u.login) hit in rw (b.0, below_trans after login u.login up b.1) refl)
+  is_above_before u up hit = (let b = both_parts (d == u.day) (below login u.login) hit in rw (b.0, below_trans after login u.login up b.1) refl)
 
   pub passed_over : (rows : List UsageRecord) (next : Option UsageRecord) → IsNextLogin after rows (Some login) → AllByRecursion IsBare rows → IsNext d login rows next → IsNext d after rows next
   passed_over rows None it bare none =
@@ -194,16 +157,16 @@ module _ (d : ℕ) (after login : List ℕ) where
 
   pub found_there : (rows : List UsageRecord) (u : UsageRecord) → IsNextLogin after rows (Some login) → Contains rows u → is_usage login d u ≡ true → IsNext d after rows (Some u)
   found_there rows u it there own =
-      let b = both_split (same_text login u.login) (u.day == d) own in
+      let b = both_parts (same_text login u.login) (u.day == d) own in
       let name : login ≡ u.login = text_is login u.login b.0 in
       let day : u.day ≡ d = number_is u.day d b.1 in (
         there,
         rw (← name, day, number_itself d) it.1,
-        implies Least (λ other. is_above d after other ≡ true → below other.login u.login ≡ false) (λ other least hit. rw (← name) (least (both_split (d == other.day) (below after other.login) hit).1)) rows it.2,
+        weaker Least (λ other. is_above d after other ≡ true → below other.login u.login ≡ false) (λ other least hit. rw (← name) (least (both_parts (d == other.day) (below after other.login) hit).1)) rows it.2,
       )
 
 pub none_above : (d : ℕ) (rows : List UsageRecord) (after : List ℕ) → IsNextLogin after rows None → IsNext d after rows None
-none_above d rows after none = implies (λ u. below after u.login ≡ false) (λ u. is_above d after u ≡ false) (λ u free. elim (either (is_above d after u)) [
-  | inl hit ↦ absurd (cc (free, (both_split (d == u.day) (below after u.login) hit).1))
+none_above d rows after none = weaker (λ u. below after u.login ≡ false) (λ u. is_above d after u ≡ false) (λ u free. elim (either (is_above d after u)) [
+  | inl hit ↦ absurd (cc (free, (both_parts (d == u.day) (below after u.login) hit).1))
   | inr not ↦ not
 ]) rows none

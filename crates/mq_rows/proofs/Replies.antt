@@ -1,13 +1,18 @@
 -- The reply that is decided from the rows is the answer over the history.
 use Rattle.std.proofs.Common.{◌≡◌, ℕ, zero, suc, ◌+◌, ◌<◌, ◌≤◌, List, [], ◌∷◌, Bool, true, false, refl, ◌∙◌, ap, sym, inl, inr, arith, length}
-use Rattle.std.specs.Prelude.{find, filter, not, ◌&&◌, ◌==◌, ◌⊎◌, nat_lt, nat_le, if◌then◌else◌, Option, Some, None, option_map, is_some, slice_index_or}
+use Rattle.std.specs.Prelude.{filter, not, ◌&&◌, ◌==◌, nat_lt, nat_le, if◌then◌else◌, Option, Some, None, option_map, is_some, slice_index_or}
 use Rattle.std.specs.List.{AllByRecursion}
+use Rattle.mq_lemmas.proofs.Numbers.{le_or_lt, le_is, le_of, number_itself}
+use Rattle.mq_lemmas.proofs.Booleans.{either, both_parts}
+use Rattle.mq_lemmas.proofs.Options.{option_cases}
+use Rattle.mq_lemmas.proofs.Lists.{found_passes}
 use Rattle.mq_request.specs.declared.message.Id.{Id}
 use Rattle.mq_request.specs.declared.message.Request.{Request}
 use Rattle.mq_request.specs.declared.message.Request.TheVariants.{Reserve, Settle, Release, Limit, Usage, List as ListRequest, Retire}
 use Rattle.mq_request.specs.declared.message.Reply.TheVariants.{Released, Over, Closed, Mismatch}
 use Rattle.mq_request.specs.Same.{same_text}
 use Rattle.mq_request.specs.Range.{IsReply}
+use Rattle.mq_request.proofs.Alike.{text_is, text_itself}
 use Rattle.mq_ledger.specs.declared.entry.Entry.{Entry}
 use Rattle.mq_ledger.specs.Arrivals.{id_of}
 use Rattle.mq_ledger.specs.Answer.{answer, granted_or_full, settled_or_too_many, set_or_over}
@@ -23,19 +28,12 @@ use Rattle.mq_rows.specs.Rows.{login_of, moment_of, transaction_of, transaction_
 use Rattle.mq_rows.specs.Tables.{Tables, those, AreUsage, AreLimits}
 use Rattle.mq_rows.specs.Found.{is_due, IsGoverning, is_over, IsFirstOver, IsFound}
 use Rattle.mq_rows.specs.Plan.{agrees_with, is_closed, held_by, reserved_by, used_by, cap_by, set_or_over_by, decided, fits, fits_if_open, is_day_over, may_be_found}
-use Rattle.mq_rows.proofs.Lists.{either, option_cases, one_of_those, text_is, text_itself, number_itself}
+use Rattle.mq_rows.proofs.Lists.{one_of_those}
 use Rattle.mq_rows.proofs.Trans.{IsHeard, IsTransactionFound}
-use Rattle.mq_rows.proofs.Days.{Uses, IsUsageFound, both_split}
+use Rattle.mq_rows.proofs.Days.{Uses, IsUsageFound}
 use Rattle.mq_rows.proofs.Limits.{row_of_cap}
 
 -- Members.
-
-pub found_passes : {X : Type 0} (p : X → Bool) (xs : List X) (x : X) → find p xs ≡ Some x → p x ≡ true
-found_passes p [] x h = absurd (cc h)
-found_passes p (y ∷ xs) x h = elim (either (p y)) [
-  | inl t ↦ (let k : Some y ≡ Some x = rw t at h in let same : y ≡ x = cc k in rw (← same) t)
-  | inr f ↦ found_passes p xs x (rw f at h)
-]
 
 pub member_is : {R : Type 0} (p : R → Bool) (rows : List R) (k : ℕ) (x : R) → k < length rows → slice_index_or rows k x ≡ x → p x ≡ true → (o : Option R) → filter p rows ≡ those o → o ≡ Some x
 member_is p [] k x h at t o f = absurd (omega arith)
@@ -57,20 +55,11 @@ one_has p P (y ∷ rows) w h all = elim (either (p y)) [
   | inr f ↦ one_has p P rows w (rw f at h) all.1
 ]
 
-le_true : (m n : ℕ) → m ≤ n → nat_le m n ≡ true
-le_true m n h = grind arith
-
 lt_true : (m n : ℕ) → m < n → nat_lt m n ≡ true
 lt_true m n h = grind arith
 
-true_le : (m n : ℕ) → nat_le m n ≡ true → m ≤ n
-true_le m n h = grind arith
-
 true_lt : (m n : ℕ) → nat_lt m n ≡ true → m < n
 true_lt m n h = grind arith
-
-le_or_lt : (a b : ℕ) → (a ≤ b) ⊎ (b < a)
-le_or_lt a b = grind arith
 
 -- The row of a transaction says how it stands.
 
@@ -126,7 +115,7 @@ module _ (day : ℕ → ℕ) (default : ℕ) (H : List Entry) (us : Uses day def
     | inl t ↦ record {
       row = record { login = login; day = d; settled = settled day H login d; reserved = reserved day H login d };
       here = rw t refl;
-      is_so = rw (text_itself login, le_true from d h, lt_true c (used day H login d) more) refl;
+      is_so = rw (text_itself login, le_is from d h, lt_true c (used day H login d) more) refl;
       day_is = refl;
     }
     | inr f ↦ (let z = us.none login d f in absurd (omega (arith, z.0, z.1)))
@@ -139,9 +128,9 @@ module _ (day : ℕ → ℕ) (default : ℕ) (H : List Entry) (us : Uses day def
 
   split : (login : List ℕ) (from c : ℕ) (u : UsageRecord) → is_over login from c u ≡ true → Split login u from c
   split login from c u h =
-      let b = both_split (same_text login u.login) (nat_le from u.day && nat_lt c (u.reserved + u.settled)) h in
-      let b' = both_split (nat_le from u.day) (nat_lt c (u.reserved + u.settled)) b.1 in
-      record { login_is = text_is login u.login b.0; from_on = true_le from u.day b'.0; above = true_lt c (u.reserved + u.settled) b'.1 }
+      let b = both_parts (same_text login u.login) (nat_le from u.day && nat_lt c (u.reserved + u.settled)) h in
+      let b' = both_parts (nat_le from u.day) (nat_lt c (u.reserved + u.settled)) b.1 in
+      record { login_is = text_is login u.login b.0; from_on = le_of from u.day b'.0; above = true_lt c (u.reserved + u.settled) b'.1 }
 
   least : (rows : List UsageRecord) → AreUsage day H rows → (login : List ℕ) (from c : ℕ) (o : Option UsageRecord) → IsFirstOver login from c rows o → IsLeastOver day H login from c (option_map (λ u. u.day) o)
   least rows are login from c None none = λ d h. elim (le_or_lt (used day H login d) c) [
@@ -186,7 +175,7 @@ cap_of_row l d (Some n) c h = (let e : record { login = l; day = d; cap = n } �
 
 module _ (default : ℕ) (H : List Entry) (gs : Governs default H) (rows : List LimitRecord) (are : AreLimits H rows) where
   due : (l : List ℕ) (d from n : ℕ) → from ≤ d → is_due l d (record { login = l; day = from; cap = n }) ≡ true
-  due l d from n h = rw (text_itself l, le_true from d h) refl
+  due l d from n h = rw (text_itself l, le_is from d h) refl
 
   set_row : (l : List ℕ) (from n : ℕ) → set_cap H l from ≡ Some n → filter (is_limit l from) rows ≡ record { login = l; day = from; cap = n } ∷ []
   set_row l from n h = are l from ∙ ap (λ (o : Option ℕ). those (row_of_cap l from o)) h
@@ -198,9 +187,9 @@ module _ (default : ℕ) (H : List Entry) (gs : Governs default H) (rows : List 
         absurd (cc (f, due l d from p.0 h)))
   ]))
   governs l d (Some c) first =
-      let b = both_split (same_text l c.login) (nat_le c.day d) first.1 in
+      let b = both_parts (same_text l c.login) (nat_le c.day d) first.1 in
       let l_is : l ≡ c.login = text_is l c.login b.0 in
-      let before : c.day ≤ d = true_le c.day d b.1 in
+      let before : c.day ≤ d = le_of c.day d b.1 in
       let mine : is_limit l c.day c ≡ true = rw (l_is, text_itself c.login, number_itself c.day) refl in
       let row : limit_row H l c.day ≡ Some c = member_is (is_limit l c.day) rows first.0.0 c first.0.1 first.0.2 mine (limit_row H l c.day) (are l c.day) in
       let set_is : set_cap H l c.day ≡ Some c.cap = cap_of_row l c.day (set_cap H l c.day) c row in
@@ -236,14 +225,14 @@ module _ (itself : (t : Transaction) → same_transaction t t ≡ true) (day : �
 
 day_over : (id : Id) (o : Option UsageRecord) → IsReply (set_or_over_by id o) → is_day_over o ≡ true
 day_over id None fits = refl
-day_over id (Some u) fits = rw (le_true u.day 376200 fits.1.to, le_true (u.reserved + u.settled) 1000000 fits.2.to) refl
+day_over id (Some u) fits = rw (le_is u.day 376200 fits.1.to, le_is (u.reserved + u.settled) 1000000 fits.2.to) refl
 
 fit : (moment : ℕ) (login : List ℕ) (c : ℕ) (t : Option TransactionRecord) (u : Option UsageRecord) → used_by u ≤ 1000000 → c ≤ 1000000 → (agrees_with moment login t ≡ true → held_by t ≤ reserved_by u) → fits_if_open moment login c t u ≡ true
 fit moment login c t u n k held = elim (either (agrees_with moment login t)) [
   | inr f ↦ rw f refl
   | inl a ↦ elim (either (is_closed t)) [
     | inl shut ↦ rw (a, shut) refl
-    | inr still ↦ rw (a, still, le_true (used_by u) 1000000 n, le_true (held_by t) (reserved_by u) (held a), le_true c 1000000 k) refl
+    | inr still ↦ rw (a, still, le_is (used_by u) 1000000 n, le_is (held_by t) (reserved_by u) (held a), le_is c 1000000 k) refl
   ]
 ]
 

@@ -1,7 +1,7 @@
 -- The pairs of the rows of a legal history are right.
 use Rattle.std.proofs.Common.{◌<◌, ◌≡◌, ℕ, suc, pos, ◌+◌, ◌≤◌, List, [], ◌∷◌, ◌++◌, map, length, Bool, true, false, refl, ◌∙◌, ap, sym, subst, inl, inr, arith}
-use Rattle.std.specs.Prelude.{ℤ, ◌+ℤ◌, filter, find, fold, sum_by, ◌&&◌, ◌==◌, ◌⊎◌, nat_le, nat_lt, int_le, if◌then◌else◌, Option, Some, None, option_map, is_some, All, Contains}
-use Rattle.std.specs.List.{AllByRecursion, list_any}
+use Rattle.std.specs.Prelude.{ℤ, ◌+ℤ◌, find, fold, sum_by, ◌&&◌, ◌==◌, ◌⊎◌, nat_lt, int_le, if◌then◌else◌, Option, Some, None, option_map, is_some, All, Contains}
+use Rattle.std.specs.List.{AllByRecursion}
 use Rattle.std.specs.Ordering.{int_eq}
 use Rattle.std.specs.Cmp.{signed_Decides}
 use Rattle.std.proofs.lemmas.Bool.Decides.{nat_tests}
@@ -13,6 +13,10 @@ use Rattle.std.proofs.Math.ListN.{set}
 use Rattle.std.proofs.lemmas.List.{map-set, get_or-map, length-map}
 use Rattle.std.proofs.lemmas.List.Sorted.{IsPermutation-refl, IsPermutation-trans, IsPermutation-swap, IsPermutation-keeps}
 use Rattle.std.proofs.lemmas.List.Elements.{All-head}
+use Rattle.mq_lemmas.proofs.Numbers.{le_is, number_is, number_itself}
+use Rattle.mq_lemmas.proofs.Lists.{In, all_at, all_of, weaker}
+use Rattle.mq_lemmas.proofs.Booleans.{either}
+use Rattle.mq_lemmas.proofs.Options.{option_cases}
 use Rattle.mq_request.specs.declared.message.Request.{Request}
 use Rattle.mq_request.specs.declared.message.Request.TheVariants.{Reserve, Settle, Release, Limit, Usage, List as ListRequest, Retire}
 use Rattle.mq_request.specs.Range.{IsRequest, IsMoment}
@@ -34,10 +38,11 @@ use Rattle.mq_rows.specs.Figured.{usage_figures, transaction_figures, limit_figu
 use Rattle.mq_rows.specs.Found.{is_due, IsGoverning}
 use Rattle.mq_rows.specs.Pair.{same_pair}
 use Rattle.mq_rows.specs.Plan.{key_of, cap_by}
-use Rattle.mq_rows.specs.Rows.{login_of, moment_of, transaction_of, transaction_row, usage_row, limit_row, is_transaction, is_usage, is_limit}
+use Rattle.mq_rows.specs.Rows.{moment_of, transaction_of, transaction_row, usage_row, limit_row, is_transaction, is_usage, is_limit}
 use Rattle.mq_rows.specs.Tables.{Tables, those, AreTransactions, AreUsage, AreLimits}
 use Rattle.mq_rows.proofs.Replies.{Governs, governs}
-use Rattle.mq_rows.proofs.Lists.{either, option_cases, number_is, number_itself, none_pass, those_are_found, find_of_those, in_any_order}
+use Rattle.mq_rows.proofs.Lists.{those_are_found, find_of_those, in_any_order}
+use Rattle.mq_rows.proofs.RowSums.{keys, Once, distinct, few_of, one_there, IsRowOf, row_of, sums_by_key, is_on, held_here, settled_here}
 
 -- Numbers.
 
@@ -53,23 +58,7 @@ ints_are a b = elim (either (a == b)) [
 pub same_int : (x y : ℤ) → x ≡ y → int_eq x y ≡ true
 same_int x y e = (signed_Decides x y).1 e
 
-pub le_so : (a b : ℕ) → a ≤ b → nat_le a b ≡ true
-le_so a b h = grind (arith, nat_tests)
-
 -- Members.
-
-abbrev pub In : {X : Type 0} → X → List X → Type 0
-In x [] = ⊥
-In x (y ∷ ys) = (y ≡ x) ⊎ In x ys
-
-pub all_of : {X : Type 0} (P : X → Type 0) (xs : List X) → ((x : X) → In x xs → P x) → AllByRecursion P xs
-all_of P [] h = tt
-all_of P (x ∷ xs) h = (h x (inl refl), all_of P xs (λ y i. h y (inr i)))
-
-pub all_at : {X : Type 0} (P : X → Type 0) (xs : List X) (x : X) → AllByRecursion P xs → In x xs → P x
-all_at P [] x all i = absurd i
-all_at P (y ∷ xs) x all (inl e) = subst P e all.0
-all_at P (y ∷ xs) x all (inr i) = all_at P xs x all.1 i
 
 pub in_contains : {X : Type 0} (xs : List X) (x : X) → In x xs → Contains xs x
 in_contains [] x i = absurd i
@@ -97,65 +86,6 @@ find_mapped f p q same (x ∷ xs) = elim (either (q x)) [
 
 -- The transactions' keys.
 
-abbrev keys : List TransactionRecord → List Transaction
-keys rows = map key_of rows
-
-abbrev Once : List TransactionRecord → Type 0
-Once rows = (k : Transaction) → length (filter (is_transaction k) rows) ≤ 1
-
-shorter : (p : TransactionRecord → Bool) (x : TransactionRecord) (rows : List TransactionRecord) → length (filter p rows) ≤ length (filter p (x ∷ rows))
-shorter p x rows = elim (either (p x)) [ inl t ↦ rw t (omega arith) | inr f ↦ rw f (omega arith) ]
-
-none_any : (k : Transaction) (rows : List TransactionRecord) → AllByRecursion (λ r. is_transaction k r ≡ false) rows → list_any (same_transaction k) (keys rows) ≡ false
-none_any k [] all = refl
-none_any k (r ∷ rows) all = rw all.0 (none_any k rows all.1)
-
-empty : {X : Type 0} (xs : List X) → length xs ≤ 0 → xs ≡ []
-empty [] h = refl
-empty (x ∷ xs) h = absurd (omega arith)
-
-distinct : ((t : Transaction) → same_transaction t t ≡ true) → (rows : List TransactionRecord) → Once rows → AreDistinct (keys rows)
-distinct itself [] once = tt
-distinct itself (x ∷ rows) once =
-    let mine : is_transaction (key_of x) x ≡ true = itself (key_of x) in
-    let few : length (filter (is_transaction (key_of x)) (x ∷ rows)) ≤ 1 = once (key_of x) in
-    let few' : length (x ∷ filter (is_transaction (key_of x)) rows) ≤ 1 = rw mine at few in
-    let none : filter (is_transaction (key_of x)) rows ≡ [] = empty _ (omega arith) in
-    (none_any (key_of x) rows (none_pass (is_transaction (key_of x)) rows none), distinct itself rows (λ k. omega (arith, once k, shorter (is_transaction k) x rows)))
-
-few_of : {X : Type 0} (o : Option X) → length (those o) ≤ 1
-few_of None = omega arith
-few_of (Some x) = omega arith
-
-one_there : (k : Transaction) (rows : List TransactionRecord) (r : TransactionRecord) → filter (is_transaction k) rows ≡ r ∷ [] → list_any (same_transaction k) (keys rows) ≡ true
-one_there k [] r h = absurd (cc h)
-one_there k (x ∷ rows) r h = elim (either (is_transaction k x)) [
-  | inl t ↦ rw t refl
-  | inr f ↦ rw f (one_there k rows r (rw f at h))
-]
-
--- a row of a transaction is that of its first entry
-record IsRowOf (day : ℕ → ℕ) (H : List Entry) (r : TransactionRecord) : Type 0 where
-  first : Entry
-  names : named H (key_of r) ≡ Some first
-  row : transaction_of day H (key_of r) first ≡ r
-
-row_of : (day : ℕ → ℕ) (H : List Entry) (r : TransactionRecord) → transaction_row day H (key_of r) ≡ Some r → IsRowOf day H r
-row_of day H r h = elim (option_cases (named H (key_of r))) [
-  | inl none ↦ (let h' : None ≡ Some r = rw none at h in absurd (cc h'))
-  | inr p ↦ (let h' : Some (transaction_of day H (key_of r) p.0) ≡ Some r = rw p.1 at h in record { first = p.0; names = p.1; row = cc h' })
-]
-
--- the login and the moment of a request of a transaction
-for_pair : (day : ℕ → ℕ) (t : Transaction) (r : Request) (l : List ℕ) (d : ℕ) → is_of t r ≡ true → is_for day l d r ≡ (same_text l (login_of r) && (day (moment_of r) == d))
-for_pair day t (Reserve id txn moment login count) l d mine = refl
-for_pair day t (Settle id txn moment login count) l d mine = refl
-for_pair day t (Release id txn moment login) l d mine = refl
-for_pair day t (Limit id from c login) l d mine = absurd (cc mine)
-for_pair day t (Usage login k) l d mine = absurd (cc mine)
-for_pair day t (ListRequest k after) l d mine = absurd (cc mine)
-for_pair day t (Retire id) l d mine = absurd (cc mine)
-
 moment_in : (t : Transaction) (r : Request) → is_of t r ≡ true → IsRequest r → IsMoment (moment_of r)
 moment_in t (Reserve id txn moment login count) mine h = h.2
 moment_in t (Settle id txn moment login count) mine h = h.2
@@ -165,32 +95,12 @@ moment_in t (Usage login k) mine h = absurd (cc mine)
 moment_in t (ListRequest k after) mine h = absurd (cc mine)
 moment_in t (Retire id) mine h = absurd (cc mine)
 
--- the row is of that login and day
-abbrev is_on : List ℕ → ℕ → TransactionRecord → Bool
-is_on l d r = same_text l r.login && (r.day == d)
-
 all_in : {X : Type 0} (P : X → Type 0) (xs : List X) (x : X) → All P xs → In x xs → P x
 all_in P [] x all i = absurd i
 all_in P (y ∷ xs) x all (inl e) = subst P e (All-head P y xs all)
 all_in P (y ∷ xs) x all (inr i) = all_in P xs x (λ k d h. all (suc k) d (omega arith)) i
 
 module _ (day : ℕ → ℕ) (H : List Entry) where
-  named_for : (l : List ℕ) (d : ℕ) (r : TransactionRecord) → IsRowOf day H r → names_for day l d (named H (key_of r)) ≡ is_on l d r
-  named_for l d r is =
-      let mine : is_of (key_of r) is.first.request ≡ true = (found (λ e. is_of (key_of r) e.request) H is.first is.names).passes in
-      let here : names_for day l d (named H (key_of r)) ≡ is_for day l d is.first.request = ap (names_for day l d) is.names in
-      here ∙ for_pair day (key_of r) is.first.request l d mine ∙ ap (is_on l d) is.row
-
-  held_here : (l : List ℕ) (d : ℕ) (r : TransactionRecord) → IsRowOf day H r → (if is_on l d r then r.held else 0) ≡ held_on day H l d (key_of r)
-  held_here l d r is =
-      let h : held H (key_of r) ≡ r.held = ap (λ (x : TransactionRecord). x.held) is.row in
-      sym (ap (λ (b : Bool). if b then held H (key_of r) else 0) (named_for l d r is) ∙ ap (λ (n : ℕ). if is_on l d r then n else 0) h)
-
-  settled_here : (l : List ℕ) (d : ℕ) (r : TransactionRecord) → IsRowOf day H r → (if is_on l d r then r.settled else 0) ≡ settled_on day H l d (key_of r)
-  settled_here l d r is =
-      let h : settled_in H (key_of r) ≡ r.settled = ap (λ (x : TransactionRecord). x.settled) is.row in
-      sym (ap (λ (b : Bool). if b then settled_in H (key_of r) else 0) (named_for l d r is) ∙ ap (λ (n : ℕ). if is_on l d r then n else 0) h)
-
   dated_here : All (λ e. IsRequest e.request) H → (r : TransactionRecord) → IsRowOf day H r → is_moment_of day (pos r.day) (pos r.moment) ≡ true
   dated_here range r is =
       let it = found (λ e. is_of (key_of r) e.request) H is.first is.names in
@@ -199,7 +109,7 @@ module _ (day : ℕ → ℕ) (H : List Entry) where
       let m' : IsMoment r.moment = subst IsMoment n m in
       let d : day (moment_of is.first.request) ≡ r.day = ap (λ (x : TransactionRecord). x.day) is.row in
       let d' : int_eq (pos (day r.moment)) (pos r.day) ≡ true = same_int _ _ (ap pos (ap day (sym n) ∙ d)) in
-      rw (le_so 86400 r.moment m'.from, le_so r.moment 32503680000 m'.to, d') refl
+      rw (le_is 86400 r.moment m'.from, le_is r.moment 32503680000 m'.to, d') refl
 
 -- Sums of figures.
 
@@ -222,20 +132,12 @@ total_on l d of amount is (r ∷ rows) =
           rw f' (more ∙ ap pos (omega (arith, cons, own))))
     ]
 
-sums_by_key : (f : TransactionRecord → ℕ) (g : Transaction → ℕ) (rows : List TransactionRecord) → AllByRecursion (λ r. f r ≡ g (key_of r)) rows → sum_by f rows ≡ sum_by g (keys rows)
-sums_by_key f g [] all = refl
-sums_by_key f g (r ∷ rows) all = omega (arith, sum_by-cons f r rows, sum_by-cons g (key_of r) (keys rows), all.0, sums_by_key f g rows all.1)
-
 dated_on : (day : ℕ → ℕ) (p : Pair) (rows : List TransactionRecord) → AllByRecursion (λ r. is_moment_of day (pos r.day) (pos r.moment) ≡ true) rows → are_dated day (transactions_of p (map transaction_figures rows)) ≡ true
 dated_on day p [] all = refl
 dated_on day p (r ∷ rows) all = elim (either (same_pair p (transaction_figures r).pair)) [
   | inl t ↦ rw (t, all.0) (dated_on day p rows all.1)
   | inr f ↦ rw f (dated_on day p rows all.1)
 ]
-
-weaker : {X : Type 0} (P Q : X → Type 0) → ((x : X) → P x → Q x) → (xs : List X) → AllByRecursion P xs → AllByRecursion Q xs
-weaker P Q h [] all = tt
-weaker P Q h (x ∷ xs) all = (h x all.0, weaker P Q h xs all.1)
 
 -- The limit that governs.
 
@@ -405,7 +307,7 @@ module _ (day : ℕ → ℕ) (default : ℕ) (H : List Entry) (laws : Laws day d
     right_here =
         let s : audit.settled_by (find (λ u. same_pair p u.pair) (map usage_figures t.usage)) ≡ pos (settled day H l d) = ap audit.settled_by usage_is ∙ settled_is in
         let r : audit.reserved_by (find (λ u. same_pair p u.pair) (map usage_figures t.usage)) ≡ pos (reserved day H l d) = ap audit.reserved_by usage_is ∙ reserved_is in
-        let w : int_le (pos (settled day H l d + reserved day H l d)) (pos (cap default H l d)) ≡ true = le_so _ _ (omega (arith, laws.within l d)) in
+        let w : int_le (pos (settled day H l d + reserved day H l d)) (pos (cap default H l d)) ≡ true = le_is _ _ (omega (arith, laws.within l d)) in
         all_four _ _ _ _ (same_int _ _ (s ∙ sym settled_total)) (same_int _ _ (r ∙ sym held_total)) ((λ i. int_le (s i +ℤ r i) (cap_is i)) ∙ w)
         (dated_on day p t.transactions (weaker (IsRowOf day H) _ (dated_here day H laws.range) t.transactions are_rows))
 

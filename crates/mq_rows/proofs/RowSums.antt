@@ -3,9 +3,14 @@ use Rattle.std.proofs.Common.{◌≡◌, ℕ, ◌≤◌, List, [], ◌∷◌, ma
 use Rattle.std.specs.Prelude.{filter, find, sum_by, ◌&&◌, ◌==◌, if◌then◌else◌, Option, Some, None, is_some}
 use Rattle.std.specs.List.{AllByRecursion, list_any}
 use Rattle.std.proofs.lemmas.List.Sums.{sum_by-cons}
+use Rattle.mq_lemmas.proofs.Lists.{empty, weaker, found_passes}
+use Rattle.mq_lemmas.proofs.Booleans.{either}
+use Rattle.mq_lemmas.proofs.Options.{option_cases}
+use Rattle.mq_lemmas.proofs.Numbers.{number_itself}
 use Rattle.mq_request.specs.declared.message.Request.{Request}
 use Rattle.mq_request.specs.declared.message.Request.TheVariants.{Reserve, Settle, Release, Limit, Usage, List as ListRequest, Retire}
 use Rattle.mq_request.specs.Same.{same_text}
+use Rattle.mq_request.proofs.Alike.{text_itself}
 use Rattle.mq_ledger.specs.declared.entry.Entry.{Entry}
 use Rattle.mq_ledger.specs.History.{Transaction, same_transaction, is_of, is_at, named, agrees, held, settled_in, reserved, settled}
 use Rattle.mq_ledger.specs.Page.{has_reserve}
@@ -16,7 +21,7 @@ use Rattle.mq_rows.specs.Plan.{key_of}
 use Rattle.mq_rows.specs.Rows.{login_of, moment_of, transaction_of, transaction_row, usage_row, is_transaction}
 use Rattle.mq_rows.specs.Tables.{those, AreTransactions}
 use Rattle.mq_rows.specs.Plan.{Has}
-use Rattle.mq_rows.proofs.Lists.{either, option_cases, text_itself, number_itself, none_pass, those_are_found, find_of_those}
+use Rattle.mq_rows.proofs.Lists.{none_pass, those_are_found, find_of_those}
 
 -- the row is of that login and day
 abbrev pub is_on : List ℕ → ℕ → TransactionRecord → Bool
@@ -47,31 +52,20 @@ all_at P [] x all i = absurd i
 all_at P (y ∷ xs) x all (inl e) = subst P e all.0
 all_at P (y ∷ xs) x all (inr i) = all_at P xs x all.1 i
 
-found : {X : Type 0} (p : X → Bool) (xs : List X) (x : X) → find p xs ≡ Some x → p x ≡ true
-found p [] x h = absurd (cc h)
-found p (y ∷ xs) x h = elim (either (p y)) [
-  | inl t ↦ (let h' : Some y ≡ Some x = rw t at h in let e : y ≡ x = cc h' in ap p (sym e) ∙ t)
-  | inr f ↦ found p xs x (rw f at h)
-]
-
-abbrev keys : List TransactionRecord → List Transaction
+abbrev pub keys : List TransactionRecord → List Transaction
 keys rows = map key_of rows
 
-abbrev Once : List TransactionRecord → Type 0
+abbrev pub Once : List TransactionRecord → Type 0
 Once rows = (k : Transaction) → length (filter (is_transaction k) rows) ≤ 1
 
-shorter : (p : TransactionRecord → Bool) (x : TransactionRecord) (rows : List TransactionRecord) → length (filter p rows) ≤ length (filter p (x ∷ rows))
+pub shorter : (p : TransactionRecord → Bool) (x : TransactionRecord) (rows : List TransactionRecord) → length (filter p rows) ≤ length (filter p (x ∷ rows))
 shorter p x rows = elim (either (p x)) [ inl t ↦ rw t (omega arith) | inr f ↦ rw f (omega arith) ]
 
-none_any : (k : Transaction) (rows : List TransactionRecord) → AllByRecursion (λ r. is_transaction k r ≡ false) rows → list_any (same_transaction k) (keys rows) ≡ false
+pub none_any : (k : Transaction) (rows : List TransactionRecord) → AllByRecursion (λ r. is_transaction k r ≡ false) rows → list_any (same_transaction k) (keys rows) ≡ false
 none_any k [] all = refl
 none_any k (r ∷ rows) all = rw all.0 (none_any k rows all.1)
 
-empty : {X : Type 0} (xs : List X) → length xs ≤ 0 → xs ≡ []
-empty [] h = refl
-empty (x ∷ xs) h = absurd (omega arith)
-
-distinct : ((t : Transaction) → same_transaction t t ≡ true) → (rows : List TransactionRecord) → Once rows → AreDistinct (keys rows)
+pub distinct : ((t : Transaction) → same_transaction t t ≡ true) → (rows : List TransactionRecord) → Once rows → AreDistinct (keys rows)
 distinct itself [] once = tt
 distinct itself (x ∷ rows) once =
     let mine : is_transaction (key_of x) x ≡ true = itself (key_of x) in
@@ -80,11 +74,11 @@ distinct itself (x ∷ rows) once =
     let none : filter (is_transaction (key_of x)) rows ≡ [] = empty _ (omega arith) in
     (none_any (key_of x) rows (none_pass (is_transaction (key_of x)) rows none), distinct itself rows (λ k. omega (arith, once k, shorter (is_transaction k) x rows)))
 
-few_of : {X : Type 0} (o : Option X) → length (those o) ≤ 1
+pub few_of : {X : Type 0} (o : Option X) → length (those o) ≤ 1
 few_of None = omega arith
 few_of (Some x) = omega arith
 
-one_there : (k : Transaction) (rows : List TransactionRecord) (r : TransactionRecord) → filter (is_transaction k) rows ≡ r ∷ [] → list_any (same_transaction k) (keys rows) ≡ true
+pub one_there : (k : Transaction) (rows : List TransactionRecord) (r : TransactionRecord) → filter (is_transaction k) rows ≡ r ∷ [] → list_any (same_transaction k) (keys rows) ≡ true
 one_there k [] r h = absurd (cc h)
 one_there k (x ∷ rows) r h = elim (either (is_transaction k x)) [
   | inl t ↦ rw t refl
@@ -104,9 +98,9 @@ row_of day H r h = elim (option_cases (named H (key_of r))) [
 ]
 
 pub is_mine : (day : ℕ → ℕ) (H : List Entry) (r : TransactionRecord) (is : IsRowOf day H r) → is_of (key_of r) is.first.request ≡ true
-is_mine day H r is = found (λ e. is_of (key_of r) e.request) H is.first is.names
+is_mine day H r is = found_passes (λ e. is_of (key_of r) e.request) H is.first is.names
 
-for_pair : (day : ℕ → ℕ) (t : Transaction) (r : Request) (l : List ℕ) (d : ℕ) → is_of t r ≡ true → is_for day l d r ≡ (same_text l (login_of r) && (day (moment_of r) == d))
+pub for_pair : (day : ℕ → ℕ) (t : Transaction) (r : Request) (l : List ℕ) (d : ℕ) → is_of t r ≡ true → is_for day l d r ≡ (same_text l (login_of r) && (day (moment_of r) == d))
 for_pair day t (Reserve id txn moment login count) l d mine = refl
 for_pair day t (Settle id txn moment login count) l d mine = refl
 for_pair day t (Release id txn moment login) l d mine = refl
@@ -135,13 +129,9 @@ pub day_is : (day : ℕ → ℕ) (H : List Entry) (r : TransactionRecord) → Is
 day_is day H r is =
     ap day (sym (ap (λ (x : TransactionRecord). x.moment) is.row)) ∙ ap (λ (x : TransactionRecord). x.day) is.row
 
-sums_by_key : (f : TransactionRecord → ℕ) (g : Transaction → ℕ) (rows : List TransactionRecord) → AllByRecursion (λ r. f r ≡ g (key_of r)) rows → sum_by f rows ≡ sum_by g (keys rows)
+pub sums_by_key : (f : TransactionRecord → ℕ) (g : Transaction → ℕ) (rows : List TransactionRecord) → AllByRecursion (λ r. f r ≡ g (key_of r)) rows → sum_by f rows ≡ sum_by g (keys rows)
 sums_by_key f g [] all = refl
 sums_by_key f g (r ∷ rows) all = omega (arith, sum_by-cons f r rows, sum_by-cons g (key_of r) (keys rows), all.0, sums_by_key f g rows all.1)
-
-weaker : {X : Type 0} (P Q : X → Type 0) → ((x : X) → P x → Q x) → (xs : List X) → AllByRecursion P xs → AllByRecursion Q xs
-weaker P Q h [] all = tt
-weaker P Q h (x ∷ xs) all = (h x all.0, weaker P Q h xs all.1)
 
 -- what the ledger's laws say of a legal history
 pub record Laws (day : ℕ → ℕ) (H : List Entry) : Type 0 where
@@ -151,16 +141,16 @@ pub record Laws (day : ℕ → ℕ) (H : List Entry) : Type 0 where
   pub none : (l : List ℕ) (d : ℕ) → has_reserve day H d l ≡ false → (reserved day H l d ≡ 0) × (settled day H l d ≡ 0)
 
 module _ (day : ℕ → ℕ) (H : List Entry) where
-  named_for : (l : List ℕ) (d : ℕ) (r : TransactionRecord) → IsRowOf day H r → names_for day l d (named H (key_of r)) ≡ is_on l d r
+  pub named_for : (l : List ℕ) (d : ℕ) (r : TransactionRecord) → IsRowOf day H r → names_for day l d (named H (key_of r)) ≡ is_on l d r
   named_for l d r is =
       ap (names_for day l d) is.names ∙ for_pair day (key_of r) is.first.request l d (is_mine day H r is) ∙ ap (is_on l d) is.row
 
-  held_here : (l : List ℕ) (d : ℕ) (r : TransactionRecord) → IsRowOf day H r → (if is_on l d r then r.held else 0) ≡ held_on day H l d (key_of r)
+  pub held_here : (l : List ℕ) (d : ℕ) (r : TransactionRecord) → IsRowOf day H r → (if is_on l d r then r.held else 0) ≡ held_on day H l d (key_of r)
   held_here l d r is =
       let h : held H (key_of r) ≡ r.held = ap (λ (x : TransactionRecord). x.held) is.row in
       sym (ap (λ (b : Bool). if b then held H (key_of r) else 0) (named_for l d r is) ∙ ap (λ (n : ℕ). if is_on l d r then n else 0) h)
 
-  settled_here : (l : List ℕ) (d : ℕ) (r : TransactionRecord) → IsRowOf day H r → (if is_on l d r then r.settled else 0) ≡ settled_on day H l d (key_of r)
+  pub settled_here : (l : List ℕ) (d : ℕ) (r : TransactionRecord) → IsRowOf day H r → (if is_on l d r then r.settled else 0) ≡ settled_on day H l d (key_of r)
   settled_here l d r is =
       let h : settled_in H (key_of r) ≡ r.settled = ap (λ (x : TransactionRecord). x.settled) is.row in
       sym (ap (λ (b : Bool). if b then settled_in H (key_of r) else 0) (named_for l d r is) ∙ ap (λ (n : ℕ). if is_on l d r then n else 0) h)

@@ -6,11 +6,12 @@ use Rattle.std.specs.declared.cmp.Ordering.{Ordering}
 use Rattle.std.specs.declared.cmp.Ordering.TheVariants.{Less, Equal, Greater}
 use Rattle.std.specs.List.{AllByRecursion}
 use Rattle.std.specs.Ordering.{is_lt, is_gt, ordering_reverse}
+use Rattle.mq_lemmas.proofs.Booleans.{either}
+use Rattle.mq_lemmas.proofs.Lists.{In, all_of, all_at}
 use Rattle.mq_rows.specs.declared.audited.Pair.{Pair}
 use Rattle.mq_rows.specs.Books.{less_wrong, least_wrong}
 use Rattle.mq_rows.specs.Pair.{pair_cmp, pair_cmp_total, is_before}
-use Rattle.mq_rows.proofs.Lists.{either}
-use Rattle.mq_rows.proofs.Rightness.{In, all_of, all_at, in_contains}
+use Rattle.mq_rows.proofs.Rightness.{in_contains}
 
 -- The order of pairs.
 

@@ -2,6 +2,9 @@
 use Rattle.std.proofs.Common.{◌≡◌, ℕ, zero, suc, ◌≤◌, List, [], ◌∷◌, true, false, refl, ◌∙◌, ap, sym, subst, inl, inr, arith, length}
 use Rattle.std.specs.Prelude.{Option, Some, None, Contains, map, slice_index_or}
 use Rattle.std.specs.List.{AllByRecursion}
+use Rattle.mq_lemmas.proofs.Booleans.{either}
+use Rattle.mq_lemmas.proofs.Numbers.{number_itself}
+use Rattle.mq_request.proofs.Alike.{text_itself}
 use Rattle.mq_ledger.specs.declared.entry.Entry.{Entry}
 use Rattle.mq_ledger.specs.History.{settled, reserved}
 use Rattle.mq_ledger.specs.Page.{has_reserve}
@@ -9,7 +12,6 @@ use Rattle.mq_rows.specs.declared.record.UsageRecord.{UsageRecord}
 use Rattle.mq_rows.specs.Days.{IsOldest, IsNewest, IsReservedOn, IsUnreserved, IsFirstReserved, IsLastReserved}
 use Rattle.mq_rows.specs.Rows.{usage_row, is_usage}
 use Rattle.mq_rows.specs.Tables.{those, AreUsage}
-use Rattle.mq_rows.proofs.Lists.{either, number_itself, text_itself}
 use Rattle.mq_rows.proofs.Replies.{member_is, one_has}
 
 -- a row that has that day

@@ -2,6 +2,8 @@
 use Rattle.std.proofs.Common.{◌≡◌, ℕ, ◌+◌, List, [], ◌∷◌, ◌++◌, Bool, true, false, refl, ◌∙◌, ap, sym, subst, inl, inr, arith}
 use Rattle.std.specs.Prelude.{◌&&◌, ◌||◌, if◌then◌else◌, Option, Some, None, option_map}
 use Rattle.std.specs.Option.{option_or}
+use Rattle.mq_lemmas.proofs.Booleans.{or_false, or_true, neither_so, either}
+use Rattle.mq_lemmas.proofs.Options.{option_cases}
 use Rattle.mq_request.specs.declared.message.Id.{Id}
 use Rattle.mq_request.specs.declared.message.Request.{Request}
 use Rattle.mq_request.specs.declared.message.Request.TheVariants.{Reserve, Settle, Release, Limit, Usage, List as ListRequest, Retire}
@@ -13,13 +15,14 @@ use Rattle.mq_ledger.specs.Arrivals.{is_below}
 use Rattle.mq_ledger.specs.History.{requests, Transaction, transaction, same_transaction, is_of, named, agrees, closes, ended, retires, closed, granted, counted, held, settled_in, used}
 use Rattle.mq_ledger.specs.Limits.{cap}
 use Rattle.mq_ledger.specs.Suits.{Suits}
+use Rattle.mq_ledger.proofs.Transactions.{entry}
 use Rattle.mq_rows.specs.declared.record.TransactionRecord.{TransactionRecord}
 use Rattle.mq_rows.specs.declared.plan.Write.TheVariants.{Keep, Update}
 use Rattle.mq_rows.specs.Rows.{login_of, moment_of, transaction_of, transaction_row, is_transaction}
 use Rattle.mq_rows.specs.Tables.{those, AreTransactions}
 use Rattle.mq_rows.specs.Retiring.{is_retire, IsUnretired}
 use Rattle.mq_rows.specs.Plan.{fresh, moves, moved, moved_or_made, transaction_write, Leads, key_of, same_key, set_transaction}
-use Rattle.mq_rows.proofs.Lists.{either, option_cases, kept, insert, update}
+use Rattle.mq_rows.proofs.Lists.{kept, insert, update}
 
 -- What the ledger's laws say of one more entry and of transactions.
 pub record Ledger (day : ℕ → ℕ) (default : ℕ) : Type 0 where
@@ -47,9 +50,6 @@ pub record Entries (H : List Entry) (r : Request) (a : Reply) : Type 0 where
 abbrev pub IsHeard : List Entry → Request → Type 0
 IsHeard H r = (t : Transaction) → is_of t r ≡ true → named H t ≡ None → (closed H t ≡ false) × (held H t ≡ 0) × (settled_in H t ≡ 0)
 
-abbrev pub entry : Request → Reply → Entry
-entry r a = record { request = r; reply = a }
-
 pub retires_nothing : (r : Request) (t : Transaction) → is_retire r ≡ false → retires r t ≡ false
 retires_nothing (Reserve id txn moment login count) t h = refl
 retires_nothing (Settle id txn moment login count) t h = refl
@@ -59,16 +59,13 @@ retires_nothing (Usage login d) t h = refl
 retires_nothing (ListRequest d l) t h = refl
 retires_nothing (Retire id) t h = absurd (cc h)
 
-neither : (a b : Bool) → a ≡ false → b ≡ false → (a || b) ≡ false
-neither a b f g = rw (f, g) refl
-
 module _ (day : ℕ → ℕ) (default : ℕ) (laws : Ledger day default) (H : List Entry) where
   -- its transaction isn't of a run that was given up
   open_of : (id : Id) (txn : ℕ) (t : Transaction) → is_below (requests H) id ≡ false → same_transaction t (transaction id txn) ≡ true → named H t ≡ None → (closed H t ≡ false) × (held H t ≡ 0) × (settled_in H t ≡ 0)
   open_of id txn t above own none =
       let is : t ≡ transaction id txn = laws.same t (transaction id txn) own in
       let u = laws.unheard H t none in
-      let c : closed H (transaction id txn) ≡ false = neither (is_below (requests H) id) (ended H (transaction id txn)) above (subst (λ x. ended H x ≡ false) is u.0) in
+      let c : closed H (transaction id txn) ≡ false = neither_so (is_below (requests H) id) (ended H (transaction id txn)) above (subst (λ x. ended H x ≡ false) is u.0) in
       (subst (λ x. closed H x ≡ false) (sym is) c, u.1, u.2)
 
   pub heard : (r : Request) → IsUnretired H r → IsHeard H r
@@ -114,13 +111,9 @@ option_same (Some x) f g h = ap Some (h x)
 rows_same : (day : ℕ → ℕ) (H G : List Entry) (t : Transaction) → named G t ≡ named H t → held G t ≡ held H t → settled_in G t ≡ settled_in H t → closed G t ≡ closed H t → transaction_row day G t ≡ transaction_row day H t
 rows_same day H G t n h s c = rw n (option_same (named H t) (transaction_of day G t) (transaction_of day H t) (λ e. standing_same (transaction_of day H t e) _ _ _ _ _ _ h s c))
 
-or_none : (o : Option Entry) → option_or o None ≡ o
+pub or_none : (o : Option Entry) → option_or o None ≡ o
 or_none None = refl
 or_none (Some e) = refl
-
-or_false : (b : Bool) → (b || false) ≡ b
-or_false true = refl
-or_false false = refl
 
 still_held : (c : Bool) (h : ℕ) (o k : Bool) (g : ℕ) → o ≡ false → (c ≡ true → h ≡ 0) → (if c || (o && k) then 0 else h + (if o then g else 0)) ≡ h
 still_held true h o k g p none = sym (none refl)
@@ -199,10 +192,6 @@ grants r a t count c g n f =
     let s : t.settled + counted r a ≡ t.settled = omega arith in
     let k : (t.closed || closes a) ≡ t.closed = rw c (or_false t.closed) in
     standing_same t _ (t.held + count) _ t.settled _ t.closed h s k
-
-or_true : (b : Bool) → (b || true) ≡ true
-or_true true = refl
-or_true false = refl
 
 shuts : (r : Request) (a : Reply) (t : TransactionRecord) (settled : ℕ) → closes a ≡ true → t.settled + counted r a ≡ settled → after r a t ≡ record t { held = 0; settled = settled; closed = true }
 shuts r a t settled c s =

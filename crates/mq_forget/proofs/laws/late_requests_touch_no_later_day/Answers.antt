@@ -1,10 +1,13 @@
 -- A history and what is remembered of it, while later requests come, and those of earlier days late or again.
 use Rattle.std.proofs.Common.{◌≡◌, ℕ, List, [], ◌∷◌, ◌++◌, Bool, true, false, refl, ◌∙◌, ap, sym, subst, inl, inr, arith, append_assoc, append-nil}
-use Rattle.std.specs.Prelude.{◌⊎◌, ◌&&◌, ◌||◌, not, nat_le, find, filter, if◌then◌else◌, All, Option, Some, None, is_some, is_none}
+use Rattle.std.specs.Prelude.{◌⊎◌, ◌&&◌, ◌||◌, not, nat_le, find, if◌then◌else◌, All, Option, Some, None, is_some, is_none}
 use Rattle.std.specs.List.{AllByRecursion}
 use Rattle.std.specs.Option.{option_or}
 use Rattle.std.proofs.lemmas.List.Elements.{recursion_from_All, All-from_recursion}
 use Rattle.std.proofs.lemmas.List.Folds.{find-append}
+use Rattle.mq_lemmas.proofs.Booleans.{clash, is_not, either_of, or_second, either, neither, first_so, second_so}
+use Rattle.mq_lemmas.proofs.Options.{none_some, not_some, option_cases}
+use Rattle.mq_lemmas.proofs.Lists.{in_filter, In, all_push}
 use Rattle.mq_request.specs.Range.{IsRequest}
 use Rattle.mq_request.specs.Same.{same_request}
 use Rattle.mq_request.specs.declared.message.Id.{Id}
@@ -17,33 +20,18 @@ use Rattle.mq_ledger.specs.Answer.{answer, stored, known_by, reply, reply_to, re
 use Rattle.mq_ledger.specs.Arrivals.{id_of, has_id, is_below}
 use Rattle.mq_ledger.specs.History.{Transaction, transaction, is_of, named, requests}
 use Rattle.mq_ledger.specs.Legal.{IsLegal}
+use Rattle.mq_ledger.proofs.Books.{arrival_of_known}
+use Rattle.mq_ledger.proofs.Transactions.{entry}
 use Rattle.mq_forget.specs.Remembered.{moment_of, day_named, is_about, is_set, stays, remembered, is_remembered, is_later, is_later_by, is_past, AreLaterOrPast, names_earlier, is_itself, is_itself_by, is_used_since, is_heard_since, is_of_one_since, is_late, AreLaterOrLateSince, AreLaterOrLate, stays_if, is_of_no_forgotten}
-use Rattle.mq_forget.proofs.Lists.{either, neither, first_so, second_so, not_some, option_cases, In, filter_in, find_none, find_some, all_mapped, all_push}
-use Rattle.mq_forget.proofs.Staying.{entry, same_below, stays_before, stays_itself, later_alike, early_lost, unheard_alike}
+use Rattle.mq_forget.proofs.Lists.{filter_in, find_none, find_some}
+use Rattle.mq_forget.proofs.Staying.{same_below, stays_before, stays_itself, later_alike, early_lost, unheard_alike}
+use Rattle.mq_forget.proofs.Growing.{in_range}
 use Rattle.mq_forget.proofs.Fronts.{Builds, new_reply}
 use Rattle.mq_forget.proofs.laws.late_requests_touch_no_later_day.Goals as goal
-
-clash : (b : Bool) → b ≡ true → b ≡ false → ⊥
-clash b h g = cc (h, g)
-
-is_not : (b : Bool) → not b ≡ true → b ≡ false
-is_not true e = absurd (cc e)
-is_not false e = refl
-
-none_some : {A : Type 0} (x : A) → None ≡ Some x → ⊥
-none_some x e = cc e
-
-either_of : (a b : Bool) → (a || b) ≡ true → (a ≡ true) ⊎ (b ≡ true)
-either_of true b e = inl refl
-either_of false b e = inr e
 
 none_of : {A : Type 0} (o : Option A) → is_none o ≡ true → o ≡ None
 none_of None e = refl
 none_of (Some x) e = absurd (cc e)
-
-second_of : (a b : Bool) → b ≡ true → (a || b) ≡ true
-second_of true b e = refl
-second_of false b e = e
 
 -- ---- finding, with one element more
 
@@ -59,13 +47,6 @@ not_found p [] x h i = absurd i
 not_found p (y ∷ xs) x h i = elim (either (p y)) [
   | inl t ↦ absurd (let b : Some y ≡ None = rw t at h in none_some y (sym b))
   | inr f ↦ elim i [ inl e ↦ ap p (sym e) ∙ f | inr j ↦ not_found p xs x (rw f at h) j ]
-]
-
-in_filter : {X : Type 0} (p : X → Bool) (xs : List X) (x : X) → In x xs → p x ≡ true → In x (filter p xs)
-in_filter p [] x i h = absurd i
-in_filter p (y ∷ xs) x i h = elim (either (p y)) [
-  | inl t ↦ rw t (elim i [ inl e ↦ inl e | inr k ↦ inr (in_filter p xs x k h) ])
-  | inr f ↦ rw f (elim i [ inl e ↦ absurd (clash (p y) (ap p e ∙ h) f) | inr k ↦ in_filter p xs x k h ])
 ]
 
 push_some : {X : Type 0} (p : X → Bool) (xs : List X) (y e : X) → find p xs ≡ Some e → find p (xs ++ y ∷ []) ≡ Some e
@@ -242,11 +223,6 @@ late_parts day D G H r e =
 past_if : (day : ℕ → ℕ) (default D : ℕ) (G H K : List Entry) (r : Request) → IsOwn day D G H r → is_about day D K r ≡ false → is_past day default D K r ≡ true
 past_if day default D G H K r own about = let none : is_set r (reply day default K r) ≡ false = sets_none day D G H r (reply day default K r) own in rw (about, none) refl
 
--- its number is known
-unchanged : (day : ℕ → ℕ) (default : ℕ) (H : List Entry) (r : Request) (o : Option Id) → known_by H o ≡ true → with_arrival_by day default H r o ≡ H
-unchanged day default H r None e = absurd (clash false e refl)
-unchanged day default H r (Some id) e = rw e refl
-
 -- ---- one arrival
 
 abbrev pub Later : (day : ℕ → ℕ) → (default : ℕ) → (D : ℕ) → Type 0
@@ -262,7 +238,7 @@ Comes day D G H K r = ((is_later day D H r ≡ true) × (is_later day D K r ≡ 
 module _ (day : ℕ → ℕ) (default : ℕ) (laws : Builds day default) (D : ℕ) (G : List Entry) (one : Later day default D) (past : Past day default D) (is_same : (q r : Request) → same_request q r ≡ true → q ≡ r) where
   same_after : (H K : List Entry) (r : Request) → IsLegal day default H → IsLegal day default K → Alike day D G H K → Comes day D G H K r → remembered day D (with_arrival day default K r) ≡ remembered day D (with_arrival day default H r)
   same_after H K r legal_H legal_K h (inl late) = sym (one K r legal_K late.1).1 ∙ ap (λ x. with_arrival day default x r) h.same ∙ (one H r legal_H late.0).1
-  same_after H K r legal_H legal_K h (inr (inr known)) = ap (remembered day D) (unchanged day default K r (id_of r) known.1) ∙ h.same ∙ sym (ap (remembered day D) (unchanged day default H r (id_of r) known.0))
+  same_after H K r legal_H legal_K h (inr (inr known)) = ap (remembered day D) (arrival_of_known day default K r (id_of r) known.1) ∙ h.same ∙ sym (ap (remembered day D) (arrival_of_known day default H r (id_of r) known.0))
   same_after H K r legal_H legal_K h (inr (inl l)) =
       past K r (past_if day default D G H K r l.own (about_late day D G H K h r l.own l.about)) ∙ h.same ∙ sym (past H r (past_if day default D G H H r l.own l.about))
 
@@ -378,7 +354,7 @@ module _ (day : ℕ → ℕ) (default : ℕ) (laws : Builds day default) (D : �
   known_both H K (Some id) h e = elim (option_cases (stored H id)) [
     | inl none ↦ absurd (clash (is_some (stored H id)) (first_so (is_some (stored H id)) (is_none (stored G id)) e) (ap is_some none))
     | inr p ↦ (let (x, there, same) = h.used id (none_of (stored G id) (second_so (is_some (stored H id)) (is_none (stored G id)) e)) p.0 p.1 in
-        (second_of (is_below (requests H) id) (is_some (stored H id)) (ap is_some p.1), second_of (is_below (requests K) id) (is_some (stored K id)) (ap is_some there)))
+        (or_second (is_below (requests H) id) (is_some (stored H id)) (ap is_some p.1), or_second (is_below (requests K) id) (is_some (stored K id)) (ap is_some there)))
   ]
 
   comes_if : (H K : List Entry) (r : Request) → Alike day D G H K → (is_later day D H r ≡ true) ⊎ ((is_late day D G H r ≡ true) ⊎ (is_used_since G H (id_of r) ≡ true)) → Comes day D G H K r
@@ -411,9 +387,6 @@ module _ (day : ℕ → ℕ) (default : ℕ) (laws : Builds day default) (D : �
       let end : Alike day D G (history_of day default (A ++ r ∷ rs)) (history_of day default ((B ++ r ∷ []) ++ rs)) = subst (λ x. Alike day D G (history_of day default x) (history_of day default ((B ++ r ∷ []) ++ rs))) (append_assoc A (r ∷ []) rs) rest.1 in
       ((later_or_past H K r h comes, second), subst (λ x. Alike day D G (history_of day default (A ++ r ∷ rs)) (history_of day default x)) (append_assoc B (r ∷ []) rs) end)
 
-  in_range : (H : List Entry) → IsLegal day default H → AllByRecursion IsRequest (requests H)
-  in_range H legal = all_mapped IsRequest (λ e. e.request) H (recursion_from_All (λ e. IsRequest e.request) H legal.range)
-
   whole : (A : List Request) → remembered day D (remembered day D G) ≡ remembered day D G → IsLegal day default G → IsLegal day default (remembered day D G) → All IsRequest A → AreLaterOrLate day default D G A
       → AreLaterOrPast day default D G (remembered day D G) A × Alike day D G (history_of day default (requests G ++ A)) (history_of day default (requests (remembered day D G) ++ A))
   whole A again legal_G legal_K range each =
@@ -423,7 +396,7 @@ module _ (day : ℕ → ℕ) (default : ℕ) (laws : Builds day default) (D : �
       let left : Alike day D G (history_of day default (requests G)) K = subst (λ x. Alike day D G x K) (sym here) (alike_at_first day D G again) in
       let both : Alike day D G (history_of day default (requests G)) (history_of day default (requests K)) = subst (λ x. Alike day D G (history_of day default (requests G)) x) (sym there) left in
       let late : AreLaterOrLateSince day default D G (history_of day default (requests G)) A = subst (λ x. AreLaterOrLateSince day default D G x A) (sym here) each in
-      let all = by_arrivals (requests G) (requests K) (in_range G legal_G) (in_range K legal_K) A (recursion_from_All IsRequest A range) both late in
+      let all = by_arrivals (requests G) (requests K) (in_range day default G legal_G) (in_range day default K legal_K) A (recursion_from_All IsRequest A range) both late in
       let first : AreLaterOrPast day default D G (history_of day default (requests K)) A = subst (λ x. AreLaterOrPast day default D x (history_of day default (requests K)) A) here all.0 in
       (subst (λ x. AreLaterOrPast day default D G x A) there first, all.1)
 

@@ -1,8 +1,11 @@
 -- What is asked about earlier days changes nothing of what is remembered.
-use Rattle.std.proofs.Common.{◌≡◌, ℕ, List, [], ◌∷◌, ◌++◌, Bool, true, false, refl, ◌∙◌, ap, sym, subst, inl, inr, append_assoc, append-nil}
-use Rattle.std.specs.Prelude.{◌⊎◌, ◌||◌, not, if◌then◌else◌, All, Option, Some, None, is_some}
+use Rattle.std.proofs.Common.{◌≡◌, ℕ, List, [], ◌∷◌, ◌++◌, true, false, refl, ◌∙◌, ap, sym, subst, inl, inr, append_assoc, append-nil}
+use Rattle.std.specs.Prelude.{◌⊎◌, ◌||◌, if◌then◌else◌, All, Option, Some, None, is_some}
 use Rattle.std.specs.List.{AllByRecursion}
 use Rattle.std.proofs.lemmas.List.Elements.{recursion_from_All, All-from_recursion}
+use Rattle.mq_lemmas.proofs.Booleans.{is_not, either, neither}
+use Rattle.mq_lemmas.proofs.Lists.{all_append, all_push}
+use Rattle.mq_lemmas.proofs.Options.{not_some}
 use Rattle.mq_request.specs.Range.{IsRequest}
 use Rattle.mq_request.specs.declared.message.Id.{Id}
 use Rattle.mq_request.specs.declared.message.Request.{Request}
@@ -11,15 +14,13 @@ use Rattle.mq_ledger.specs.Answer.{answer, stored, known_by, reply, reply_to, re
 use Rattle.mq_ledger.specs.Arrivals.{id_of, is_below}
 use Rattle.mq_ledger.specs.History.{requests}
 use Rattle.mq_ledger.specs.Legal.{IsLegal}
+use Rattle.mq_ledger.proofs.Books.{arrival_of_known}
+use Rattle.mq_ledger.proofs.Transactions.{entry}
 use Rattle.mq_forget.specs.Remembered.{is_about, is_set, stays, remembered, is_later, is_past, AreLaterOrPast}
-use Rattle.mq_forget.proofs.Lists.{either, neither, not_some, all_mapped, all_push}
-use Rattle.mq_forget.proofs.Staying.{entry, one_more}
+use Rattle.mq_forget.proofs.Staying.{one_more}
+use Rattle.mq_forget.proofs.Growing.{in_range}
 use Rattle.mq_forget.proofs.Fronts.{Builds}
 use Rattle.mq_forget.proofs.laws.past_requests_touch_no_later_day.Goals as goal
-
-is_not : (b : Bool) → not b ≡ true → b ≡ false
-is_not true e = absurd (cc e)
-is_not false e = refl
 
 -- a number that isn't known gets the answer
 unknown_reply : (day : ℕ → ℕ) (default : ℕ) (H : List Entry) (r : Request) (id : Id) → known_by H (Some id) ≡ false → reply_to day default H r (Some id) ≡ answer day default H r
@@ -28,11 +29,6 @@ unknown_reply day default H r id new =
     let above : is_below (requests H) id ≡ false = parts.0 in
     let none : stored H id ≡ None = not_some (stored H id) parts.1 in
     rw above (ap (reply_by day default H r id) none)
-
--- its number is known
-unchanged : (day : ℕ → ℕ) (default : ℕ) (H : List Entry) (r : Request) (o : Option Id) → known_by H o ≡ true → with_arrival_by day default H r o ≡ H
-unchanged day default H r None e = absurd (let bad : false ≡ true = e in cc bad)
-unchanged day default H r (Some id) e = rw e refl
 
 -- an entry that goes leaves all as it is
 goes : (day : ℕ → ℕ) (D : ℕ) (H : List Entry) (e : Entry) → stays day D H e ≡ false → remembered day D (H ++ e ∷ []) ≡ remembered day D H
@@ -53,10 +49,6 @@ past day default D H r e =
     let parts = neither (is_about day D H r) (is_set r (reply day default H r)) (is_not (is_about day D H r || is_set r (reply day default H r)) e) in
     past_by day default D H r (id_of r) parts.0 parts.1
 
-all_join : {X : Type 0} (P : X → Type 0) (xs ys : List X) → AllByRecursion P xs → AllByRecursion P ys → AllByRecursion P (xs ++ ys)
-all_join P [] ys all more = more
-all_join P (x ∷ xs) ys all more = (all.0, all_join P xs ys all.1 more)
-
 -- two histories of which the same is remembered, by what is said of one request
 module _ (day : ℕ → ℕ) (default : ℕ) (laws : Builds day default) (D : ℕ)
     (one : (H : List Entry) (r : Request) → IsLegal day default H → is_later day D H r ≡ true → (reply day default (remembered day D H) r ≡ reply day default H r) × (with_arrival day default (remembered day D H) r ≡ remembered day D (with_arrival day default H r))) where
@@ -64,7 +56,7 @@ module _ (day : ℕ → ℕ) (default : ℕ) (laws : Builds day default) (D : �
       → ((is_later day D H r ≡ true) × (is_later day D K r ≡ true)) ⊎ (((is_past day default D H r ≡ true) × (is_past day default D K r ≡ true)) ⊎ ((known_by H (id_of r) ≡ true) × (known_by K (id_of r) ≡ true)))
       → remembered day D (with_arrival day default K r) ≡ remembered day D (with_arrival day default H r)
   one_alike H K r legal_H legal_K same (inl late) = sym (one K r legal_K late.1).1 ∙ ap (λ x. with_arrival day default x r) same ∙ (one H r legal_H late.0).1
-  one_alike H K r legal_H legal_K same (inr (inr known)) = ap (remembered day D) (unchanged day default K r (id_of r) known.1) ∙ same ∙ sym (ap (remembered day D) (unchanged day default H r (id_of r) known.0))
+  one_alike H K r legal_H legal_K same (inr (inr known)) = ap (remembered day D) (arrival_of_known day default K r (id_of r) known.1) ∙ same ∙ sym (ap (remembered day D) (arrival_of_known day default H r (id_of r) known.0))
   one_alike H K r legal_H legal_K same (inr (inl gone)) = past day default D K r gone.1 ∙ same ∙ sym (past day default D H r gone.0)
 
   alike_by : (A B : List Request) → AllByRecursion IsRequest A → AllByRecursion IsRequest B → (rs : List Request) → AllByRecursion IsRequest rs → AreLaterOrPast day default D (history_of day default A) (history_of day default B) rs
@@ -81,19 +73,16 @@ module _ (day : ℕ → ℕ) (default : ℕ) (laws : Builds day default) (D : �
       let rest = alike_by (A ++ r ∷ []) (B ++ r ∷ []) (all_push IsRequest A r in_A more.0) (all_push IsRequest B r in_B more.0) rs more.1 both next in
       ap (λ x. remembered day D (history_of day default x)) (sym (append_assoc B (r ∷ []) rs)) ∙ rest ∙ ap (λ x. remembered day D (history_of day default x)) (append_assoc A (r ∷ []) rs)
 
-  in_range : (H : List Entry) → IsLegal day default H → AllByRecursion IsRequest (requests H)
-  in_range H legal = all_mapped IsRequest (λ e. e.request) H (recursion_from_All (λ e. IsRequest e.request) H legal.range)
-
   alike : (H K : List Entry) (A : List Request) → IsLegal day default H → IsLegal day default K → remembered day D K ≡ remembered day D H → All IsRequest A → AreLaterOrPast day default D H K A
       → remembered day D (history_of day default (requests K ++ A)) ≡ remembered day D (history_of day default (requests H ++ A))
   alike H K A legal_H legal_K same range each =
       let left : AreLaterOrPast day default D (history_of day default (requests H)) K A = subst (λ x. AreLaterOrPast day default D x K A) (sym (laws.again H legal_H)) each in
       let both : AreLaterOrPast day default D (history_of day default (requests H)) (history_of day default (requests K)) A = subst (λ x. AreLaterOrPast day default D (history_of day default (requests H)) x A) (sym (laws.again K legal_K)) left in
-      alike_by (requests H) (requests K) (in_range H legal_H) (in_range K legal_K) A (recursion_from_All IsRequest A range) both
+      alike_by (requests H) (requests K) (in_range day default H legal_H) (in_range day default K legal_K) A (recursion_from_All IsRequest A range) both
       (ap (remembered day D) (laws.again K legal_K) ∙ same ∙ ap (remembered day D) (sym (laws.again H legal_H)))
 
   legal_after : (H : List Entry) (A : List Request) → IsLegal day default H → All IsRequest A → IsLegal day default (history_of day default (requests H ++ A))
-  legal_after H A legal range = laws.legal (requests H ++ A) (All-from_recursion IsRequest (requests H ++ A) (all_join IsRequest (requests H) A (in_range H legal) (recursion_from_All IsRequest A range)))
+  legal_after H A legal range = laws.legal (requests H ++ A) (All-from_recursion IsRequest (requests H ++ A) (all_append IsRequest (requests H) A (in_range day default H legal) (recursion_from_All IsRequest A range)))
 
   replied_alike : (H K : List Entry) (A : List Request) (r : Request) → IsLegal day default H → IsLegal day default K → remembered day D K ≡ remembered day D H → All IsRequest A → AreLaterOrPast day default D H K A
       → is_later day D (history_of day default (requests H ++ A)) r ≡ true → is_later day D (history_of day default (requests K ++ A)) r ≡ true

@@ -1,5 +1,5 @@
+use Rattle.mq_lemmas.proofs.Numbers.{le_is, lt_is}
 use Rattle.mq_forget.proofs.Staying.{later_alike, early_lost, unheard_alike, same_floor}
-use Rattle.mq_forget.proofs.Lists.{le_is, lt_is}
 use Rattle.mq_forget.proofs.laws.transactions_are_kept.Goals as goal
 
 pub returns-clause-later : goal.returns-clause-later

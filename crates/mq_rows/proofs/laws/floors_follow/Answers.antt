@@ -4,6 +4,7 @@ use Rattle.mq_request.specs.declared.message.Request.TheVariants.{Reserve, Settl
 use Rattle.mq_request.specs.Range.{IsRequest}
 use Rattle.mq_ledger.specs.declared.entry.Entry.{Entry}
 use Rattle.mq_ledger.specs.Answer.{answer}
+use Rattle.mq_ledger.proofs.Transactions.{entry}
 use Rattle.mq_rows.specs.declared.plan.Found.{Found}
 use Rattle.mq_rows.specs.Found.{IsFound}
 use Rattle.mq_rows.specs.Plan.{Leads, same_host, set_run, retired_write}
@@ -11,7 +12,6 @@ use Rattle.mq_rows.specs.Retiring.{IsUnretired}
 use Rattle.mq_rows.specs.Tables.{Tables, AreRetired}
 use Rattle.mq_ledger.specs.Answer.{appended}
 use Rattle.mq_rows.proofs.Clearing.{Floors, floor_leads, floors_stay}
-use Rattle.mq_rows.proofs.Trans.{entry}
 use Rattle.mq_rows.proofs.laws.floors_follow.Goals as goal
 
 follow : (F : Floors) (day : ℕ → ℕ) (default : ℕ) (H : List Entry) (t : Tables) (r : Request) (f : Found) → IsRequest r → IsUnretired H r → AreRetired H t.retired → IsFound day t r f

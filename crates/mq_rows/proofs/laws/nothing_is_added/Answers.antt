@@ -1,21 +1,17 @@
 use Rattle.std.proofs.Common.{◌≡◌, ℕ, List, refl, ◌∙◌}
-use Rattle.std.specs.Prelude.{true, Option, Some, None}
-use Rattle.mq_request.specs.declared.message.Id.{Id}
+use Rattle.std.specs.Prelude.{None}
 use Rattle.mq_request.specs.declared.message.Request.{Request}
 use Rattle.mq_ledger.specs.declared.entry.Entry.{Entry}
-use Rattle.mq_ledger.specs.Answer.{known_by, with_arrival, with_arrival_by}
+use Rattle.mq_ledger.specs.Answer.{with_arrival}
 use Rattle.mq_ledger.specs.Arrivals.{id_of}
+use Rattle.mq_ledger.proofs.Books.{arrival_of_known}
 use Rattle.mq_rows.proofs.laws.nothing_is_added.Goals as goal
 
 taken_none : (day : ℕ → ℕ) (default : ℕ) (H : List Entry) (r : Request) → id_of r ≡ None → with_arrival day default H r ≡ H
 taken_none day default H r h = rw h refl
 
-taken_known : (day : ℕ → ℕ) (default : ℕ) (H : List Entry) (r : Request) (o : Option Id) → known_by H o ≡ true → with_arrival_by day default H r o ≡ H
-taken_known day default H r None h = absurd (cc h)
-taken_known day default H r (Some id) h = rw h refl
-
 pub returns-clause-unnumbered : goal.returns-clause-unnumbered
 returns-clause-unnumbered c = λ day default H r legal h. c.one_more_arrival.ensures.legal day default H r legal ∙ taken_none day default H r h
 
 pub returns-clause-known : goal.returns-clause-known
-returns-clause-known c = λ day default H r legal h. c.one_more_arrival.ensures.legal day default H r legal ∙ taken_known day default H r (id_of r) h
+returns-clause-known c = λ day default H r legal h. c.one_more_arrival.ensures.legal day default H r legal ∙ arrival_of_known day default H r (id_of r) h

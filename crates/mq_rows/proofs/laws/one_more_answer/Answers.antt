@@ -14,6 +14,7 @@ use Rattle.mq_ledger.specs.Arrivals.{id_of, is_below, floor as floor_of}
 use Rattle.mq_ledger.specs.Day.{minutes_in, rule_in, day_of}
 use Rattle.mq_ledger.specs.History.{requests}
 use Rattle.mq_ledger.specs.Legal.{Book, IsLegal}
+use Rattle.mq_ledger.proofs.Transactions.{entry}
 use Rattle.mq_rows.specs.declared.record.SettingRecord.{SettingRecord}
 use Rattle.mq_rows.specs.declared.record.TransactionRecord.{TransactionRecord}
 use Rattle.mq_rows.specs.declared.record.UsageRecord.{UsageRecord}
@@ -27,7 +28,7 @@ use Rattle.mq_rows.specs.Retiring.{is_retire, retire_entry, IsUnretired, AreMove
 use Rattle.mq_rows.specs.Tables.{Tables}
 use Rattle.mq_rows.specs.Written.{LeadTo, MovesLead}
 use Rattle.mq_rows.proofs.Leading.{all_lead_on}
-use Rattle.mq_rows.proofs.Trans.{Ledger, heard, entry}
+use Rattle.mq_rows.proofs.Trans.{Ledger, heard}
 use Rattle.mq_rows.proofs.Days.{Uses}
 use Rattle.mq_rows.proofs.Replies.{Governs, may_be}
 use Rattle.mq_rows.proofs.Lookups.{transaction_found, usage_found}

@@ -1,20 +1,22 @@
 use Rattle.std.proofs.Common.{◌≡◌, List, [], Bool, true, false, refl, ◌∙◌, subst}
 use Rattle.std.specs.Prelude.{if◌then◌else◌}
+use Rattle.mq_lemmas.proofs.Lists.{found_passes}
 use Rattle.mq_request.specs.declared.message.Id.{Id}
 use Rattle.mq_request.specs.declared.message.Reply.{Reply}
 use Rattle.mq_request.specs.declared.message.Reply.TheVariants.{Conflict}
 use Rattle.mq_request.specs.Range.{IsId, IsRequest, IsReply}
 use Rattle.mq_request.specs.Same.{same_request}
+use Rattle.mq_request.proofs.Alike.{id_is}
 use Rattle.mq_frame.specs.Spelling.{request_body, reply_body, SpellsReply}
 use Rattle.mq_ledger.specs.declared.entry.Entry.{Entry}
 use Rattle.mq_ledger.specs.Arrivals.{has_id, is_below}
 use Rattle.mq_ledger.specs.History.{requests}
+use Rattle.mq_ledger.proofs.Ranges.{id_range}
 use Rattle.mq_rows.specs.declared.record.AnswerRecord.{AnswerRecord}
 use Rattle.mq_rows.specs.Rows.{number_of, answer_of}
 use Rattle.mq_rows.specs.Repeat.{IsKept, IsRepeatOf}
-use Rattle.mq_rows.proofs.Distinct.{id_is, one_row}
-use Rattle.mq_rows.proofs.Numbered.{Stored, stored_row, no_row, found_has, number_in_range, number_test}
-use Rattle.mq_rows.proofs.Replies.{found_passes}
+use Rattle.mq_rows.proofs.Distinct.{one_row}
+use Rattle.mq_rows.proofs.Numbered.{Stored, stored_row, no_row, found_has, number_test}
 use Rattle.mq_rows.proofs.laws.repeats_are_answered.Goals as goal
 
 kept_is : (b : Bool) (id : Id) (e : Entry) (a : Reply) → (SpellsReply (reply_body e.reply) a → a ≡ e.reply) → IsKept b id (reply_body e.reply) a → a ≡ (if b then e.reply else Conflict id)
@@ -31,10 +33,10 @@ kept_row H id row s in_range above =
 
 pub returns-clause-known : goal.returns-clause-known
 returns-clause-known c = λ day default H r id row a amount days legal in_range h above there repeat.
-    let s : Stored H H id row = stored_row H 1 H id row (number_in_range r id in_range h) there in
+    let s : Stored H H id row = stored_row H 1 H id row (id_range r id in_range h) there in
     let in_range_q : IsRequest s.entry.request = found_has (λ (e : Entry). IsRequest e.request) (λ (e : Entry). has_id id e.request) H s.entry legal.range s.there in
     let in_range_p : IsReply s.entry.reply = found_has (λ (e : Entry). IsReply e.reply) (λ (e : Entry). has_id id e.request) H s.entry (c.replies_in_range.ensures.stored day default H amount days legal) s.there in
-    let repeat' : IsRepeatOf (answer_of s.n s.entry) id r a = subst (λ (x : AnswerRecord). IsRepeatOf x id r a) (kept_row H id row s (number_in_range r id in_range h) above) repeat in
+    let repeat' : IsRepeatOf (answer_of s.n s.entry) id r a = subst (λ (x : AnswerRecord). IsRepeatOf x id r a) (kept_row H id row s (id_range r id in_range h) above) repeat in
     let k : IsKept (same_request r s.entry.request) id (reply_body s.entry.reply) a = repeat' s.entry.request (c.one_spelling.ensures.request s.entry.request in_range_q) in
     let same : a ≡ (if same_request r s.entry.request then s.entry.reply else Conflict id) =
     kept_is (same_request r s.entry.request) id s.entry a (λ spells. c.one_spelling.ensures.one_reply (reply_body s.entry.reply) a s.entry.reply spells (c.one_spelling.ensures.reply s.entry.reply in_range_p)) k in
@@ -42,18 +44,18 @@ returns-clause-known c = λ day default H r id row a amount days legal in_range 
 
 pub returns-clause-spelled : goal.returns-clause-spelled
 returns-clause-spelled c = λ day default H r id row amount days legal in_range h above there.
-    let s : Stored H H id row = stored_row H 1 H id row (number_in_range r id in_range h) there in
+    let s : Stored H H id row = stored_row H 1 H id row (id_range r id in_range h) there in
     let in_range_q : IsRequest s.entry.request = found_has (λ (e : Entry). IsRequest e.request) (λ (e : Entry). has_id id e.request) H s.entry legal.range s.there in
     let in_range_p : IsReply s.entry.reply = found_has (λ (e : Entry). IsReply e.reply) (λ (e : Entry). has_id id e.request) H s.entry (c.replies_in_range.ensures.stored day default H amount days legal) s.there in
-    rw (kept_row H id row s (number_in_range r id in_range h) above) (s.entry.request, s.entry.reply, c.one_spelling.ensures.request s.entry.request in_range_q, c.one_spelling.ensures.reply s.entry.reply in_range_p)
+    rw (kept_row H id row s (id_range r id in_range h) above) (s.entry.request, s.entry.reply, c.one_spelling.ensures.request s.entry.request in_range_q, c.one_spelling.ensures.reply s.entry.reply in_range_p)
 
 pub returns-clause-stored : goal.returns-clause-stored
 returns-clause-stored c = λ H r id row in_range h there.
-    let s : Stored H H id row = stored_row H 1 H id row (number_in_range r id in_range h) there in
+    let s : Stored H H id row = stored_row H 1 H id row (id_range r id in_range h) there in
     rw s.there refl
 
 pub returns-clause-unknown : goal.returns-clause-unknown
-returns-clause-unknown c = λ H r id in_range h none. no_row H 1 H id (number_in_range r id in_range h) none
+returns-clause-unknown c = λ H r id in_range h none. no_row H 1 H id (id_range r id in_range h) none
 
 pub returns-clause-one : goal.returns-clause-one
-returns-clause-one c = λ day default H r id legal in_range h. one_row H 1 id [] H (number_in_range r id in_range h) legal.distinct
+returns-clause-one c = λ day default H r id legal in_range h. one_row H 1 id [] H (id_range r id in_range h) legal.distinct

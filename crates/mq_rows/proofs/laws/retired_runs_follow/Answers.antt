@@ -1,10 +1,12 @@
 use Rattle.std.proofs.Common.{◌≡◌, ℕ, ◌≤◌, List, [], ◌∷◌, ◌++◌, Bool, true, false, refl, ◌∙◌, ap, sym, subst, arith, append-nil}
-use Rattle.std.specs.Prelude.{filter, find, not, ◌&&◌, ◌||◌, nat_lt, nat_le, Some}
+use Rattle.std.specs.Prelude.{filter, find, not, ◌&&◌, nat_lt, nat_le, Some}
 use Rattle.std.specs.List.Sorted.{IsPermutation}
 use Rattle.std.proofs.lemmas.Bool.Decides.{nat_tests}
 use Rattle.sqlite_trees.proofs.ListLemmas.{filter_same}
+use Rattle.mq_lemmas.proofs.Booleans.{or_false, neither_first}
 use Rattle.mq_request.specs.declared.message.Id.{Id}
 use Rattle.mq_request.specs.Same.{same_text}
+use Rattle.mq_request.proofs.Alike.{text_is}
 use Rattle.mq_ledger.specs.declared.entry.Entry.{Entry}
 use Rattle.mq_ledger.specs.Arrivals.{floor}
 use Rattle.mq_ledger.specs.History.{Transaction, requests, same_transaction, ended, closed}
@@ -17,7 +19,7 @@ use Rattle.mq_rows.specs.Tables.{AreTransactions}
 use Rattle.mq_rows.proofs.Clearing.{same_sides, below_is_to}
 use Rattle.mq_rows.proofs.Closing.{Retires, Reserves, is_to_close, begun, all_closed, all_used}
 use Rattle.mq_rows.proofs.Leading.{AreLeft, led, next_fits, none_to_close, all_lead_on}
-use Rattle.mq_rows.proofs.Lists.{text_is, those_are_found, find_of_those}
+use Rattle.mq_rows.proofs.Lists.{those_are_found, find_of_those}
 use Rattle.mq_rows.proofs.RowSums.{IsRowOf, row_of, all_at, all_of, Laws}
 use Rattle.mq_rows.proofs.laws.retired_runs_follow.Goals as goal
 
@@ -40,17 +42,13 @@ reordered false false low high false e h = refl
 reordered true false low high shut e h = absurd (cc e)
 reordered false true low high shut e h = absurd (cc e)
 
-first_false : (a b : Bool) → (a || b) ≡ false → a ≡ false
-first_false true b h = cc
-first_false false b h = refl
-
 -- a row of the history is to be closed where it is open and of one of the runs
 tests_agree : (day : ℕ → ℕ) (H : List Entry) (id : Id) → 1 ≤ id.run → (r : TransactionRecord) → IsRowOf day H r → is_open_in (runs_below H id) r ≡ is_to_close id r
 tests_agree day H id some r is =
     let shut : closed H (key_of r) ≡ r.closed = ap (λ (x : TransactionRecord). x.closed) is.row in
     let low : same_text r.host id.host ≡ true → r.closed ≡ false → nat_le (floor (requests H) id.host) r.run ≡ true = λ own still.
     (let host : r.host ≡ id.host = text_is r.host id.host own in
-    let above : nat_lt r.run (floor (requests H) r.host) ≡ false = first_false (nat_lt r.run (floor (requests H) r.host)) (ended H (key_of r)) (shut ∙ still) in
+    let above : nat_lt r.run (floor (requests H) r.host) ≡ false = neither_first (nat_lt r.run (floor (requests H) r.host)) (ended H (key_of r)) (shut ∙ still) in
     from_floor (floor (requests H) id.host) r.run (subst (λ h. nat_lt r.run (floor (requests H) h) ≡ false) host above)) in
     ap (λ b. same_text id.host r.host && (nat_le (floor (requests H) id.host) r.run && (b && not r.closed))) (sym (below_is_to r.run id.run some))
     ∙ reordered (same_text id.host r.host) (same_text r.host id.host) (nat_le (floor (requests H) id.host) r.run) (nat_lt r.run id.run) r.closed (same_sides id.host r.host) low
@@ -68,10 +66,6 @@ all_left : (itself : (t : Transaction) → same_transaction t t ≡ true) (day :
 all_left itself day H id some rows ts these same =
     subst (IsPermutation these) (filter_same (is_open_in (runs_below H id)) (is_to_close id) rows
     (all_of (λ r. is_open_in (runs_below H id) r ≡ is_to_close id r) rows (λ r i. tests_agree day H id some r (row_is itself day H rows ts r i)))) same
-
-or_false : (x : Bool) → (x || false) ≡ x
-or_false true = refl
-or_false false = refl
 
 pub returns-clause-rows : goal.returns-clause-rows
 returns-clause-rows c = λ day default H id rows usage these some legal more ts us same.

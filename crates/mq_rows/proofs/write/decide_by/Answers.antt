@@ -1,5 +1,6 @@
 use Rattle.std.proofs.Common.{ℕ, ◌<◌, ◌^◌, arith, Some, None, inl, inr}
 use Rattle.std.specs.Prelude.{Option}
+use Rattle.mq_lemmas.proofs.Booleans.{either}
 use Rattle.mq_request.specs.declared.message.Request.{Request}
 use Rattle.mq_request.specs.declared.message.Request.TheVariants.{Reserve, Settle, Release, Limit, Usage, List as ListRequest, Retire}
 use Rattle.mq_request.specs.declared.message.Reply.{Reply}
@@ -7,13 +8,12 @@ use Rattle.mq_request.specs.declared.message.Reply.TheVariants.{Granted, Full, S
 use Rattle.mq_request.specs.declared.message.Id.{Id}
 use Rattle.mq_request.specs.Range.{IsId, IsRequest}
 use Rattle.mq_ledger.specs.Day.{day_of}
+use Rattle.mq_ledger.proofs.Ranges.{id_range}
 use Rattle.mq_rows.specs.declared.record.TransactionRecord.{TransactionRecord}
 use Rattle.mq_rows.specs.declared.record.RetiredRecord.{RetiredRecord}
 use Rattle.mq_rows.specs.declared.plan.Found.{Found}
 use Rattle.mq_rows.specs.Plan.{moves, moved, moved_or_made, transaction_write, floor_by, given_up_by, raised_to, retired_write}
 use Rattle.mq_rows.specs.Storable.{IsStorable, AreStorableIf, AreStorable, IsStorableFloor, AreStorableRuns, IsStorableRun}
-use Rattle.mq_rows.proofs.Lists.{either}
-use Rattle.mq_rows.proofs.Numbered.{number_in_range}
 use Rattle.mq_rows.proofs.write.decide_by.Goals as goal
 
 moved_has : (count : ℕ) (a : Reply) (t : TransactionRecord) → IsStorable t → IsStorable (moved count a t)
@@ -78,7 +78,7 @@ run_has (ListRequest d after) o h = tt
 
 pub returns-clause-storable : goal.returns-clause-storable
 returns-clause-storable c = λ has floor_has.
-    let limit = (number_in_range c.args.request.now c.args.id.now c.requires.in_range c.requires.number).run.to in
+    let limit = (id_range c.args.request.now c.args.id.now c.requires.in_range c.requires.number).run.to in
     rw c.in_ok-plan.ensures record {
       place = omega arith;
       run = rw c.requires.number (omega (arith, limit));

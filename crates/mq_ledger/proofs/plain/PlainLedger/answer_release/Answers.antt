@@ -1,5 +1,5 @@
 use Rattle.std.proofs.Common.{arith, inl, inr}
-use Rattle.mq_ledger.proofs.Basics.{option_cases}
+use Rattle.mq_lemmas.proofs.Options.{option_cases}
 use Rattle.mq_ledger.proofs.Books.{book_held}
 use Rattle.mq_ledger.proofs.plain.PlainLedger.answer_release.Goals as goal
 

@@ -1,10 +1,10 @@
 use Rattle.std.proofs.Common.{◌≡◌, ◌∙◌, ℕ, List, ap, sym, arith, inl, inr}
 use Rattle.std.proofs.lemmas.Result.{IfOk-weaker}
+use Rattle.mq_lemmas.proofs.Options.{option_cases}
 use Rattle.mq_request.specs.declared.message.Id.{Id}
 use Rattle.mq_ledger.specs.declared.entry.Entry.{Entry}
 use Rattle.mq_ledger.specs.Answer.{if_open, granted_or_full}
 use Rattle.mq_ledger.specs.History.{transaction, IsOpenTo}
-use Rattle.mq_ledger.proofs.Basics.{option_cases}
 use Rattle.mq_ledger.proofs.Books.{book_used, open_answer}
 use Rattle.mq_ledger.proofs.plain.PlainLedger.answer_reserve.Goals as goal
 

@@ -2,12 +2,12 @@ use Rattle.std.proofs.Common.{◌≡◌, ◌∙◌, List, Some, None, Option, tr
 use Rattle.std.specs.Prelude.{is_some}
 use Rattle.std.specs.Borrow.{Bor}
 use Rattle.std.specs.Option.{option_copied}
+use Rattle.mq_lemmas.proofs.Options.{option_cases}
 use Rattle.mq_ledger.specs.declared.entry.Entry.{Entry}
 use Rattle.mq_ledger.specs.Answer.{answer, known_by, with_arrival}
 use Rattle.mq_ledger.specs.Arrivals.{id_of}
 use Rattle.mq_ledger.specs.Day.{day_of}
 use Rattle.mq_ledger.specs.Legal.{Book}
-use Rattle.mq_ledger.proofs.Basics.{option_cases}
 use Rattle.mq_ledger.proofs.Books.{arrival_of_known, arrival_unnumbered, book_arrival, book_reply, book_history, book_appended, book_fresh_reply}
 use Rattle.mq_ledger.proofs.plain.PlainLedgerLedger.apply.Goals as goal
 use Rattle.mq_ledger.proofs.plain.PlainLedgerLedger.apply.Goals.{then-is_some+in_ok-append, else-is_some}

@@ -1,10 +1,11 @@
 use Rattle.std.proofs.Common.{◌∙◌, ℕ, Option, take, ap, sym, Some, None, IfSome, inl, inr}
 use Rattle.std.specs.Prelude.{nat_lt}
 use Rattle.std.proofs.lemmas.List.{take_more}
+use Rattle.mq_lemmas.proofs.Booleans.{either}
+use Rattle.mq_lemmas.proofs.Options.{option_cases}
 use Rattle.mq_request.specs.Range.{IsDay}
 use Rattle.mq_ledger.specs.Day.{day_of}
 use Rattle.mq_ledger.specs.Over.{lesser}
-use Rattle.mq_ledger.proofs.Basics.{either, option_cases}
 use Rattle.mq_ledger.proofs.Overs.{next_other, next_more}
 use Rattle.mq_ledger.proofs.plain.first_over.next_day.Goals as goal
 use Rattle.mq_ledger.proofs.plain.first_over.next_day.Goals.{in-Some, in_default}

@@ -1,6 +1,7 @@
-use Rattle.std.proofs.Common.{◌≡◌, ◌∙◌, ◌++◌, ap, sym, map, rules, ◌+◌}
+use Rattle.std.proofs.Common.{◌≡◌, ◌∙◌, ◌++◌, ap, sym, map, rules, ◌+◌, [], ◌∷◌}
 use Rattle.std.specs.BTreeMap.{get}
 use Rattle.std.specs.List.{list_any}
+use Rattle.std.proofs.lemmas.List.{map-append}
 use Rattle.mq_ledger.specs.Day.{day_of}
 use Rattle.mq_ledger.specs.declared.zone.Zone.{Zone}
 use Rattle.mq_rows.specs.declared.audited.TransactionFigures.{TransactionFigures}
@@ -9,7 +10,7 @@ use Rattle.mq_rows.specs.declared.books.Day.{Day}
 use Rattle.mq_rows.specs.Audit.{pairs}
 use Rattle.mq_rows.specs.Books.{day_or, with_row, with_transaction}
 use Rattle.mq_rows.specs.Pair.{pair_cmp, same_pair}
-use Rattle.mq_rows.proofs.Booking.{one_more_sum, part_put, part_kept, pairs_put, any_end, mapped_more, length_more}
+use Rattle.mq_rows.proofs.Booking.{one_more_sum, part_put, part_kept, pairs_put, any_end, length_more}
 use Rattle.mq_rows.proofs.auditing.Books.add_transaction.Goals as goal
 
 pub returns-clause-ok : goal.returns-clause-ok
@@ -30,7 +31,7 @@ returns-clause-ok c = λ zone default f books.
       sums = one_more_sum (day_of zone) f.transactions x (λ p. (day_or (get pair_cmp days p)).sums) (λ p. (day_or (get pair_cmp c.insert.new.self p)).sums) books.sums
           (part_put x.pair after (get pair_cmp days) (get pair_cmp c.insert.new.self) updates (λ d. d.sums) _ sums);
       known = pairs_put x.pair after (get pair_cmp days) (get pair_cmp c.insert.new.self) updates (pairs f) (pairs (with_transaction f x))
-          (λ p. ap (λ ps. list_any (same_pair p) (map (λ (u : UsageFigures). u.pair) f.usage ++ ps)) (mapped_more (λ (t : TransactionFigures). t.pair) f.transactions x)
+          (λ p. ap (λ ps. list_any (same_pair p) (map (λ (u : UsageFigures). u.pair) f.usage ++ ps)) (map-append (λ (t : TransactionFigures). t.pair) f.transactions (x ∷ []))
           ∙ any_end (same_pair p) (map (λ (u : UsageFigures). u.pair) f.usage) (map (λ (t : TransactionFigures). t.pair) f.transactions) x.pair) books.known;
       caps = books.caps;
       usage_rows = books.usage_rows;

@@ -1,8 +1,9 @@
-use Rattle.std.proofs.Common.{◌≡◌, ◌∙◌, ◌++◌, ap, sym, map, arith, rules, ℤ, to_z, of_z, w64, ◌+◌}
+use Rattle.std.proofs.Common.{◌≡◌, ◌∙◌, ◌++◌, ap, sym, map, arith, rules, ℤ, to_z, of_z, w64, ◌+◌, [], ◌∷◌}
 use Rattle.std.specs.Prelude.{Some, unwrap_or}
 use Rattle.std.specs.BTreeMap.{get}
 use Rattle.std.specs.List.{list_any}
 use Rattle.std.proofs.lemmas.Int.{ints}
+use Rattle.std.proofs.lemmas.List.{map-append}
 use Rattle.mq_rows.specs.declared.audited.TransactionFigures.{TransactionFigures}
 use Rattle.mq_rows.specs.declared.audited.UsageFigures.{UsageFigures}
 use Rattle.mq_rows.specs.declared.books.Amounts.{Amounts}
@@ -10,7 +11,7 @@ use Rattle.mq_rows.specs.declared.books.Day.{Day}
 use Rattle.mq_rows.specs.Audit.{pairs}
 use Rattle.mq_rows.specs.Books.{amounts_of, day_or, with_usage}
 use Rattle.mq_rows.specs.Pair.{pair_cmp, same_pair}
-use Rattle.mq_rows.proofs.Booking.{one_more_first, part_put, part_kept, pairs_put, any_middle, mapped_more, length_more}
+use Rattle.mq_rows.proofs.Booking.{one_more_first, part_put, part_kept, pairs_put, any_middle, length_more}
 use Rattle.mq_rows.proofs.auditing.Books.add_usage.Goals as goal
 
 abbrev amounts : ℤ → ℤ → Amounts
@@ -36,7 +37,7 @@ returns-clause-ok c = λ zone default f books.
           (part_put x.pair after (get pair_cmp days) (get pair_cmp c.insert.new.self) updates (λ d. d.usage) _ (ap Some first));
       sums = λ p. part_kept x.pair after (get pair_cmp days) (get pair_cmp c.insert.new.self) updates (λ d. d.sums) (ap (λ (d : Day). d.sums) c.day-before.ensures) p ∙ books.sums p;
       known = pairs_put x.pair after (get pair_cmp days) (get pair_cmp c.insert.new.self) updates (pairs f) (pairs (with_usage f x))
-          (λ p. ap (λ ps. list_any (same_pair p) (ps ++ map (λ (t : TransactionFigures). t.pair) f.transactions)) (mapped_more (λ (u : UsageFigures). u.pair) f.usage x)
+          (λ p. ap (λ ps. list_any (same_pair p) (ps ++ map (λ (t : TransactionFigures). t.pair) f.transactions)) (map-append (λ (u : UsageFigures). u.pair) f.usage (x ∷ []))
           ∙ any_middle (same_pair p) (map (λ (u : UsageFigures). u.pair) f.usage) (map (λ (t : TransactionFigures). t.pair) f.transactions) x.pair) books.known;
       caps = books.caps;
       usage_rows = rows ∙ ap (λ n. n + 1) books.usage_rows ∙ sym (length_more f.usage x);

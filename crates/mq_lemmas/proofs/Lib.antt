@@ -1,0 +1,5 @@
+pub mod Booleans
+pub mod Options
+pub mod Numbers
+pub mod Lists
+pub mod Streams
