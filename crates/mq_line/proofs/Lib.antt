@@ -2,7 +2,7 @@ mod PieceLaws
 mod AuthLaws
 mod TimeLaws
 mod SearchLaws
-mod TextLaws
+pub mod TextLaws
 mod FeedLaws
 mod ResultLaws
 mod GrammarLaws

@@ -53,7 +53,7 @@ holds-fed text taken held piece h = record {
   each = h.each;
 }
 
-text_of-push : (taken : List (List ℕ)) (line : List ℕ) → text_of (taken ++ line ∷ []) ≡ text_of taken ++ (line ++ 10 ∷ [])
+pub text_of-push : (taken : List (List ℕ)) (line : List ℕ) → text_of (taken ++ line ∷ []) ≡ text_of taken ++ (line ++ 10 ∷ [])
 text_of-push [] line = refl
 text_of-push (l ∷ taken) line = ap (λ (t : List ℕ). l ++ 10 ∷ t) (text_of-push taken line) ∙ sym (append_assoc l (10 ∷ text_of taken) (line ++ 10 ∷ []))
 

@@ -1,8 +1,9 @@
 -- How the life of a connection goes on as it answers.
-use Rattle.std.proofs.Common.{◌≡◌, ℕ, suc, ◌+◌, ◌<◌, ◌≤◌, List, [], ◌∷◌, ◌++◌, length, map, refl, sym, ap, subst, ◌∙◌, append-nil, append_assoc, length-append, arith, inl, inr, Option, Some, None, Result, Ok, Err, false, true}
+use Rattle.std.proofs.Common.{◌≡◌, ℕ, suc, ◌+◌, ◌<◌, ◌≤◌, List, [], ◌∷◌, ◌++◌, length, map, refl, sym, ap, subst, ◌∙◌, append-nil, append_assoc, length-append, arith, inl, inr, Option, Some, None, Result, Ok, Err, false}
 use Rattle.std.proofs.lemmas.List.{map-append}
 use Rattle.std.specs.Prelude.{IsSome}
 use Rattle.std.specs.Option.{option_to_list}
+use Rattle.mq_lemmas.proofs.Booleans.{false_true}
 use Rattle.mq_request.specs.declared.message.Request.{Request}
 use Rattle.mq_request.specs.declared.message.Reply.{Reply}
 use Rattle.mq_request.specs.declared.message.Reply.TheVariants.{Bad}
@@ -12,6 +13,7 @@ use Rattle.mq_ledger.specs.declared.entry.Entry.{Entry}
 use Rattle.mq_ledger.specs.declared.ledger.Told.{Told}
 use Rattle.mq_ledger.specs.Legal.{Book, IsLegalBook}
 use Rattle.mq_ledger.specs.Told.{Tells}
+use Rattle.mq_ledger.proofs.Telling.{Tells-none, Tells-trans}
 use Rattle.mq_server.specs.declared.connection.Progress.{Progress}
 use Rattle.mq_server.specs.declared.connection.Progress.TheVariants.{Answered, Waits, Ended}
 use Rattle.mq_server.specs.declared.connection.Served.{Served}
@@ -26,7 +28,6 @@ use Rattle.mq_server.specs.Text.{Asks, IsBad, IsPartial, MayLackMemory, frames_o
 use Rattle.mq_server.proofs.Deliveries.{Follows, answer_more, history_more, history_none}
 use Rattle.mq_server.proofs.Living.{as_end, living}
 use Rattle.mq_server.proofs.Running.{asks_push, frames_of_push}
-use Rattle.mq_server.proofs.Telling.{Tells-none, Tells-trans}
 
 -- each life goes on by these exchanges, and the request at which the store failed stands next
 abbrev pub Extended : State → State → List Exchange → Option Request → Type 0
@@ -38,7 +39,7 @@ Advances k c now P history = (xs : List Exchange) × (failed : Option Request) �
 
 -- ---- no exchange
 
-same_life : (l : Life) → l ≡ with_exchanges l [] l.rest
+pub same_life : (l : Life) → l ≡ with_exchanges l [] l.rest
 same_life l = λ i. record { bytes = l.bytes; exchanges = sym (append-nil l.exchanges) i; rest = l.rest; taken = l.taken }
 
 none_more : (l : Life) (c : State) → Lives l c → Lives (with_exchanges l [] l.rest) c
@@ -140,12 +141,9 @@ MakesCallsTo was progress t u xs failed = (calls : MakesCalls was progress t u x
 abbrev OneAtMost : Option (List Told) → Option (List Told) → Progress → List Exchange → Option Request → Type 0
 OneAtMost t u progress xs failed = (length xs ≤ 1) × MakesCallsTo None progress t u xs failed
 
-none_some : false ≡ true → ⊥
-none_some e = cc
-
 -- the store didn't fail
 one_worked : (t u : Option (List Told)) (progress : Progress) (xs : List Exchange) → length xs ≤ 1 → (progress ≡ Ended (Err Store) → ⊥) → Tells t u (told_of xs ++ []) → OneAtMost t u progress xs None
-one_worked t u progress xs few not told = (few, (record { failed = None; told = told; ends = λ some. absurd (none_some some); only = λ was is. absurd (not is) }, refl))
+one_worked t u progress xs few not told = (few, (record { failed = None; told = told; ends = λ some. absurd (false_true some); only = λ was is. absurd (not is) }, refl))
 
 pub ends_lives : (k : Book) (t u : Option (List Told)) (c now : State) (end : Result Served ServeFault) (history : List Entry) → IsLegalBook k → c.end ≡ None → Goes c (Ended end) now
     → Steps k t c.is_closed c.rest c.replies (Ended end) now.rest now.replies history u → Advances k c now (OneAtMost t u (Ended end)) history
@@ -225,10 +223,10 @@ step_lives k t u c now (Ended end) history legal going goes steps =
 
 -- ---- the calls of attempts, one after another
 
-ended_same : (x r : Result Served ServeFault) → Ended x ≡ Ended r → x ≡ r
+pub ended_same : (x r : Result Served ServeFault) → Ended x ≡ Ended r → x ≡ r
 ended_same x r e = cc
 
-told_both : (xs ys : List Exchange) → told_of (xs ++ ys) ≡ told_of xs ++ told_of ys
+pub told_both : (xs ys : List Exchange) → told_of (xs ++ ys) ≡ told_of xs ++ told_of ys
 told_both xs ys = map-append (λ (x : Exchange). call x.delivery x.answer) xs ys
 
 -- the calls of so many frames, all answered
@@ -257,7 +255,7 @@ one_answered t u v n xs ys f failed (counted, told, none) (counts, (calls, is)) 
 pub ended_calls : (t : Option (List Told)) (was : Option (Result Served ServeFault)) (r : Result Served ServeFault) (most : ℕ) → was ≡ Some r → Told_so was t t (Ended r) most [] None
 ended_calls t was r most is = (
   record { within = omega arith; all = λ e. absurd (ended_answered r e) },
-  (record { failed = None; told = Tells-none t; ends = λ some. absurd (none_some some); only = λ not same. absurd (not (is ∙ ap Some (ended_same r (Err Store) same))) }, refl),
+  (record { failed = None; told = Tells-none t; ends = λ some. absurd (false_true some); only = λ not same. absurd (not (is ∙ ap Some (ended_same r (Err Store) same))) }, refl),
 )
 
 -- one more, and that was all
@@ -286,7 +284,7 @@ all_told t u n most xs failed was all (counted, told, none) = (
     record {
       failed = None;
       told = let P : List Told → Type 0 = λ q. Tells t u q in subst P (sym (append-nil (told_of xs))) told;
-      ends = λ some. absurd (none_some some);
+      ends = λ some. absurd (false_true some);
       only = λ not is. absurd (ended_answered (Err Store) (sym is));
     },
     sym none,

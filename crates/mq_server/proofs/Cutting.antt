@@ -7,6 +7,7 @@ use Rattle.mq_request.specs.declared.message.Request.{Request}
 use Rattle.mq_request.specs.declared.message.Reply.{Reply}
 use Rattle.mq_frame.specs.Feed.{Front, Nothing, Cut, EmptyHead, LongHead, Whole, BeginsWith, front}
 use Rattle.mq_frame.specs.Spelling.{SpellsRequest}
+use Rattle.mq_frame.proofs.Cuts.{whole_is, whole_stays}
 use Rattle.mq_ledger.specs.Legal.{Book}
 use Rattle.mq_server.specs.declared.connection.Served.{Served}
 use Rattle.mq_server.specs.declared.connection.Served.TheVariants.{InputEnd, Enough, BadFrame, CutFrame}
@@ -14,8 +15,8 @@ use Rattle.mq_server.specs.Connection.{Wire, Serves}
 use Rattle.mq_server.specs.Connections.{wires, AreServed, AreServedWhole, AppendEach}
 use Rattle.mq_server.specs.Delivery.{Delivery, asked, answer_to}
 use Rattle.mq_server.specs.Text.{Asks, IsBad, IsEnd, IsServed, LosesAlike, SpellsNone, next, served}
-use Rattle.mq_server.proofs.Heads.{whole_more}
 use Rattle.mq_server.proofs.Running.{asks_more}
+use Rattle.mq_server.proofs.Heads.{cut_nothing, whole_nothing}
 
 -- ---- bytes after the end
 
@@ -29,7 +30,7 @@ bad_at stay bytes more Nothing e bad = absurd bad
 bad_at stay bytes more Cut e bad = absurd bad
 bad_at stay bytes more EmptyHead e bad = subst IsBad (sym (stay.empty 512 bytes more e)) tt
 bad_at stay bytes more LongHead e bad = subst IsBad (sym (stay.long 512 bytes more e)) tt
-bad_at stay bytes more (Whole body after) e bad = subst IsBad (sym (whole_more 512 bytes more body after e)) bad
+bad_at stay bytes more (Whole body after) e bad = subst IsBad (sym (whole_stays 512 bytes more body after e)) bad
 
 abbrev end : Served → ℕ → List ℕ → Option (List ℕ) → Type 0
 end e count rest left = IsEnd e count (next rest) left
@@ -77,9 +78,6 @@ served_whole stay answer came old new e input s known =
 nothing_cut : Nothing ≡ Cut → ⊥
 nothing_cut e = cc
 
-cut_nothing : Cut ≡ Nothing → ⊥
-cut_nothing e = cc
-
 same_end : (count : ℕ) (behind : Front) (e f : Served) → IsEnd e count behind (Some []) → IsEnd f count behind (Some []) → e ≡ f
 same_end count behind InputEnd InputEnd p q = refl
 same_end count behind InputEnd CutFrame p q = absurd (nothing_cut (sym p.1 ∙ q.1))
@@ -104,15 +102,12 @@ at_most count behind left CutFrame p = omega (arith, p.0)
 at_most count behind left BadFrame p = omega (arith, p.0)
 at_most count behind left Enough p = omega (arith, p)
 
-nothing_whole : (body after : List ℕ) → Whole body after ≡ Nothing → ⊥
-nothing_whole body after e = cc
-
 cut_whole : (body after : List ℕ) → Whole body after ≡ Cut → ⊥
 cut_whole body after e = cc
 
 -- where a frame of a request stands, only the count ends a connection
 goes_on : (count : ℕ) (behind : Front) (body after : List ℕ) (r : Request) (e : Served) → behind ≡ Whole body after → SpellsRequest body r → IsEnd e count behind (Some []) → count ≡ 10000
-goes_on count behind body after r InputEnd at s p = absurd (nothing_whole body after (sym at ∙ p.1))
+goes_on count behind body after r InputEnd at s p = absurd (whole_nothing body after (sym at ∙ p.1))
 goes_on count behind body after r CutFrame at s p = absurd (cut_whole body after (sym at ∙ p.1))
 goes_on count behind body after r BadFrame at s p = let none : SpellsNone body = subst IsBad at p.1 in absurd (none r s)
 goes_on count behind body after r Enough at s p = p
@@ -120,9 +115,6 @@ goes_on count behind body after r Enough at s p = p
 -- two frames of requests in one place are one, and so are their requests
 abbrev pub OneRequest : Type 0
 OneRequest = (body : List ℕ) (request other : Request) → SpellsRequest body request → SpellsRequest body other → request ≡ other
-
-whole_is : (a b c d : List ℕ) → Whole a b ≡ Whole c d → (a ≡ c) × (b ≡ d)
-whole_is a b c d e = (cc, cc)
 
 -- the deliveries of some bytes, after so many others, and the end
 pub record Reads (count : ℕ) (bytes : List ℕ) (bodies : List (List ℕ)) (came : List Delivery) (rest : List ℕ) (e : Served) : Type 0 where

@@ -13,6 +13,7 @@ use Rattle.mq_ledger.specs.History.{requests}
 use Rattle.mq_ledger.specs.Answer.{build, reply, history_of, appended, answer, replies_after}
 use Rattle.mq_ledger.specs.Arrivals.{first}
 use Rattle.mq_ledger.specs.Day.{day_of}
+use Rattle.mq_ledger.proofs.Numbers.{requests_steps}
 use Rattle.mq_server.specs.Delivery.{Delivery, asked, arrivals, history_after, answer_to, answers_after, answers, taken_answers_after, taken_answers}
 
 abbrev pub taken : Request → Delivery
@@ -36,13 +37,6 @@ history_lost b r H legal e = e ∙ sym (history_none b legal)
 
 requests_push : (day : ℕ → ℕ) (default : ℕ) (H : List Entry) (r : Request) → requests (appended day default H r) ≡ requests H ++ r ∷ []
 requests_push day default H r = map-append (λ (e : Entry). e.request) H (record { request = r; reply = answer day default H r } ∷ [])
-
-requests_steps : (day : ℕ → ℕ) (default : ℕ) (H : List Entry) (rs : List Request) → requests (fold (appended day default) H rs) ≡ requests H ++ rs
-requests_steps day default H [] = sym (append-nil (requests H))
-requests_steps day default H (r ∷ rs) =
-    requests_steps day default (appended day default H r) rs
-    ∙ ap (λ (q : List Request). q ++ rs) (requests_push day default H r)
-    ∙ append_assoc (requests H) (r ∷ []) rs
 
 again : {A : Type 0} (f : List A → A → List A) (xs ys : List A) → fold f [] (fold f [] xs) ≡ fold f [] xs → fold f [] (fold f [] xs ++ ys) ≡ fold f [] (xs ++ ys)
 again f xs ys e = fold-append f [] (fold f [] xs) ys ∙ ap (λ q. fold f q ys) e ∙ sym (fold-append f [] xs ys)

@@ -3,6 +3,8 @@ use Rattle.std.proofs.Common.{◌≡◌, ℕ, ◌+◌, ◌-◌, ◌*◌, ◌<◌
 use Rattle.std.specs.Prelude.{if◌then◌else◌}
 use Rattle.std.specs.Io.KnownBytes.{Appends, Consumes, IsAtEnd}
 use Rattle.std.proofs.KnownBytes.{Appends-trans, Consumes-trans}
+use Rattle.mq_lemmas.proofs.Booleans.{false_true}
+use Rattle.mq_lemmas.proofs.Lists.{no_rest}
 use Rattle.mq_request.specs.declared.message.Reply.{Reply}
 use Rattle.mq_request.specs.declared.message.Reply.TheVariants.{Bad}
 use Rattle.mq_frame.specs.Spelling.{frame, reply_body}
@@ -12,6 +14,7 @@ use Rattle.mq_ledger.specs.declared.entry.Entry.{Entry}
 use Rattle.mq_ledger.specs.declared.ledger.Told.{Told}
 use Rattle.mq_ledger.specs.Legal.{Book}
 use Rattle.mq_ledger.specs.Told.{Tells}
+use Rattle.mq_ledger.proofs.Telling.{Tells-trans}
 use Rattle.mq_server.specs.declared.connection.Served.{Served}
 use Rattle.mq_server.specs.declared.connection.Progress.{Progress}
 use Rattle.mq_server.specs.declared.connection.Progress.TheVariants.{Answered, Waits, Ended}
@@ -27,7 +30,7 @@ use Rattle.mq_server.specs.Steps.{Refills, AnswersBody}
 use Rattle.mq_server.specs.Text.{IsBad, IsEnd, IsPartial, farewell, frames_of, next}
 use Rattle.mq_server.proofs.Heads.{some_behind, partial_short, left_short}
 use Rattle.mq_server.proofs.Stepping.{lacks_some}
-use Rattle.mq_server.proofs.Telling.{Tells-trans, Tells-kept, Tells-all, told_push}
+use Rattle.mq_server.proofs.Telling.{Tells-kept, Tells-all, told_push}
 use Rattle.mq_server.proofs.Running.{SoFar, Finds, came_read, came_more, due_here, frames_of_push, answered_more, read_more}
 
 -- the connection was served, and the ledger's history is the one after its deliveries, of which it told
@@ -43,9 +46,6 @@ no_last came = sym (append-nil came)
 
 -- ---- a read that failed, or whose piece had no room
 
-nothing_read : (held piece : List ℕ) → piece ≡ [] → held ++ piece ≡ held
-nothing_read held piece e = ap (λ (q : List ℕ). held ++ q) e ∙ append-nil held
-
 pub refill_failed : (b : Book) (t u : Option (List Told)) (old mid : Wire) (left : Option (List ℕ)) (from now : State) (piece : List ℕ) (history : List Entry) (e : ServeFault)
     → from.answered < 10000 → IsPartial (next from.rest) → length piece ≤ 4096 → SoFar b t u old mid from.rest from.answered history → Consumes mid.remaining left piece → Refills from now piece left (Err e)
     → Exits b t u old (record { remaining = left; contents = mid.contents }) (Err e) history
@@ -60,7 +60,7 @@ refill_failed b t u old mid left from now piece history Read few partial small s
         written = s.written;
         asks = c.asks;
         ahead = omega (arith, length-append from.rest piece, partial_short 512 from.rest partial);
-        leaves = record { few = omega (arith, s.all.counted); told = refl; partial = subst (λ q. IsPartial (next q)) (sym (nothing_read from.rest piece told.0)) partial };
+        leaves = record { few = omega (arith, s.all.counted); told = refl; partial = subst (λ q. IsPartial (next q)) (sym (no_rest from.rest piece told.0)) partial };
       },
       s.all.stored,
       Tells-all t u _ s.told,
@@ -204,7 +204,7 @@ refilled b t u old mid left c now piece history s consumed (inl (some, is)) =
 refilled b t u old mid left c now piece history s consumed (inr (none, over, is)) =
     let P : ℕ → Type 0 = λ n. SoFar b t u old (record { remaining = left; contents = mid.contents }) now.rest n history in
     subst P (ap (λ (q : State). q.answered) (sym is)) (read_more b t u old mid left c.rest now.rest piece c.answered history s consumed
-    (ap (λ (q : State). q.rest) is ∙ sym (nothing_read c.rest piece none)))
+    (ap (λ (q : State). q.rest) is ∙ sym (no_rest c.rest piece none)))
 
 -- ---- the ends
 
@@ -359,11 +359,8 @@ ended b k t u v old mid holds c now (Err Write) history few short none left f s 
 
 -- ---- a connection after a read
 
-not_both : false ≡ true → ⊥
-not_both e = cc
-
 closed_false : (a : Bool) → a ≡ false → a ≡ true → ⊥
-closed_false a e f = not_both (sym e ∙ f)
+closed_false a e f = false_true (sym e ∙ f)
 
 pub refilled_end : (c now : State) (piece : List ℕ) (left : Option (List ℕ)) → Refills c now piece left (Ok tt) → c.end ≡ None → now.end ≡ None
 refilled_end c now piece left (inl (some, is)) e = ap (λ (q : State). q.end) is ∙ e

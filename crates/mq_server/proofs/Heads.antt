@@ -1,18 +1,12 @@
 -- What stands at the front of the bytes that a feed holds.
-use Rattle.std.proofs.Common.{◌≡◌, ℕ, ◌+◌, ◌*◌, ◌<◌, ◌≤◌, Bool, true, false, List, [], ◌∷◌, ◌++◌, length, take, drop, refl, sym, ap, ◌∙◌, arith, inl, inr, Option, Some, None, Result, Ok, Err, length-drop}
-use Rattle.std.specs.Prelude.{◌⊎◌, nat_lt, ◌==◌}
+use Rattle.std.proofs.Common.{◌≡◌, ℕ, ◌+◌, ◌*◌, ◌<◌, ◌≤◌, List, [], ◌∷◌, ◌++◌, length, take, drop, refl, sym, ap, ◌∙◌, arith, inl, inr, Option, Some, None, Result, Ok, Err, length-drop}
+use Rattle.std.specs.Prelude.{nat_lt, ◌==◌}
 use Rattle.std.proofs.lemmas.Bool.Decides.{nat_tests}
-use Rattle.std.proofs.lemmas.List.{take-append-le, drop-append-le, length-append}
+use Rattle.mq_lemmas.proofs.Booleans.{either}
 use Rattle.mq_frame.specs.declared.feed.FrameFault.{FrameFault}
 use Rattle.mq_frame.specs.Feed.{Feed, Front, Nothing, Cut, EmptyHead, LongHead, Whole, front, front_behind, next_answer, left_by_next, BeginsWith, Takes}
+use Rattle.mq_frame.proofs.Cuts.{whole_is}
 use Rattle.mq_server.specs.Text.{IsBad, IsPartial, next}
-
-either : (b : Bool) → (b ≡ true) ⊎ (b ≡ false)
-either true = inl refl
-either false = inr refl
-
-whole_is : (a b c d : List ℕ) → Whole a b ≡ Whole c d → (a ≡ c) × (b ≡ d)
-whole_is a b c d e = (cc, cc)
 
 pub nothing_whole : (a b : List ℕ) → Nothing ≡ Whole a b → ⊥
 nothing_whole a b e = cc
@@ -32,10 +26,10 @@ empty_nothing e = cc
 long_nothing : LongHead ≡ Nothing → ⊥
 long_nothing e = cc
 
-cut_nothing : Cut ≡ Nothing → ⊥
+pub cut_nothing : Cut ≡ Nothing → ⊥
 cut_nothing e = cc
 
-whole_nothing : (a b : List ℕ) → Whole a b ≡ Nothing → ⊥
+pub whole_nothing : (a b : List ℕ) → Whole a b ≡ Nothing → ⊥
 whole_nothing a b e = cc
 
 -- the four cases of a head
@@ -96,35 +90,6 @@ pub left_short : (limit : ℕ) (bytes body after : List ℕ) → front limit byt
 left_short limit [] body after e = absurd (nothing_whole _ _ e)
 left_short limit (a ∷ []) body after e = absurd (cut_whole _ _ e)
 left_short limit (a ∷ b ∷ bytes) body after e = omega (arith, left_behind limit (256 * a + b) bytes body after e)
-
--- ---- bytes that come later
-
-whole_behind : (limit n : ℕ) (bytes more body after : List ℕ) → front_behind limit n bytes ≡ Whole body after → front_behind limit n (bytes ++ more) ≡ Whole body (after ++ more)
-whole_behind limit n bytes more body after e =
-    elim (either (n == 0)) [
-      | inl t ↦ absurd (empty_whole _ _ (rw t at e))
-      | inr f ↦ elim (either (nat_lt limit n)) [
-        | inl t ↦ absurd (long_whole _ _ (rw (f, t) at e))
-        | inr g ↦ elim (either (nat_lt (length bytes) n)) [
-          | inl t ↦ absurd (cut_whole _ _ (rw (f, g, t) at e))
-          | inr h ↦
-              (let p = whole_is (take n bytes) (drop n bytes) body after (rw (f, g, h) at e) in
-              let le : n ≤ length bytes = grind (arith, nat_tests) in
-              let enough : nat_lt (length (bytes ++ more)) n ≡ false = grind (arith, nat_tests, length-append bytes more) in
-              rw (f, g, enough, take-append-le, drop-append-le, p.0, p.1) refl)
-        ]
-      ]
-    ]
-
--- a frame that stands stays
-pub whole_more : (limit : ℕ) (bytes more body after : List ℕ) → front limit bytes ≡ Whole body after → front limit (bytes ++ more) ≡ Whole body (after ++ more)
-whole_more limit [] more body after e = absurd (nothing_whole _ _ e)
-whole_more limit (a ∷ []) more body after e = absurd (cut_whole _ _ e)
-whole_more limit (a ∷ b ∷ bytes) more body after e = whole_behind limit (256 * a + b) bytes more body after e
-
-pub frames_more : (limit : ℕ) (bytes more : List ℕ) (bodies : List (List ℕ)) (rest : List ℕ) → BeginsWith limit bytes bodies rest → BeginsWith limit (bytes ++ more) bodies (rest ++ more)
-frames_more limit bytes more [] rest e = ap (λ (l : List ℕ). l ++ more) e
-frames_more limit bytes more (body ∷ bodies) rest h = (h.0 ++ more, whole_more limit bytes more body h.0 h.1, frames_more limit h.0 more bodies rest h.2)
 
 -- one frame more
 pub frames_push : (limit : ℕ) (bytes held body after : List ℕ) (bodies : List (List ℕ)) → BeginsWith limit bytes bodies held → front limit held ≡ Whole body after → BeginsWith limit bytes (bodies ++ body ∷ []) after

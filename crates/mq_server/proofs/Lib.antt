@@ -3,7 +3,6 @@ pub mod Cutting
 pub mod Deliveries
 pub mod Exits
 pub mod Heads
-pub mod Leaving
 pub mod Living
 pub mod Running
 pub mod Stepping

@@ -9,16 +9,18 @@ use Rattle.mq_request.specs.declared.message.Request.{Request}
 use Rattle.mq_request.specs.declared.message.Reply.{Reply}
 use Rattle.mq_frame.specs.Spelling.{SpellsRequest, frame, reply_body}
 use Rattle.mq_frame.specs.Feed.{Whole}
+use Rattle.mq_frame.proofs.Cuts.{more_begins}
 use Rattle.mq_ledger.specs.declared.entry.Entry.{Entry}
 use Rattle.mq_ledger.specs.declared.ledger.Told.{Told}
 use Rattle.mq_ledger.specs.Legal.{Book, IsLegalBook}
 use Rattle.mq_ledger.specs.Told.{Tells}
+use Rattle.mq_ledger.proofs.Telling.{Tells-none}
 use Rattle.mq_server.specs.Delivery.{Delivery, asked, history_after, answer_to, answers, call, calls}
 use Rattle.mq_server.specs.Connection.{Wire}
 use Rattle.mq_server.specs.Text.{Asks, next, frames_of}
 use Rattle.mq_server.proofs.Deliveries.{Follows, history_none, history_more, answer_more, answers_push}
-use Rattle.mq_server.proofs.Heads.{frames_more, frames_push}
-use Rattle.mq_server.proofs.Telling.{Tells-none, told_push}
+use Rattle.mq_server.proofs.Heads.{frames_push}
+use Rattle.mq_server.proofs.Telling.{told_push}
 
 -- Of the bytes read these deliveries came, and the ledger's history is the one after them.
 pub record Came (b : Book) (read held : List ℕ) (count : ℕ) (history : List Entry) (came : List Delivery) : Type 0 where
@@ -59,7 +61,7 @@ start_empty b t wire held count e f legal =
 -- ---- the bytes asked
 
 pub asks_more : (bytes more : List ℕ) (requests : List Request) (rest : List ℕ) → Asks bytes requests rest → Asks (bytes ++ more) requests (rest ++ more)
-asks_more bytes more requests rest a = record { bodies = a.bodies; frames = frames_more 512 bytes more a.bodies rest a.frames; each = a.each }
+asks_more bytes more requests rest a = record { bodies = a.bodies; frames = more_begins 512 bytes more a.bodies rest a.frames; each = a.each }
 
 zip_push : (bodies : List (List ℕ)) (requests : List Request) (body : List ℕ) (r : Request) → AllZip SpellsRequest bodies requests → SpellsRequest body r → AllZip SpellsRequest (bodies ++ body ∷ []) (requests ++ r ∷ [])
 zip_push [] [] body r all e = (e, tt)

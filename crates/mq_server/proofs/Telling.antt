@@ -1,20 +1,10 @@
 -- What a ledger reports of one delivery after another.
-use Rattle.std.proofs.Common.{◌≡◌, List, [], ◌∷◌, ◌++◌, refl, sym, ap, subst, ◌∙◌, append-nil, append_assoc, Option, Some, None}
+use Rattle.std.proofs.Common.{◌≡◌, List, [], ◌∷◌, ◌++◌, refl, sym, ap, subst, ◌∙◌, append-nil, append_assoc, Option}
 use Rattle.mq_request.specs.declared.message.Reply.{Reply}
 use Rattle.mq_ledger.specs.declared.ledger.Told.{Told}
 use Rattle.mq_ledger.specs.Told.{Tells}
+use Rattle.mq_ledger.proofs.Telling.{Tells-trans}
 use Rattle.mq_server.specs.Delivery.{Delivery, call, calls, calls_after}
-
-pub Tells-none : (t : Option (List Told)) → Tells t t []
-Tells-none None = tt
-Tells-none (Some xs) = sym (append-nil xs)
-
-pub Tells-trans : (a b c : Option (List Told)) (xs ys : List Told) → Tells a b xs → Tells b c ys → Tells a c (xs ++ ys)
-Tells-trans a b None xs ys h i = tt
-Tells-trans None None (Some e) xs ys h i = absurd i
-Tells-trans None (Some d) (Some e) xs ys h i = absurd h
-Tells-trans (Some c) None (Some e) xs ys h i = absurd i
-Tells-trans (Some c) (Some d) (Some e) xs ys h i = i ∙ ap (λ l. l ++ ys) h ∙ append_assoc c xs ys
 
 -- nothing more was told
 pub Tells-kept : (a b c : Option (List Told)) (xs : List Told) → Tells a b xs → Tells b c [] → Tells a c xs

@@ -9,6 +9,7 @@ use Rattle.mq_ledger.specs.declared.entry.Entry.{Entry}
 use Rattle.mq_ledger.specs.declared.ledger.Told.{Told}
 use Rattle.mq_ledger.specs.Legal.{Book}
 use Rattle.mq_ledger.specs.Told.{Tells}
+use Rattle.mq_ledger.proofs.Telling.{Tells-trans}
 use Rattle.mq_server.specs.declared.connection.Served.{Served}
 use Rattle.mq_server.specs.declared.connections.ConnectionEnd.{ConnectionEnd}
 use Rattle.mq_server.specs.declared.connections.ConnectionEnd.TheVariants as ends
@@ -18,7 +19,7 @@ use Rattle.mq_server.specs.Delivery.{Delivery, answer_to, history_after, calls}
 use Rattle.mq_server.specs.Connection.{Wire, Serves, calls_of}
 use Rattle.mq_server.specs.Connections.{wires, result_of, AreServed, AreStopped, calls_until}
 use Rattle.mq_server.proofs.Deliveries.{Follows, answer_more, history_more}
-use Rattle.mq_server.proofs.Telling.{Tells-trans, calls_more}
+use Rattle.mq_server.proofs.Telling.{calls_more}
 
 abbrev wire : Option (List ℕ) → Option (List ℕ) → Wire
 wire left holds = record { remaining = left; contents = holds }

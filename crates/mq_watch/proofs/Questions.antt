@@ -1,5 +1,5 @@
 -- What questions to a ledger leave of it.
-use Rattle.std.proofs.Common.{◌≡◌, ℕ, ◌+◌, List, [], ◌∷◌, ◌++◌, append_assoc, sym, ap, subst, ◌∙◌, arith, Option, None, Some, Result, Ok, Err}
+use Rattle.std.proofs.Common.{◌≡◌, ℕ, ◌+◌, List, [], ◌∷◌, ◌++◌, append_assoc, sym, subst, arith, Option, Result, Ok, Err}
 use Rattle.std.specs.Prelude.{IfOk, IfSome}
 use Rattle.std.proofs.lemmas.List.Elements.{All-append, All-nil}
 use Rattle.mq_request.specs.declared.message.Reply.{Reply}
@@ -8,14 +8,8 @@ use Rattle.mq_ledger.specs.declared.ledger.LedgerFault.{LedgerFault}
 use Rattle.mq_ledger.specs.declared.ledger.LedgerFault.TheVariants.{Memory, Store}
 use Rattle.mq_ledger.specs.declared.ledger.Told.{Told}
 use Rattle.mq_ledger.specs.Told.{Tells}
+use Rattle.mq_ledger.proofs.Telling.{Tells-trans}
 use Rattle.mq_watch.specs.Asked.{AsksOnly, CallsOnce, IsQuestion, usage_in}
-
-Tells-trans : (a b c : Option (List Told)) (xs ys : List Told) → Tells a b xs → Tells b c ys → Tells a c (xs ++ ys)
-Tells-trans a b None xs ys h i = tt
-Tells-trans None None (Some e) xs ys h i = absurd i
-Tells-trans None (Some d) (Some e) xs ys h i = absurd h
-Tells-trans (Some c) None (Some e) xs ys h i = absurd i
-Tells-trans (Some c) (Some d) (Some e) xs ys h i = i ∙ ap (λ l. l ++ ys) h ∙ append_assoc c xs ys
 
 -- a call came
 pub calls_it : (a b : Option (List Told)) (call : Told) → Tells a b (call ∷ []) → CallsOnce call a b

@@ -2,14 +2,14 @@ use Rattle.mq_ledger.specs.declared.ledger.Told.{Told}
 use Rattle.mq_ledger.specs.Told.{Tells}
 use Rattle.std.proofs.Common.{◌≡◌, List, ◌+◌, ◌<◌, [], ◌∷◌, ◌++◌, length, map, take, get_or, set, refl, sym, ap, subst, ◌∙◌, arith, false, Err, Result}
 use Rattle.std.proofs.lemmas.List.{take_more_set, map-append, length-map, length-append, length-set}
+use Rattle.mq_ledger.proofs.Leaving.{left_both}
+use Rattle.mq_ledger.proofs.Telling.{Tells-trans}
 use Rattle.mq_server.specs.declared.connections.ConnectionEnd.{ConnectionEnd as End}
 use Rattle.mq_server.specs.declared.connection.Served.{Served}
 use Rattle.mq_server.specs.declared.fault.ServeFault.{ServeFault}
 use Rattle.mq_server.specs.declared.fault.ServeFault.TheVariants.{Store}
 use Rattle.mq_server.specs.Connections.{result_of}
 use Rattle.mq_server.proofs.Deliveries.{Follows, history_more}
-use Rattle.mq_server.proofs.Leaving.{left_both}
-use Rattle.mq_server.proofs.Telling.{Tells-trans}
 use Rattle.mq_server.proofs.Turns.{turn, stopped, told_turn, zip_push, zip_results, store_read, store_write, still, still_next, read_end, write_end}
 use Rattle.mq_stream.specs.Flow.{IsFlushed}
 use Rattle.mq_server.proofs.connections.serve_all.Goals as goal

@@ -1,19 +1,17 @@
-use Rattle.std.proofs.Common.{◌≡◌, ℕ, List, [], length, sym, ap, subst, ◌∙◌, arith, Ok, Err, Option, true, false}
+use Rattle.std.proofs.Common.{◌≡◌, ℕ, List, [], length, sym, ap, subst, ◌∙◌, arith, Ok, Err, Option}
 use Rattle.std.proofs.lemmas.Result.{err_from_is_err_and}
+use Rattle.mq_lemmas.proofs.Booleans.{false_true}
 use Rattle.mq_ledger.specs.declared.entry.Entry.{Entry}
 use Rattle.mq_ledger.specs.declared.ledger.Told.{Told}
 use Rattle.mq_ledger.specs.Legal.{Book}
+use Rattle.mq_ledger.proofs.Leaving.{left_alone, left_both}
 use Rattle.mq_server.specs.Connection.{Wire}
 use Rattle.mq_server.specs.Held.{State, with_replies}
 use Rattle.mq_server.specs.declared.fault.ServeFault.{ServeFault}
 use Rattle.mq_server.specs.Text.{IsPartial, next}
-use Rattle.mq_server.proofs.Leaving.{left_alone, left_both}
 use Rattle.mq_server.proofs.Running.{Finds, SoFar, start_empty}
 use Rattle.mq_server.proofs.Exits.{exits_as, unsent, answered_on, waits_on, refilled, refill_failed, ended, refilled_end, refilled_replies, refilled_answered, refilled_closed, refilled_ahead}
 use Rattle.mq_server.proofs.serving.serve.Goals as goal
-
-not_both : false ≡ true → ⊥
-not_both e = cc
 
 no_fault : {A : Type 0} (x : A) (fault : ServeFault) → Ok x ≡ Err fault → ⊥
 no_fault x fault e = cc
@@ -37,7 +35,7 @@ frames-init g c =
       none = ap (λ (q : State). q.replies) fresh;
       under = omega (arith, count);
       ahead = omega (arith, ap length rest);
-      closed = λ over. absurd (not_both (sym (ap (λ (q : State). q.is_closed) fresh) ∙ over));
+      closed = λ over. absurd (false_true (sym (ap (λ (q : State). q.is_closed) fresh) ∙ over));
       source_works = λ w. w;
       sink_works = λ w. w;
       flushed = λ f. f;

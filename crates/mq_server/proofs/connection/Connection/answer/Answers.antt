@@ -1,8 +1,8 @@
 use Rattle.std.proofs.Common.{◌∙◌, ◌+◌, ◌++◌, refl, sym, ap, None, arith}
+use Rattle.mq_ledger.proofs.Leaving.{left_alone, left_both}
 use Rattle.mq_server.specs.declared.connection.Progress.TheVariants.{Answered}
 use Rattle.mq_server.specs.Held.{State}
 use Rattle.mq_server.proofs.Advance.{AllAnswered, Told_so, advance_both, advance_still, all_told, answered_goes, closed_by, each_said, ended_by, ended_calls, going_ended, last_told, none_answered, none_of, one_more, said_so, step_lives, told_as, waits_by}
-use Rattle.mq_server.proofs.Leaving.{left_alone, left_both}
 use Rattle.mq_server.proofs.connection.Connection.answer.Goals as goal
 
 pub returns-in-Some-clause-lives : goal.returns-in-Some-clause-lives
