@@ -3,6 +3,7 @@
 use Rattle.std.proofs.Common.{◌≡◌, ℕ, zero, suc, ◌+◌, ◌*◌, ◌<◌, ◌≤◌, Bool, false, true, List, [], ◌∷◌, ◌++◌, length, refl, ap, subst, arith, length-append, length-drop, Option, None, Some, is_some, if◌then◌else◌}
 use Rattle.std.specs.Prelude.{slice_get}
 use Rattle.std.proofs.Math.Nat.{mul-le-mul_left}
+use Rattle.mq_lemmas.proofs.Options.{none_some}
 use Rattle.mq_request.specs.declared.message.Request.{Request}
 use Rattle.mq_client.specs.Exchanges.{Exchange, decisions}
 use Rattle.mq_client.specs.Turns.{failures, queue_of, next_of, ComeInTurn, AreUnderway}
@@ -12,7 +13,6 @@ use Rattle.mq_client.specs.declared.held.Held.{Held}
 use Rattle.mq_client.proofs.Counting.{AreCounted, counted, length_closed}
 use Rattle.mq_client.proofs.Keeping.{has_room}
 use Rattle.mq_client.proofs.Turning.{next_in_queue}
-use Rattle.mq_client.proofs.Basics.{none_some}
 
 -- an ask with an exchange isn't refused
 pub asked_free : (b : Bool) (n : ℕ) (q r : Request) (group : List Exchange) → next_of n (if b then [] else q ∷ []) group ≡ Some r → b ≡ false

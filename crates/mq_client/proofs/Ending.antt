@@ -1,6 +1,9 @@
 -- Two runs over the same input, whose exchanges ended alike, do and write the same.
-use Rattle.std.proofs.Common.{◌≡◌, ℕ, Bool, true, false, List, [], ◌∷◌, ◌++◌, length, refl, sym, ap, ◌∙◌, subst, append_assoc, append-nil, inl, inr, ◌⊎◌, Option, None, Some}
+use Rattle.std.proofs.Common.{◌≡◌, ℕ, Bool, true, false, List, [], ◌∷◌, ◌++◌, length, refl, sym, ap, ◌∙◌, subst, append_assoc, inl, inr, ◌⊎◌, Option, None, Some}
 use Rattle.std.specs.List.{concat}
+use Rattle.mq_lemmas.proofs.Options.{none_some, some_is}
+use Rattle.mq_lemmas.proofs.Booleans.{true_false}
+use Rattle.mq_lemmas.proofs.Lists.{no_rest}
 use Rattle.mq_line.specs.Grammar.{Meaning}
 use Rattle.mq_line.specs.Results.{registration}
 use Rattle.mq_line.specs.Text.{IsLine, IsTooLong, Holds, text_of, lines as all_lines, left as left_over}
@@ -18,7 +21,7 @@ use Rattle.mq_client.proofs.Looping.{is_line_none}
 use Rattle.mq_client.proofs.Turning.{OneReply}
 use Rattle.mq_client.proofs.Sameness.{same_filters, same_played, same_lines}
 use Rattle.mq_client.proofs.Placing.{Grammar, Front, Unread, Untracked, TooEarly, NeverReady, Over, InLine, Long, Fate, AtLine, AtEnd, same_place}
-use Rattle.mq_client.proofs.Basics.{none_some, some_is, true_false, cons_head}
+use Rattle.mq_client.proofs.Basics.{cons_head}
 
 -- how a text is cut into lines
 pub record Cutting : Type 0 where
@@ -46,9 +49,6 @@ at_line C stage line left rest o s f = AtLine line (all_lines (s.rest ++ rest)) 
 
 both_nil : (left rest : List ℕ) → left ≡ [] → rest ≡ [] → left ++ rest ≡ []
 both_nil left rest e f = ap (λ (l : List ℕ). l ++ rest) e ∙ f
-
-no_rest : (left rest : List ℕ) → rest ≡ [] → left ++ rest ≡ left
-no_rest left rest e = ap (λ (l : List ℕ). left ++ l) e ∙ append-nil left
 
 found_fate : (C : Cutting) (f : FilterFault) (stage : Stage) (pieces : List (List ℕ)) (left rest : List ℕ) (read_failed write_failed : Bool) → is_of_input f ≡ true → IsFound f stage pieces left (Some rest) read_failed write_failed
     → Fate stage (all_lines (left ++ rest)) (left_over (left ++ rest)) (Some f)

@@ -1,8 +1,9 @@
 -- Without spans nothing is held back.
-use Rattle.std.proofs.Common.{◌≡◌, ℕ, ◌-◌, ◌||◌, Bool, true, false, List, [], ◌∷◌, refl, ap, ◌∙◌, sym, subst, Option, None, Some, is_some, arith, not, if◌then◌else◌}
+use Rattle.std.proofs.Common.{◌≡◌, ℕ, ◌-◌, true, false, List, [], ◌∷◌, refl, ap, ◌∙◌, sym, subst, Option, None, Some, is_some, arith, not, if◌then◌else◌}
 use Rattle.std.specs.Prelude.{nat_lt, nat_le, filter}
 use Rattle.std.specs.List.{AllByRecursion}
 use Rattle.std.proofs.lemmas.Bool.Decides.{nat_tests}
+use Rattle.mq_lemmas.proofs.Booleans.{or_second}
 use Rattle.mq_line.specs.Grammar.{Meaning, ConfigLine, ReadyLine, ReportLine, FilterLine, OtherLine}
 use Rattle.mq_line.specs.declared.results.Decision.{Decision}
 use Rattle.mq_line.specs.declared.results.Decision.TheVariants.{RejectLimit, RejectService}
@@ -14,15 +15,11 @@ use Rattle.mq_client.specs.Filter.{Query, Passes, Refuses, Asks, query, Answers,
 use Rattle.mq_client.specs.declared.spans.Spans.{Spans}
 use Rattle.mq_client.specs.declared.holdup.Full.{Full}
 
-or_true : (a b : Bool) → b ≡ true → (a || b) ≡ true
-or_true true b e = refl
-or_true false b e = e
-
 from_zero : (n : ℕ) → nat_le 0 n ≡ true
 from_zero n = grind (arith, nat_tests)
 
 at_once : (since seconds : ℕ) → is_over 0 since seconds ≡ true
-at_once since seconds = or_true (nat_lt seconds since) (nat_le 0 (seconds - since)) (from_zero (seconds - since))
+at_once since seconds = or_second (nat_lt seconds since) (nat_le 0 (seconds - since)) (from_zero (seconds - since))
 
 no_pause : (seconds : ℕ) (paused : Option ℕ) → still_paused 0 seconds paused ≡ None
 no_pause seconds None = refl

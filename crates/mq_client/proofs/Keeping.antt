@@ -1,13 +1,14 @@
 -- What stays so of a client over its steps.
-use Rattle.std.proofs.Common.{◌≡◌, ℕ, ◌+◌, ◌-◌, ◌<◌, ◌≤◌, ◌==◌, ◌||◌, nat_le, Bool, false, true, List, refl, sym, ◌∙◌, subst, arith, Option, None, Some, is_some, if◌then◌else◌}
+use Rattle.std.proofs.Common.{◌≡◌, ℕ, ◌+◌, ◌-◌, ◌<◌, ◌≤◌, ◌==◌, nat_le, Bool, false, true, List, refl, sym, ◌∙◌, subst, arith, Option, None, Some, is_some, if◌then◌else◌}
 use Rattle.std.proofs.lemmas.Bool.{eqb-true, leb-false, ltb-false}
+use Rattle.mq_lemmas.proofs.Booleans.{neither}
+use Rattle.mq_lemmas.proofs.Options.{none_some, some_is}
 use Rattle.mq_request.specs.Range.{IsOrdinal, IsMoment, IsLogin}
 use Rattle.mq_client.specs.Past.{find, opened, let_through, refuses, is_other}
 use Rattle.mq_client.specs.Held.{IsHeld, AllHeld}
 use Rattle.mq_client.specs.declared.held.Asked.{Asked}
 use Rattle.mq_client.specs.declared.held.Asked.TheVariants as asked
 use Rattle.mq_client.specs.declared.held.Held.{Held}
-use Rattle.mq_client.proofs.Basics.{none_some, some_is}
 
 held_where : (old new : List (ℕ × Held)) (txn t : ℕ) (o : Option Held) (h : Held) (b : Bool) → (txn == t) ≡ b → find new t ≡ (if b then o else find old t) → AllHeld old → ((k : Held) → o ≡ Some k → IsHeld txn k) → find new t ≡ Some h → IsHeld t h
 held_where old new txn t o h true e n all here f = subst (λ (k : ℕ). IsHeld k h) (eqb-true txn t e) (here h (sym n ∙ f))
@@ -36,10 +37,6 @@ asked_in_range held new txn moment login answer few n all i m l =
 pub closed_in_range : (held new : List (ℕ × Held)) (txn : ℕ) → ((t : ℕ) → find new t ≡ (if txn == t then None else find held t)) → AllHeld held → AllHeld new
 closed_in_range held new txn n all = AllHeld-set held new txn None n all (λ k e. absurd (none_some k e))
 
-or_false : (a b : Bool) → (a || b) ≡ false → (a ≡ false) × (b ≡ false)
-or_false true b e = absurd (let no : ⊥ = cc in no)
-or_false false b e = (refl, e)
-
 -- an ask that isn't refused has room
 pub record HasRoom (o : Option Held) (live used waiting : ℕ) : Type 0 where
   pub places : (new : ℕ) → new ≡ (if is_some o then live else live + 1) → new + waiting ≤ 4096
@@ -48,15 +45,15 @@ pub record HasRoom (o : Option Held) (live used waiting : ℕ) : Type 0 where
 
 pub has_room : (o : Option Held) (live numbers waiting moment : ℕ) (login : List ℕ) → refuses o live numbers waiting moment login ≡ false → live + waiting ≤ 4096 → numbers + live ≤ 4294967295 → HasRoom o live numbers waiting
 has_room None live numbers waiting moment login e places limit =
-    let (a, b) = or_false (nat_le 4096 (live + waiting)) _ e in
+    let (a, b) = neither (nat_le 4096 (live + waiting)) _ e in
     record {
       places = λ new f. omega (arith, f, leb-false 4096 (live + waiting) a);
       numbers = λ new f. omega (arith, f, ltb-false (4294967295 - numbers) (1 + (live + 1)) b);
       few = λ moment' login'. omega arith;
     }
 has_room (Some h) live numbers waiting moment login e places limit =
-    let (a, b) = or_false (is_other h moment login) _ e in
-    let (c, d) = or_false (nat_le 1000 h.granted) _ b in
+    let (a, b) = neither (is_other h moment login) _ e in
+    let (c, d) = neither (nat_le 1000 h.granted) _ b in
     record {
       places = λ new f. omega (arith, f, places);
       numbers = λ new f. omega (arith, f, ltb-false (4294967295 - numbers) (1 + live) d);

@@ -6,11 +6,13 @@ use Rattle.std.specs.List.{AllByRecursion, concat}
 use Rattle.std.specs.Io.KnownBytes.{Appends}
 use Rattle.std.proofs.KnownBytes.{Appends-trans}
 use Rattle.std.proofs.lemmas.List.Sums.{sum_by-cons}
+use Rattle.mq_lemmas.proofs.Lists.{all_push}
 use Rattle.mq_line.specs.Grammar.{Meaning, ReadyLine, FilterLine, Reads, meaning}
 use Rattle.mq_line.specs.Results.{registration}
 use Rattle.mq_line.specs.Text.{IsLine, Holds, text_of}
 use Rattle.mq_line.specs.declared.reading.Line.{Line}
 use Rattle.mq_line.specs.declared.reading.Line.TheVariants as line
+use Rattle.mq_line.proofs.TextLaws.{holds-taken}
 use Rattle.mq_track.specs.Sessions.{closing, fault}
 use Rattle.mq_track.specs.State.{TracksAt, State as State'}
 use Rattle.mq_track.specs.declared.fault.TrackFault.{TrackFault}
@@ -29,7 +31,6 @@ use Rattle.mq_client.specs.declared.filter.Filter.{Filter}
 use Rattle.mq_link.specs.declared.link.Told.{Told}
 use Rattle.mq_client.proofs.Telling.{Tells-none, Tells-trans}
 use Rattle.mq_client.proofs.Supplying.{concat_push}
-use Rattle.mq_client.proofs.Basics.{all_push}
 
 pub Appends-none : (o : Option (List ℕ)) → Appends o o []
 Appends-none None = tt
@@ -82,20 +83,6 @@ is_ok_by (Err e) x is = absurd cc
 
 -- ---- lines that add up
 
-text_of-push : (taken : List (List ℕ)) (line : List ℕ) → text_of (taken ++ line ∷ []) ≡ text_of taken ++ (line ++ 10 ∷ [])
-text_of-push [] line = refl
-text_of-push (l ∷ taken) line = ap (λ (t : List ℕ). l ++ 10 ∷ t) (text_of-push taken line) ∙ sym (append_assoc l (10 ∷ text_of taken) (line ++ 10 ∷ []))
-
--- a line is taken from what is held
-pub holds_taken : (text : List ℕ) (taken : List (List ℕ)) (line rest : List ℕ) → IsLine line → Holds text taken (line ++ 10 ∷ rest) → Holds text (taken ++ line ∷ []) rest
-holds_taken text taken line rest one h = record {
-  whole = h.whole
-      ∙ ap (λ (l : List ℕ). text_of taken ++ l) (sym (append_assoc line (10 ∷ []) rest))
-      ∙ sym (append_assoc (text_of taken) (line ++ 10 ∷ []) rest)
-      ∙ ap (λ (l : List ℕ). l ++ rest) (sym (text_of-push taken line));
-  each = all_push IsLine taken line h.each one;
-}
-
 early_more : (lines : List (List ℕ)) (line : List ℕ) → AllByRecursion IsEarly lines → IsEarly line → AllByRecursion IsEarly (lines ++ line ∷ [])
 early_more lines line all h = all_push IsEarly lines line all h
 
@@ -132,7 +119,7 @@ carries_early m f now h e = λ o bytes line rest one reads s.
       stage = s.stage;
       steps = s.steps;
       text = s.text;
-      whole = holds_taken bytes s.lines line rest one s.whole;
+      whole = holds-taken bytes s.lines line rest one s.whole;
       reaches = rw is (early_more s.lines line (rw is at s.reaches) (m, reads, e));
       is_at = s.is_at;
       spans = s.spans;
@@ -154,7 +141,7 @@ carries_ready m f f' sink sink' told client h e app now tracker answers holdup =
       stage = AfterReady [];
       steps = s.steps;
       text = s.text ++ registration;
-      whole = holds_taken bytes s.lines line rest one s.whole;
+      whole = holds-taken bytes s.lines line rest one s.whole;
       reaches = ready_new s.lines line (rw is at s.reaches) (rw e at reads);
       is_at = (now, rw tracker tracks, answers ∙ none);
       spans = ap (λ x. x.0) holdup ∙ s.spans;
@@ -181,7 +168,7 @@ carries_take m f f' old new step text h does takes holdup now count = λ o bytes
       stage = AfterReady (m ∷ L);
       steps = push step s.steps;
       text = s.text ++ text;
-      whole = holds_taken bytes s.lines line rest one s.whole;
+      whole = holds-taken bytes s.lines line rest one s.whole;
       reaches = ready_more s.lines line L m (rw is at s.reaches) reads;
       is_at = (now, tracks', count L counted);
       spans = ap (λ x. x.0) holdup ∙ s.spans;

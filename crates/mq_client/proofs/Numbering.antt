@@ -5,6 +5,9 @@ use Rattle.std.specs.List.{AllByRecursion}
 use Rattle.std.specs.Option.{option_map, option_or}
 use Rattle.std.specs.Cmp.Lexicographic.{bytes_decides}
 use Rattle.std.proofs.lemmas.Bool.{eq-eqb, eqb-true, ne_eqb}
+use Rattle.mq_lemmas.proofs.Booleans.{neither_first, neither_second, not_false}
+use Rattle.mq_lemmas.proofs.Options.{none_some, some_is}
+use Rattle.mq_lemmas.proofs.Lists.{all_push, all_append, all_drop}
 use Rattle.mq_request.specs.Same.{same_text}
 use Rattle.mq_request.specs.declared.message.Id.{Id}
 use Rattle.mq_request.specs.declared.message.Request.{Request}
@@ -22,7 +25,7 @@ use Rattle.mq_client.specs.declared.held.Held.{Held}
 use Rattle.mq_client.proofs.ReadingOff.{live_read, numbers_read}
 use Rattle.mq_client.proofs.Turning.{next_in_queue}
 use Rattle.mq_client.proofs.Bounding.{asked_free}
-use Rattle.mq_client.proofs.Basics.{none_some, some_is, all_push, all_append, all_weaker, all_drop, all_at}
+use Rattle.mq_client.proofs.Basics.{all_weaker, all_at}
 
 -- ---- the request of a step
 
@@ -46,7 +49,7 @@ request_id s P (Close txn end) group q e =
     (ap id_in (sym is) ∙ closing_id s (numbers_in P + 1) txn end h, ap is_some there)
 request_id s P Drain group q e = absurd (none_some q e)
 
-more_numbers : (n : ℕ) (b : Bool) → n ≤ (if b then n + 1 else n)
+pub more_numbers : (n : ℕ) (b : Bool) → n ≤ (if b then n + 1 else n)
 more_numbers n true = omega arith
 more_numbers n false = omega arith
 
@@ -134,10 +137,10 @@ sent_numbered s n (x ∷ P) u =
     (group_numbered s (tries_in n x.quiet) P (view s P) x.action x.group x.quiet (numbers_read s P) (live_read s P) (waiting_numbered s P) u.0)
     (all_weaker (λ y. IsNumbered s P y.request) (λ y. IsNumbered s (x ∷ P) y.request) (exchanges_in P) (λ y. older s x P y.request) (sent_numbered s n P u.1))
 
-seq_is : (s : Source) (m n : ℕ) → Some (id_of s m) ≡ Some (id_of s n) → m ≡ n
+pub seq_is : (s : Source) (m n : ℕ) → Some (id_of s m) ≡ Some (id_of s n) → m ≡ n
 seq_is s m n e = ap (λ (i : Id). i.number) (some_is (id_of s m) (id_of s n) e)
 
-one_request : (s : Source) (P : List Step) (q r : Request) → IsNumbered s P q → IsNumbered s P r → id_in q ≡ id_in r → q ≡ r
+pub one_request : (s : Source) (P : List Step) (q r : Request) → IsNumbered s P q → IsNumbered s P r → id_in q ≡ id_in r → q ≡ r
 one_request s P q r i j e =
     let same : i.number ≡ j.number = seq_is s i.number j.number (sym i.id ∙ e ∙ j.id) in
     some_is q r (sym i.under ∙ ap (request_under s P) same ∙ j.under)
@@ -228,46 +231,34 @@ let_login asked.Granted h = refl
 let_login asked.Full h = refl
 let_login asked.Unavailable h = refl
 
-let_at : (answer : Asked) (h : Held) → (let_through answer h).moment ≡ h.moment
-let_at asked.Granted h = refl
-let_at asked.Full h = refl
-let_at asked.Unavailable h = refl
+pub let_through_at : (answer : Asked) (h : Held) → (let_through answer h).moment ≡ h.moment
+let_through_at asked.Granted h = refl
+let_through_at asked.Full h = refl
+let_through_at asked.Unavailable h = refl
 
-closed_not : (end : CloseEnd) (number : ℕ) (h : Held) → is_closed (Closed end number h) ≡ false → ⊥
-closed_not end number h e = cc (e)
-
-first_is : (a b : Bool) → (a || b) ≡ false → a ≡ false
-first_is true b e = e
-first_is false b e = refl
-
-second_is : (a b : Bool) → (a || b) ≡ false → b ≡ false
-second_is true b e = let no : ⊥ = cc (e) in absurd no
-second_is false b e = e
-
-not_false : (b : Bool) → not b ≡ false → b ≡ true
-not_false true e = refl
-not_false false e = let no : ⊥ = cc (e) in absurd no
+pub ended_not : (end : CloseEnd) (number : ℕ) (h : Held) → is_closed (Closed end number h) ≡ false → ⊥
+ended_not end number h e = cc (e)
 
 -- an ask of a live transaction that isn't refused has its login and moment
 same_asked : (h : Held) (moment : ℕ) (login : List ℕ) (more : Bool) → (is_other h moment login || more) ≡ false → (h.login ≡ login) × (h.moment ≡ moment)
 same_asked h moment login more e =
-    let same = first_is (is_other h moment login) more e in
-    ((bytes_decides h.login login).0 (not_false _ (first_is (not (same_text h.login login)) _ same)), eqb-true h.moment moment (not_false _ (second_is (not (same_text h.login login)) _ same)))
+    let same = neither_first (is_other h moment login) more e in
+    ((bytes_decides h.login login).0 (not_false _ (neither_first (not (same_text h.login login)) _ same)), eqb-true h.moment moment (not_false _ (neither_second (not (same_text h.login login)) _ same)))
 
 -- a reserve of a transaction that an ask finds live
 reserve_stays : (s : Source) (n t moment : ℕ) (login : List ℕ) (answer : Asked) (st : Standing) (q : Request) → is_closed st ≡ false → Suits s n t st q → Suits s n t (Live (let_through answer (opened moment login (held_by st)))) q
 reserve_stays s n t moment login answer Never q e suits = absurd suits
-reserve_stays s n t moment login answer (Live h) q e suits = suits ∙ ap (λ (m : ℕ). reserve_of s n t m h.login) (sym (let_at answer h)) ∙ ap (λ (l : List ℕ). reserve_of s n t (let_through answer h).moment l) (sym (let_login answer h))
-reserve_stays s n t moment login answer (Closed end number h) q e suits = absurd (closed_not end number h e)
+reserve_stays s n t moment login answer (Live h) q e suits = suits ∙ ap (λ (m : ℕ). reserve_of s n t m h.login) (sym (let_through_at answer h)) ∙ ap (λ (l : List ℕ). reserve_of s n t (let_through answer h).moment l) (sym (let_login answer h))
+reserve_stays s n t moment login answer (Closed end number h) q e suits = absurd (ended_not end number h e)
 
 reserve_new : (s : Source) (n t moment : ℕ) (login : List ℕ) (answer : Asked) (o : Option Held) (live numbers waiting : ℕ) → refuses o live numbers waiting moment login ≡ false
     → reserve_of s n t moment login ≡ reserve_of s n t (let_through answer (opened moment login o)).moment (let_through answer (opened moment login o)).login
 reserve_new s n t moment login answer None live numbers waiting free =
     let h = opened moment login None in
-    ap (λ (m : ℕ). reserve_of s n t m login) (sym (let_at answer h)) ∙ ap (λ (l : List ℕ). reserve_of s n t (let_through answer h).moment l) (sym (let_login answer h))
+    ap (λ (m : ℕ). reserve_of s n t m login) (sym (let_through_at answer h)) ∙ ap (λ (l : List ℕ). reserve_of s n t (let_through answer h).moment l) (sym (let_login answer h))
 reserve_new s n t moment login answer (Some h) live numbers waiting free =
     let (same_login, same_at) = same_asked h moment login _ free in
-    ap (λ (m : ℕ). reserve_of s n t m login) (sym (let_at answer h ∙ same_at)) ∙ ap (λ (l : List ℕ). reserve_of s n t (let_through answer h).moment l) (sym (let_login answer h ∙ same_login))
+    ap (λ (m : ℕ). reserve_of s n t m login) (sym (let_through_at answer h ∙ same_at)) ∙ ap (λ (l : List ℕ). reserve_of s n t (let_through answer h).moment l) (sym (let_login answer h ∙ same_login))
 
 closed_stays : (s : Source) (n t number : ℕ) (end : CloseEnd) (h : Held) (st : Standing) (q : Request) → held_by st ≡ Some h → Suits s n t st q → Suits s n t (Closed end number h) q
 closed_stays s n t number end h Never q e suits = absurd suits

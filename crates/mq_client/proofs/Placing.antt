@@ -2,6 +2,8 @@
 use Rattle.std.proofs.Common.{◌≡◌, ℕ, ◌+◌, true, false, List, [], ◌∷◌, ◌++◌, length, refl, sym, ap, ◌∙◌, subst, append_assoc, length-append, arith, Option, None, Some}
 use Rattle.std.specs.Prelude.{◌≢◌}
 use Rattle.std.specs.List.{AllByRecursion}
+use Rattle.mq_lemmas.proofs.Options.{none_some, some_is}
+use Rattle.mq_lemmas.proofs.Booleans.{true_false}
 use Rattle.mq_line.specs.Grammar.{Meaning, ConfigLine, ReadyLine, ReportLine, FilterLine, OtherLine, Reads, fault}
 use Rattle.mq_line.specs.Text.{IsLine, IsTooLong}
 use Rattle.mq_line.specs.declared.fault.LineFault.{LineFault}
@@ -15,7 +17,7 @@ use Rattle.mq_client.specs.Run.{is_early, is_stamped, IsEarly, AreRead, IsReady,
 use Rattle.mq_client.specs.declared.fault.FilterFault.{FilterFault}
 use Rattle.mq_client.specs.declared.fault.FilterFault.TheVariants as faults
 use Rattle.mq_client.proofs.Sameness.{push_front, early_apart, same_after, same_read, same_lines}
-use Rattle.mq_client.proofs.Basics.{none_some, some_is, true_false, nil_cons, cons_head, cons_tail}
+use Rattle.mq_client.proofs.Basics.{nil_cons, cons_head, cons_tail}
 
 -- a line has one meaning, and none where it has a fault
 pub record Grammar : Type 0 where

@@ -4,6 +4,7 @@ use Rattle.std.specs.Prelude.{codes}
 use Rattle.std.specs.Option.{option_map}
 use Rattle.std.specs.Str.{bytes_eq}
 use Rattle.std.proofs.lemmas.Bool.{eqb-true}
+use Rattle.mq_lemmas.proofs.Options.{none_some}
 use Rattle.mq_line.specs.Grammar.{Meaning, ConfigLine, ReadyLine, ReportLine, FilterLine, OtherLine}
 use Rattle.mq_track.specs.Laws.{StayClosed}
 use Rattle.mq_track.specs.Sessions.{Transaction, login, open_transaction, closing, position_of}
@@ -17,7 +18,7 @@ use Rattle.mq_client.specs.Filter.{Query, Passes, Refuses, Asks, is_login, is_mo
 use Rattle.mq_client.specs.Numbered.{is_closed, AsksForNoClosed, NoneReturns}
 use Rattle.mq_client.specs.declared.held.Held.{Held}
 use Rattle.mq_client.proofs.Sameness.{taken_kind, actions_push}
-use Rattle.mq_client.proofs.Basics.{none_some, nil_cons, cons_head, cons_tail}
+use Rattle.mq_client.proofs.Basics.{nil_cons, cons_head, cons_tail}
 
 -- ---- the actions of lines
 

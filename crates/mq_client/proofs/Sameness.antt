@@ -3,6 +3,7 @@ use Rattle.std.proofs.Common.{◌≡◌, ℕ, Bool, true, List, [], ◌∷◌, �
 use Rattle.std.proofs.lemmas.List.{append_cancel_right}
 use Rattle.std.specs.List.{AllByRecursion}
 use Rattle.std.specs.Option.{option_map}
+use Rattle.mq_lemmas.proofs.Options.{none_some}
 use Rattle.mq_line.specs.Grammar.{Meaning, ConfigLine, ReadyLine, ReportLine, FilterLine, OtherLine, Reads}
 use Rattle.mq_line.specs.Results.{result_text}
 use Rattle.mq_line.specs.declared.results.Decision.{Decision}
@@ -18,7 +19,7 @@ use Rattle.mq_client.specs.Filter.{Query, Passes, Refuses, Asks, query, decision
 use Rattle.mq_client.specs.Run.{is_early, IsEarly, AreRead, IsReady}
 use Rattle.mq_link.specs.declared.link.Outcome.{Outcome}
 use Rattle.mq_client.proofs.Turning.{OneReply, turns, none_next, same_turns}
-use Rattle.mq_client.proofs.Basics.{none_some, nil_cons, cons_head, cons_tail}
+use Rattle.mq_client.proofs.Basics.{nil_cons, cons_head, cons_tail}
 
 -- ---- the lines
 

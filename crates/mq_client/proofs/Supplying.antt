@@ -1,11 +1,11 @@
 -- Reads made one after another.
 use Rattle.std.proofs.Common.{◌≡◌, ◌<◌, ◌≤◌, ℕ, List, [], ◌∷◌, ◌++◌, length, length-append, refl, sym, ap, ◌∙◌, subst, append_assoc, append-nil, arith, Option, None, Some}
 use Rattle.std.specs.List.{concat}
-use Rattle.std.specs.Io.KnownBytes.{Consumes, Keeps}
+use Rattle.std.specs.Io.KnownBytes.{Consumes}
 use Rattle.std.proofs.KnownBytes.{Consumes-trans}
+use Rattle.mq_lemmas.proofs.Lists.{all_push}
 use Rattle.mq_stream.specs.Flow.{TellsReads}
 use Rattle.mq_client.specs.Run.{Supply, IsPiece, Supplies}
-use Rattle.mq_client.proofs.Basics.{all_push}
 
 pub concat_push : (pieces : List (List ℕ)) (piece : List ℕ) → concat (pieces ++ piece ∷ []) ≡ concat pieces ++ piece
 concat_push [] piece = append-nil piece
@@ -21,12 +21,6 @@ TellsReads-trans None None (Some e) xs ys h i = absurd i
 TellsReads-trans None (Some d) (Some e) xs ys h i = absurd h
 TellsReads-trans (Some c) None (Some e) xs ys h i = absurd i
 TellsReads-trans (Some c) (Some d) (Some e) xs ys h i = i ∙ ap (λ l. l ++ ys) h ∙ append_assoc c xs ys
-
--- nothing was read
-pub consumes_kept : (a b : Option (List ℕ)) → Keeps a b → Consumes a b []
-consumes_kept None b h = tt
-consumes_kept (Some xs) None h = absurd h
-consumes_kept (Some xs) (Some ys) h = sym h
 
 Consumes-none : (o : Option (List ℕ)) → Consumes o o []
 Consumes-none None = tt

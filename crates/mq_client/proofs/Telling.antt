@@ -1,5 +1,6 @@
 -- What a link reports of several exchanges, and how tries add up.
 use Rattle.std.proofs.Common.{◌≡◌, ℕ, ◌<◌, Bool, true, false, List, [], ◌∷◌, ◌++◌, length, ◌||◌, is_some, refl, sym, ap, ◌∙◌, subst, append_assoc, append-nil, Option, None, Some, if◌then◌else◌}
+use Rattle.mq_lemmas.proofs.Booleans.{or_false}
 use Rattle.mq_frame.specs.Spelling.{SpellsReply, request_frame}
 use Rattle.mq_request.specs.declared.message.Request.{Request}
 use Rattle.mq_request.specs.declared.message.Reply.{Reply}
@@ -79,10 +80,6 @@ pub no_verdict : (t : Tried) → ((v : Verdict) → t ≡ tried.Decided v → �
 no_verdict (tried.Decided v) not = absurd (not v refl)
 no_verdict tried.Undecided not = refl
 no_verdict tried.TimedOut not = refl
-
-or_false : (b : Bool) → (b || false) ≡ b
-or_false true = refl
-or_false false = refl
 
 -- one more try that decides nothing
 pub late_more : (x : Exchange) (done : List Exchange) (a b : Bool) → x.decided ≡ None → a ≡ has_timed_out (x ∷ []) → b ≡ has_timed_out done → (a || b) ≡ has_timed_out (x ∷ done)

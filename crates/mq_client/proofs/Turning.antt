@@ -2,6 +2,8 @@
 use Rattle.std.proofs.Common.{◌≡◌, ℕ, zero, suc, ◌+◌, ◌<◌, ◌≤◌, Bool, false, true, List, [], ◌∷◌, ◌++◌, length, drop, refl, sym, ap, ◌∙◌, subst, append-nil, arith, Option, None, Some, if◌then◌else◌, MatchBool}
 use Rattle.std.specs.Prelude.{slice_get, nat_le}
 use Rattle.std.proofs.lemmas.Bool.{lt-leb, le-leb, leb-false}
+use Rattle.mq_lemmas.proofs.Options.{none_some, some_is}
+use Rattle.mq_lemmas.proofs.Booleans.{true_false}
 use Rattle.mq_request.specs.declared.message.Request.{Request}
 use Rattle.mq_request.specs.declared.message.Reply.{Reply}
 use Rattle.mq_frame.specs.Spelling.{SpellsReply}
@@ -13,7 +15,7 @@ use Rattle.mq_client.specs.declared.held.Held.{Held}
 use Rattle.mq_link.specs.declared.link.Outcome.{Outcome}
 use Rattle.mq_link.specs.declared.link.Outcome.TheVariants.{Answered, Faulted}
 use Rattle.mq_client.proofs.Making.{some_left}
-use Rattle.mq_client.proofs.Basics.{none_some, some_is, true_false, cons_head, cons_tail}
+use Rattle.mq_client.proofs.Basics.{cons_head, cons_tail}
 
 -- the exchanges so far came in turn, and the last so many failed
 record Comes (n : ℕ) (queue : List Request) (group : List Exchange) (failed decided : ℕ) : Type 0 where

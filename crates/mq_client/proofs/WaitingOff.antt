@@ -3,13 +3,16 @@ use Rattle.std.proofs.Common.{◌≡◌, ℕ, zero, suc, ◌+◌, ◌<◌, ◌�
 use Rattle.std.specs.Prelude.{drop, slice_get}
 use Rattle.std.proofs.lemmas.List.{drop-drop}
 use Rattle.std.specs.List.{AllByRecursion}
-use Rattle.std.proofs.lemmas.Bool.{eq-eqb, ne_eqb}
-use Rattle.std.proofs.lemmas.Cmp.{nat_list_eq_equiv}
 use Rattle.std.proofs.lemmas.List.Elements.{filter-append}
+use Rattle.mq_lemmas.proofs.Booleans.{or_second, or_first, neither_so, never}
+use Rattle.mq_lemmas.proofs.Numbers.{number_itself, other_number}
+use Rattle.mq_lemmas.proofs.Options.{none_some, some_is}
+use Rattle.mq_lemmas.proofs.Lists.{all_push}
 use Rattle.mq_request.specs.Same.{same_text, same_id, same_request}
 use Rattle.mq_request.specs.declared.message.Id.{Id}
 use Rattle.mq_request.specs.declared.message.Request.{Request}
 use Rattle.mq_request.specs.declared.message.Request.TheVariants.{Reserve, Settle, Release, Limit, Usage, List as ListRequest, Retire}
+use Rattle.mq_request.proofs.Alike.{text_itself, id_itself}
 use Rattle.mq_client.specs.Exchanges.{Exchange, decisions}
 use Rattle.mq_client.specs.Turns.{queue_of, ComeInTurn, AreUnderway}
 use Rattle.mq_client.specs.Past.{tries_in, Source, Action, Ask, Close, Drain, Step, View, view, after, after_close, held_by, held_for, reserve_of, closing_of}
@@ -18,11 +21,10 @@ use Rattle.mq_track.specs.declared.closing.CloseEnd.{CloseEnd}
 use Rattle.mq_client.specs.declared.held.Held.{Held}
 use Rattle.mq_client.proofs.Turning.{next_in_queue}
 use Rattle.mq_client.proofs.ReadingOff.{live_read, numbers_read}
-use Rattle.mq_client.proofs.Basics.{none_some, some_is, all_push}
 
 -- ---- requests of closings
 
-abbrev seq_of : Request → ℕ
+abbrev pub seq_of : Request → ℕ
 seq_of (Reserve id txn moment login count) = id.number
 seq_of (Settle id txn moment login count) = id.number
 seq_of (Release id txn moment login) = id.number
@@ -35,15 +37,6 @@ abbrev IsClosing : Request → Type 0
 IsClosing (Settle id txn moment login count) = Unit {0}
 IsClosing (Release id txn moment login) = Unit {0}
 IsClosing _ = ⊥
-
-text_itself : (a : List ℕ) → same_text a a ≡ true
-text_itself a = nat_list_eq_equiv.refl a
-
-number_itself : (n : ℕ) → (n == n) ≡ true
-number_itself n = eq-eqb n n refl
-
-id_itself : (id : Id) → same_id id id ≡ true
-id_itself id = rw (text_itself id.host, number_itself id.run, number_itself id.number) refl
 
 request_itself : (q : Request) → IsClosing q → same_request q q ≡ true
 request_itself (Settle id txn moment login count) c = rw (id_itself id, number_itself txn, number_itself moment, text_itself login, number_itself count) refl
@@ -58,15 +51,8 @@ first_false : (a b : Bool) → a ≡ false → (a && b) ≡ false
 first_false true b e = let no : ⊥ = cc in absurd no
 first_false false b e = refl
 
-second_false : (a b : Bool) → b ≡ false → (a && b) ≡ false
-second_false true b e = e
-second_false false b e = refl
-
-other_number : (m n : ℕ) → m < n → (m == n) ≡ false
-other_number m n h = ne_eqb m n (λ e. omega (arith, h, e))
-
 other_id : (a b : Id) → a.number < b.number → same_id a b ≡ false
-other_id a b h = second_false (same_text a.host b.host) _ (second_false (a.run == b.run) _ (other_number a.number b.number h))
+other_id a b h = never (same_text a.host b.host) _ (never (a.run == b.run) _ (other_number a.number b.number h))
 
 -- a closing under a later number is another request
 other_request : (r q : Request) → IsClosing q → seq_of r < seq_of q → same_request r q ≡ false
@@ -107,18 +93,6 @@ closing_at s n txn moment count login false = (tt, refl)
 closing_is : (s : Source) (n txn : ℕ) (end : CloseEnd) (h : Held) → IsClosing (closing_of s n txn end h) × (seq_of (closing_of s n txn end h) ≡ n)
 closing_is s n txn end h = closing_at s n txn h.moment h.granted h.login _
 
-or_true : (a b : Bool) → b ≡ true → (a || b) ≡ true
-or_true true b e = refl
-or_true false b e = e
-
-or_first : (a b : Bool) → a ≡ true → (a || b) ≡ true
-or_first true b e = refl
-or_first false b e = let no : ⊥ = cc in absurd no
-
-or_false : (a b : Bool) → a ≡ false → b ≡ false → (a || b) ≡ false
-or_false true b e f = e
-or_false false b e f = f
-
 -- ---- which requests a group decided
 
 unmarked : (b c : Bool) → ((b && false) || c) ≡ c
@@ -138,7 +112,7 @@ ask_none : (n : ℕ) (r : Request) (group : List Exchange) (q : Request) → Com
 ask_none n r [] q turns other = refl
 ask_none n r (x ∷ group) q turns other =
     let is : x.request ≡ r = the_only (decisions group) r x.request (next_in_queue n (r ∷ []) group x.request turns.0).1 in
-    or_false _ _ (first_false (same_request x.request q) (is_some x.decided) (ap (λ p. same_request p q) is ∙ other)) (ask_none n r group q turns.2 other)
+    neither_so _ _ (first_false (same_request x.request q) (is_some x.decided) (ap (λ p. same_request p q) is ∙ other)) (ask_none n r group q turns.2 other)
 
 -- ---- lists of closings, the earlier numbers first
 
@@ -218,11 +192,11 @@ splits_more n queue x group true e all at p =
       done = p.done ++ r ∷ [];
       whole = parts ∙ sym (append_assoc p.done (r ∷ []) left);
       decided = all_push (λ q. is_decided_by (x ∷ group) q ≡ true) p.done r
-          (all_map (λ q. is_decided_by group q ≡ true) (λ q. is_decided_by (x ∷ group) q ≡ true) p.done (λ q h. or_true _ (is_decided_by group q) h) p.decided)
+          (all_map (λ q. is_decided_by group q ≡ true) (λ q. is_decided_by (x ∷ group) q ≡ true) p.done (λ q h. or_second _ (is_decided_by group q) h) p.decided)
           (or_first _ (is_decided_by group r) (rw (request_itself r closing) e));
       others = λ q c h.
           let (first, last) = all_both (λ y. seq_of y < seq_of q) p.done (r ∷ []) h in
-          or_false _ _ (first_false (same_request r q) (is_some x.decided) (other_request r q c last.0)) (p.others q c first);
+          neither_so _ _ (first_false (same_request r q) (is_some x.decided) (other_request r q c last.0)) (p.others q c first);
     }
 
 splits : (n : ℕ) (queue : List Request) (group : List Exchange) → AllByRecursion IsClosing queue → ComeInTurn n queue group → Splits queue group (drop (decisions group) queue)
@@ -268,14 +242,14 @@ waits_sent dec closings queue left n group w p =
       done = w.done ++ p.done;
       whole = parts ∙ sym (append_assoc w.done p.done left);
       decided = all_joined (λ q. (is_decided_by group q || dec q) ≡ true) w.done p.done
-          (all_map (λ q. dec q ≡ true) (λ q. (is_decided_by group q || dec q) ≡ true) w.done (λ q e. or_true (is_decided_by group q) (dec q) e) w.decided)
+          (all_map (λ q. dec q ≡ true) (λ q. (is_decided_by group q || dec q) ≡ true) w.done (λ q e. or_second (is_decided_by group q) (dec q) e) w.decided)
           (all_map (λ q. is_decided_by group q ≡ true) (λ q. (is_decided_by group q || dec q) ≡ true) p.done (λ q e. or_first (is_decided_by group q) (dec q) e) p.decided);
-      undecided = all_two (λ q. IsClosing q × ComesAfter p.done q) (λ q. dec q ≡ false) (λ q. (is_decided_by group q || dec q) ≡ false) left (λ q a b. or_false (is_decided_by group q) (dec q) (p.others q a.0 a.1) b)
+      undecided = all_two (λ q. IsClosing q × ComesAfter p.done q) (λ q. dec q ≡ false) (λ q. (is_decided_by group q || dec q) ≡ false) left (λ q a b. neither_so (is_decided_by group q) (dec q) (p.others q a.0 a.1) b)
           (all_two IsClosing (ComesAfter p.done) (λ q. IsClosing q × ComesAfter p.done q) left (λ q a b. (a, b)) (all_both IsClosing p.done left closing_parts.1).1 (comes_after p.done left ordered)) open_parts.1;
       closing = w.closing;
       ascends = w.ascends;
       below = w.below;
-      beyond = λ q c h. or_false (is_decided_by group q) (dec q) (p.others q c (all_map (λ r. seq_of r ≤ n) (λ r. seq_of r < seq_of q) p.done (λ r i. omega (arith, i, h)) below_done)) (w.beyond q c h);
+      beyond = λ q c h. neither_so (is_decided_by group q) (dec q) (p.others q c (all_map (λ r. seq_of r ≤ n) (λ r. seq_of r < seq_of q) p.done (λ r i. omega (arith, i, h)) below_done)) (w.beyond q c h);
     }
 
 -- exchanges of no closing, under a number of their own or not
@@ -285,12 +259,12 @@ waits_asked dec closings waiting n m group w le quiet =
     record {
       done = w.done;
       whole = w.whole;
-      decided = all_map (λ q. dec q ≡ true) (λ q. (is_decided_by group q || dec q) ≡ true) w.done (λ q e. or_true (is_decided_by group q) (dec q) e) w.decided;
-      undecided = all_two IsClosing (λ q. dec q ≡ false) (λ q. (is_decided_by group q || dec q) ≡ false) waiting (λ q c e. or_false (is_decided_by group q) (dec q) (quiet q c) e) parts.1 w.undecided;
+      decided = all_map (λ q. dec q ≡ true) (λ q. (is_decided_by group q || dec q) ≡ true) w.done (λ q e. or_second (is_decided_by group q) (dec q) e) w.decided;
+      undecided = all_two IsClosing (λ q. dec q ≡ false) (λ q. (is_decided_by group q || dec q) ≡ false) waiting (λ q c e. neither_so (is_decided_by group q) (dec q) (quiet q c) e) parts.1 w.undecided;
       closing = w.closing;
       ascends = w.ascends;
       below = all_map (λ q. seq_of q ≤ n) (λ q. seq_of q ≤ m) closings (λ q h. omega (arith, h, le)) w.below;
-      beyond = λ q c h. or_false (is_decided_by group q) (dec q) (quiet q c) (w.beyond q c (omega (arith, h, le)));
+      beyond = λ q c h. neither_so (is_decided_by group q) (dec q) (quiet q c) (w.beyond q c (omega (arith, h, le)));
     }
 
 -- ---- over a past

@@ -21,7 +21,7 @@ either : (b : Bool) (P : Type 0) → (b ≡ true → P) → (b ≡ false → P) 
 either true P y n = y refl
 either false P y n = n refl
 
-same_bytes : (s : List ℕ) → bytes_eq s s ≡ true
+pub same_bytes : (s : List ℕ) → bytes_eq s s ≡ true
 same_bytes s = (bytes_decides s s).1 refl
 
 -- what was learned of one session, where the line is of that session

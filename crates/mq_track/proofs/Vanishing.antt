@@ -13,6 +13,7 @@ use Rattle.mq_track.specs.declared.closing.Closing.{Closing}
 use Rattle.mq_track.specs.declared.closing.CloseEnd.{CloseEnd}
 use Rattle.mq_track.specs.declared.closing.CloseEnd.TheVariants.{Rollback}
 use Rattle.mq_track.proofs.Lookback.{open_after, open-more}
+use Rattle.mq_track.proofs.Moves.{same_bytes}
 
 -- the closing that an event of the session u brings
 abbrev brought_in : List Meaning → Event → List ℕ → Option Closing
@@ -21,29 +22,22 @@ brought_in past e u = option_and_then (closing_of u e) (open_transaction past u)
 abbrev Closes : Option Closing → Transaction → Type 0
 Closes c t = (end : CloseEnd) × (c ≡ Some (record { txn = t.txn; end = end }))
 
-both : (b : Bool) → (b ≡ true) ⊎ (b ≡ false)
-both true = inl refl
-both false = inr refl
-
-itself : (u : List ℕ) → bytes_eq u u ≡ true
-itself u = (bytes_decides u u).1 refl
-
 at_u : (past : List Meaning) (u s : List ℕ) (t : Transaction) → u ≡ s → open_transaction past s ≡ Some t → open_transaction past u ≡ Some t
 at_u past u s t same is = rw same is
 
 by_begin : (b : Bool) (past : List Meaning) (u message s : List ℕ) (moment n : ℕ) (t : Transaction) → (b ≡ true → u ≡ s) → open_transaction past s ≡ Some t
     → ((if b then Some (record { txn = n; message = message; moment = moment }) else Some t) ≡ Some t) ⊎ Closes (brought_in past (Began u message moment) u) t
-by_begin true past u message s moment n t same is = inr (Rollback, rw (at_u past u s t (same refl) is, itself u) refl)
+by_begin true past u message s moment n t same is = inr (Rollback, rw (at_u past u s t (same refl) is, same_bytes u) refl)
 by_begin false past u message s moment n t same is = inl refl
 
 by_leaving : (b : Bool) (past : List Meaning) (u s : List ℕ) (t : Transaction) → (b ≡ true → u ≡ s) → open_transaction past s ≡ Some t
     → ((if b then None else Some t) ≡ Some t) ⊎ Closes (brought_in past (Left u) u) t
-by_leaving true past u s t same is = inr (Rollback, rw (at_u past u s t (same refl) is, itself u) refl)
+by_leaving true past u s t same is = inr (Rollback, rw (at_u past u s t (same refl) is, same_bytes u) refl)
 by_leaving false past u s t same is = inl refl
 
 by_name : (named : Bool) (past : List Meaning) (u s : List ℕ) (message : Option (List ℕ)) (end : CloseEnd) (t : Transaction) → u ≡ s → is_named message t.message ≡ named → open_transaction past s ≡ Some t
     → (option_and_then (left_open message) (Some t) ≡ Some t) ⊎ Closes (brought_in past (Ended u message end) u) t
-by_name true past u s message end t same is_named is = inr (end, rw (at_u past u s t same is, itself u, is_named) refl)
+by_name true past u s message end t same is_named is = inr (end, rw (at_u past u s t same is, same_bytes u, is_named) refl)
 by_name false past u s message end t same is_named is = inl (rw is_named refl)
 
 by_end : (b : Bool) (past : List Meaning) (u s : List ℕ) (message : Option (List ℕ)) (end : CloseEnd) (t : Transaction) → (b ≡ true → u ≡ s) → open_transaction past s ≡ Some t

@@ -1,68 +1,13 @@
--- Tests, options, members of lists and sums.
-use Rattle.std.proofs.Common.{◌≡◌, ℕ, zero, suc, ◌+◌, ◌≤◌, ◌<◌, Bool, true, false, List, [], ◌∷◌, ◌++◌, refl, sym, ap, ◌∙◌, subst, inl, inr, arith, Option, None, Some}
-use Rattle.std.specs.Prelude.{◌⊎◌, ◌&&◌, ◌||◌, ◌==◌, slice_get, find, sum_by, if◌then◌else◌}
+-- Members of lists, what is found in them, and sums.
+use Rattle.std.proofs.Common.{◌≡◌, ℕ, zero, suc, ◌+◌, ◌≤◌, Bool, true, false, List, [], ◌∷◌, ◌++◌, refl, sym, ap, ◌∙◌, inl, inr, arith, None, Some}
+use Rattle.std.specs.Prelude.{◌⊎◌, slice_get, find, sum_by, if◌then◌else◌}
 use Rattle.std.specs.List.{AllByRecursion, list_any}
-use Rattle.std.specs.Cmp.Lexicographic.{bytes_decides}
-use Rattle.std.proofs.lemmas.Bool.Decides.{Decides-eqb}
 use Rattle.std.proofs.lemmas.List.Sums.{sum_by-cons}
-use Rattle.mq_request.specs.Same.{same_text}
-
-pub either : (b : Bool) → (b ≡ true) ⊎ (b ≡ false)
-either true = inl refl
-either false = inr refl
-
-pub clash : (b : Bool) → b ≡ true → b ≡ false → ⊥
-clash b h g = let bad : true ≡ false = sym h ∙ g in cc
-
-pub first_so : (a b : Bool) → (a && b) ≡ true → a ≡ true
-first_so true b h = refl
-first_so false b h = h
-
-pub second_so : (a b : Bool) → (a && b) ≡ true → b ≡ true
-second_so true b h = h
-second_so false b h = cc
-
-pub both_so : (a b : Bool) → a ≡ true → b ≡ true → (a && b) ≡ true
-both_so a b h g = rw (h, g) refl
-
-pub first_not : (a b : Bool) → (a || b) ≡ false → a ≡ false
-first_not true b e = e
-first_not false b e = refl
-
-pub second_not : (a b : Bool) → (a || b) ≡ false → b ≡ false
-second_not true b e = let no_way : ⊥ = cc (e) in absurd no_way
-second_not false b e = e
-
-pub none_some : {A : Type 0} (x : A) → None ≡ Some x → ⊥
-none_some x e = cc
-
-pub some_is : {A : Type 0} (x y : A) → Some x ≡ Some y → x ≡ y
-some_is x y e = cc
-
-pub option_cases : {A : Type 0} (o : Option A) → (o ≡ None) ⊎ ((x : A) × (o ≡ Some x))
-option_cases None = inl refl
-option_cases (Some x) = inr (x, refl)
-
-pub zero_or_more : (n : ℕ) → (n ≡ 0) ⊎ (0 < n)
-zero_or_more n = grind arith
-
-pub text_is : (a b : List ℕ) → same_text a b ≡ true → a ≡ b
-text_is a b h = (bytes_decides a b).0 h
-
-pub text_itself : (a : List ℕ) → same_text a a ≡ true
-text_itself a = (bytes_decides a a).1 refl
-
-pub number_is : (m n : ℕ) → (m == n) ≡ true → m ≡ n
-number_is m n h = (Decides-eqb m n).0 h
-
-pub number_itself : (n : ℕ) → (n == n) ≡ true
-number_itself n = (Decides-eqb n n).1 refl
+use Rattle.mq_lemmas.proofs.Booleans.{either, clash}
+use Rattle.mq_lemmas.proofs.Options.{none_some, some_is}
+use Rattle.mq_lemmas.proofs.Lists.{In}
 
 -- ---- members
-
-abbrev pub In : {X : Type 0} → X → List X → Type 0
-In x [] = ⊥
-In x (y ∷ ys) = (y ≡ x) ⊎ In x ys
 
 pub in_push : {X : Type 0} (xs : List X) (y x : X) → In x (xs ++ y ∷ []) → In x xs ⊎ (y ≡ x)
 in_push [] y x (inl e) = inr e
@@ -92,15 +37,6 @@ pub in_get : {X : Type 0} (xs : List X) (n : ℕ) (x : X) → slice_get xs n ≡
 in_get [] n x h = absurd (none_some x h)
 in_get (y ∷ xs) zero x h = inl (some_is y x h)
 in_get (y ∷ xs) (suc n) x h = inr (in_get xs n x h)
-
-pub all_at : {X : Type 0} (P : X → Type 0) (xs : List X) (x : X) → AllByRecursion P xs → In x xs → P x
-all_at P [] x all i = absurd i
-all_at P (y ∷ xs) x all (inl e) = subst P e all.0
-all_at P (y ∷ xs) x all (inr i) = all_at P xs x all.1 i
-
-pub all_push : {X : Type 0} (P : X → Type 0) (xs : List X) (x : X) → AllByRecursion P xs → P x → AllByRecursion P (xs ++ x ∷ [])
-all_push P [] x all h = (h, tt)
-all_push P (y ∷ xs) x all h = (all.0, all_push P xs x all.1 h)
 
 pub all_put : {X : Type 0} (P : X → Type 0) (xs ys : List X) (x y : X) → AllByRecursion P (xs ++ x ∷ ys) → P y → AllByRecursion P (xs ++ y ∷ ys)
 all_put P [] ys x y all h = (h, all.1)

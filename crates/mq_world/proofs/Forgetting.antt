@@ -1,8 +1,10 @@
 -- What holds of a run holds once days before F are forgotten.
 use Rattle.std.proofs.Common.{◌≡◌, ℕ, ◌≤◌, List, [], ◌∷◌, ◌++◌, Bool, true, false, refl, ◌∙◌, ap, sym, subst, inl, inr, arith}
 use Rattle.std.specs.Prelude.{◌⊎◌, nat_le, filter}
-use Rattle.std.specs.List.{AllByRecursion}
 use Rattle.std.proofs.lemmas.Bool.Decides.{nat_tests}
+use Rattle.mq_lemmas.proofs.Lists.{in_filter, In}
+use Rattle.mq_lemmas.proofs.Booleans.{either, clash, neither_first}
+use Rattle.mq_lemmas.proofs.Options.{some_is, option_cases}
 use Rattle.mq_request.specs.declared.message.Id.{Id}
 use Rattle.mq_request.specs.declared.message.Request.{Request}
 use Rattle.mq_request.specs.declared.message.Request.TheVariants.{Reserve, Settle, Release, Limit, Usage, List as ListRequest, Retire}
@@ -15,7 +17,7 @@ use Rattle.mq_ledger.specs.Suits.{Suits as RepliesSuit}
 use Rattle.mq_forget.specs.Remembered.{moment_of, day_named, is_about, is_set, stays, remembered}
 use Rattle.mq_client.specs.Exchanges.{decides}
 use Rattle.mq_client.specs.Past.{Source, Step, id_of}
-use Rattle.mq_world.proofs.Basics.{either, clash, some_is, first_not, option_cases, In, in_front, in_back, in_either, found}
+use Rattle.mq_world.proofs.Basics.{in_front, in_back, in_either, found}
 use Rattle.mq_world.proofs.Known.{OfFrames, OfClients, OfLedgers}
 use Rattle.mq_world.proofs.Numbers.{IsOwn}
 use Rattle.mq_world.proofs.Grounds.{of_source, is_grant, GrantedIn, ground_kept}
@@ -28,25 +30,11 @@ OfForgetting = (day : ℕ → ℕ) (default D : ℕ) (H : List Entry) → IsLega
 
 -- ---- what a filter leaves
 
-pub in_filter : {X : Type 0} (p : X → Bool) (xs : List X) (x : X) → In x (filter p xs) → In x xs
-in_filter p [] x i = absurd i
-in_filter p (y ∷ xs) x i = elim (either (p y)) [
-  | inl t ↦ (let j : (y ≡ x) ⊎ In x (filter p xs) = rw t at i in elim j [ inl e ↦ inl e | inr k ↦ inr (in_filter p xs x k) ])
-  | inr f ↦ (let j : In x (filter p xs) = rw f at i in inr (in_filter p xs x j))
-]
-
-pub filter_in : {X : Type 0} (p : X → Bool) (xs : List X) (x : X) → In x xs → p x ≡ true → In x (filter p xs)
-filter_in p [] x i h = absurd i
-filter_in p (y ∷ xs) x i h = elim (either (p y)) [
-  | inl t ↦ rw t (elim i [ inl e ↦ inl e | inr k ↦ inr (filter_in p xs x k h) ])
-  | inr f ↦ rw f (elim i [ inl e ↦ absurd (clash (p y) (ap p e ∙ h) f) | inr k ↦ filter_in p xs x k h ])
-]
-
-pub all_filter : {X : Type 0} (P : X → Type 0) (p : X → Bool) (xs : List X) → AllByRecursion P xs → AllByRecursion P (filter p xs)
-all_filter P p [] all = tt
-all_filter P p (x ∷ xs) all = elim (either (p x)) [
-  | inl t ↦ rw t (all.0, all_filter P p xs all.1)
-  | inr f ↦ rw f (all_filter P p xs all.1)
+pub filter_in : {X : Type 0} (p : X → Bool) (xs : List X) (x : X) → In x (filter p xs) → In x xs
+filter_in p [] x i = absurd i
+filter_in p (y ∷ xs) x i = elim (either (p y)) [
+  | inl t ↦ (let j : (y ≡ x) ⊎ In x (filter p xs) = rw t at i in elim j [ inl e ↦ inl e | inr k ↦ inr (filter_in p xs x k) ])
+  | inr f ↦ (let j : In x (filter p xs) = rw f at i in inr (filter_in p xs x j))
 ]
 
 -- ---- the day of a run's transaction
@@ -103,12 +91,12 @@ stays_if day D H e about = rw about refl
 -- what stays, and the entries of the others
 still_in : (day : ℕ → ℕ) (D : ℕ) (H G : List Entry) (e : Entry) → In e (remembered day D H ++ G) → In e (H ++ G)
 still_in day D H G e i = elim (in_either (remembered day D H) G e i) [
-  | inl j ↦ in_front H G e (in_filter (stays day D H) H e j)
+  | inl j ↦ in_front H G e (filter_in (stays day D H) H e j)
   | inr j ↦ in_back H G e j
 ]
 
 stays_there : (day : ℕ → ℕ) (D : ℕ) (H G : List Entry) (e : Entry) → In e H → stays day D H e ≡ true → In e (remembered day D H ++ G)
-stays_there day D H G e i y = in_front (remembered day D H) G e (filter_in (stays day D H) H e i y)
+stays_there day D H G e i y = in_front (remembered day D H) G e (in_filter (stays day D H) H e i y)
 
 granted_kept : {day : ℕ → ℕ} {F : ℕ} → OfClients → OfLedgers → (D : ℕ) → D ≤ F → (s : Source) (tries : ℕ) (P : List Step) (H G : List Entry) (sent written : List (List ℕ)) → Holds day F s tries P (H ++ G) sent written → (n txn moment : ℕ) (login : List ℕ)
     → F ≤ day moment → GrantedIn s (H ++ G) n txn moment login → GrantedIn s (remembered day D H ++ G) n txn moment login
@@ -139,7 +127,7 @@ wrote_kept {day = day} {F = F} C L K D below s tries P H G sent written suits h 
           let of_run = granted_of_run L s e.request e.reply mine fits (ap is_grant w.is ∙ g) in
           elim (either (stays day D H e)) [
             | inl y ↦ inl (record { entry = e; among = stays_there day D H G e i y; is = w.is })
-            | inr n ↦ (let off : is_about day D H e.request ≡ false = first_not (is_about day D H e.request) (is_set e.request e.reply) n in
+            | inr n ↦ (let off : is_about day D H e.request ≡ false = neither_first (is_about day D H e.request) (is_set e.request e.reply) n in
                 let early : nat_le D (day (moment_of e.request)) ≡ false = sym (entry_about C L D s tries P H G sent written h of_run.txn e i of_run.is) ∙ off in
                 inr (record { request = e.request; numbered = h.taken e w.among mine; same = same; earlier = grind (arith, nat_tests, below, early) }))
           ])

@@ -2,9 +2,12 @@
 use Rattle.std.proofs.Common.{◌≡◌, ℕ, ◌+◌, ◌≤◌, List, [], ◌∷◌, Bool, true, false, refl, ◌∙◌, ap, sym, subst, inl, inr, arith, Option, None, Some, if◌then◌else◌}
 use Rattle.std.specs.Prelude.{sum_by, ◌&&◌, ◌==◌, nat_le, not, length}
 use Rattle.std.proofs.lemmas.Bool.Decides.{nat_tests}
+use Rattle.mq_lemmas.proofs.Booleans.{not_false, either, clash, neither_first, neither_second}
+use Rattle.mq_lemmas.proofs.Options.{none_some, some_is}
+use Rattle.mq_lemmas.proofs.Numbers.{number_is}
+use Rattle.mq_lemmas.proofs.Lists.{In}
 use Rattle.mq_request.specs.Same.{same_text}
 use Rattle.mq_request.specs.declared.message.Request.{Request}
-use Rattle.mq_request.specs.declared.message.Request.TheVariants.{Reserve, Settle, Release, Limit, Usage, List as ListRequest, Retire}
 use Rattle.mq_request.specs.declared.message.Reply.{Reply}
 use Rattle.mq_request.specs.declared.message.Reply.TheVariants as reply
 use Rattle.mq_ledger.specs.declared.entry.Entry.{Entry}
@@ -16,7 +19,9 @@ use Rattle.mq_track.specs.declared.closing.CloseEnd.{CloseEnd}
 use Rattle.mq_client.specs.declared.held.Asked.{Asked}
 use Rattle.mq_client.specs.declared.held.Asked.TheVariants as asked
 use Rattle.mq_client.specs.declared.held.Held.{Held}
-use Rattle.mq_world.proofs.Basics.{either, clash, none_some, some_is, first_not, second_not, number_is, In, sum_below, sum_grows}
+use Rattle.mq_client.proofs.WaitingOff.{seq_of}
+use Rattle.mq_client.proofs.Numbering.{let_through_at}
+use Rattle.mq_world.proofs.Basics.{sum_below, sum_grows}
 use Rattle.mq_world.proofs.Ranges.{next_among, free_ask}
 
 abbrev pub of_source : Source → ℕ → Transaction
@@ -53,15 +58,6 @@ abbrev pub let_at : Standing → ℕ
 let_at Never = 0
 let_at (Live h) = h.granted
 let_at (Closed end number h) = h.granted
-
-abbrev pub seq_of : Request → ℕ
-seq_of (Reserve id txn moment login count) = id.number
-seq_of (Settle id txn moment login count) = id.number
-seq_of (Release id txn moment login) = id.number
-seq_of (Limit id from_day cap login) = id.number
-seq_of (Usage login day) = 0
-seq_of (ListRequest day after) = 0
-seq_of (Retire id) = id.number
 
 abbrev pub one_upto : Transaction → ℕ → Entry → ℕ
 one_upto t n e = if is_of t e.request && nat_le (seq_of e.request) n then granted e.request e.reply else 0
@@ -118,21 +114,12 @@ let_here I s H n txn moment login asked.Granted h ground le = (let m = upto_grow
 let_here I s H n txn moment login asked.Full h ground le = (let m = upto_more H (of_source s txn) n in omega (arith, le, m))
 let_here I s H n txn moment login asked.Unavailable h ground le = (let m = upto_more H (of_source s txn) n in omega (arith, le, m))
 
-let_through_at : (a : Asked) (h : Held) → (let_through a h).moment ≡ h.moment
-let_through_at asked.Granted h = refl
-let_through_at asked.Full h = refl
-let_through_at asked.Unavailable h = refl
-
-not_is : (b : Bool) → not b ≡ false → b ≡ true
-not_is true e = refl
-not_is false e = absurd (clash true refl e)
-
 -- an ask that isn't refused is of the moment of its transaction
 opened_at : (moment : ℕ) (login : List ℕ) (o : Option Held) (live numbers waiting : ℕ) → refuses o live numbers waiting moment login ≡ false → (opened moment login o).moment ≡ moment
 opened_at moment login None live numbers waiting free = refl
 opened_at moment login (Some h) live numbers waiting free =
-    let same : is_other h moment login ≡ false = first_not (is_other h moment login) _ free in
-    number_is h.moment moment (not_is (h.moment == moment) (second_not (not (same_text h.login login)) (not (h.moment == moment)) same))
+    let same : is_other h moment login ≡ false = neither_first (is_other h moment login) _ free in
+    number_is h.moment moment (not_false (h.moment == moment) (neither_second (not (same_text h.login login)) (not (h.moment == moment)) same))
 
 let_ask : (day : ℕ → ℕ) (F : ℕ) → IsSameAsItself → (s : Source) (H : List Entry) (v : View) (txn moment : ℕ) (login : List ℕ) (x : Exchange) (g : List Exchange) → (opened moment login (held_by (v.standing txn))).moment ≡ moment
     → (answer_of (x ∷ g) ≡ asked.Granted → F ≤ day moment → GrantedIn s H v.numbers txn moment login) → AllLet day F s H v → AllLet day F s H (after_ask txn moment login (x ∷ g) v)

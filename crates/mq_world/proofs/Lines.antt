@@ -2,6 +2,8 @@
 use Rattle.std.proofs.Common.{◌≡◌, ℕ, ◌+◌, ◌≤◌, ◌&&◌, nat_le, Bool, true, false, List, ◌∷◌, refl, sym, subst, arith, Option, None, Some, if◌then◌else◌}
 use Rattle.std.specs.Option.{option_map, option_or}
 use Rattle.std.proofs.lemmas.Bool.Decides.{nat_tests}
+use Rattle.mq_lemmas.proofs.Options.{none_some, some_is}
+use Rattle.mq_lemmas.proofs.Booleans.{first_so, second_so}
 use Rattle.mq_line.specs.Grammar.{Meaning, ConfigLine, ReadyLine, ReportLine, FilterLine, OtherLine}
 use Rattle.mq_track.specs.Events.{event, unreadable}
 use Rattle.mq_track.specs.Sessions.{Transaction, login, open_transaction, begin_count, is_begin, is_exhausted, fault, closing, position_of, position, Position}
@@ -13,7 +15,6 @@ use Rattle.mq_client.specs.Past.{Action, Ask, Step}
 use Rattle.mq_client.specs.Filter.{Passes, Refuses, Asks, is_login, is_moment, query_at, asking_of, close_of, action_of, actions, push}
 use Rattle.std.specs.Prelude.{length}
 use Rattle.mq_world.specs.World.{begun}
-use Rattle.mq_world.proofs.Basics.{none_some, some_is, first_so, second_so}
 use Rattle.mq_world.proofs.Ranges.{IsAsked}
 
 -- ---- how many transactions began

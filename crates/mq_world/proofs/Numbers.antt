@@ -1,15 +1,14 @@
 -- The numbers of a run: an exchange more, or one that ends otherwise, takes no request away.
-use Rattle.std.proofs.Common.{◌≡◌, ℕ, ◌+◌, ◌≤◌, ◌==◌, Bool, true, false, List, [], ◌∷◌, sym, ap, ◌∙◌, arith, Some}
-use Rattle.std.specs.Prelude.{if◌then◌else◌}
+use Rattle.std.proofs.Common.{◌≡◌, ℕ, ◌+◌, ◌≤◌, ◌==◌, Bool, false, List, [], ◌∷◌, sym, ap, ◌∙◌, arith, Some}
 use Rattle.std.proofs.lemmas.Bool.{ne_eqb}
-use Rattle.mq_request.specs.declared.message.Id.{Id}
+use Rattle.mq_lemmas.proofs.Options.{some_is}
 use Rattle.mq_request.specs.declared.message.Request.{Request}
 use Rattle.mq_client.specs.Exchanges.{Exchange}
 use Rattle.mq_client.specs.Past.{Source, Action, Ask, Close, Drain, Step, id_of}
 use Rattle.mq_client.specs.Reading.{numbers_in, takes_number}
 use Rattle.mq_client.specs.Numbered.{id_in, request_under, IsNumbered}
+use Rattle.mq_client.proofs.Numbering.{more_numbers}
 use Rattle.mq_world.specs.World.{source_of, begun}
-use Rattle.mq_world.proofs.Basics.{some_is}
 
 -- the request has a number of the source
 pub record IsOwn (s : Source) (q : Request) : Type 0 where
@@ -21,19 +20,6 @@ numbered_own s P q i = record { number = i.number; id = i.id }
 
 pub same_own : (s u : Source) (q : Request) → IsOwn s q → IsOwn u q → s ≡ u
 same_own s u q a b = ap source_of (some_is (id_of s a.number) (id_of u b.number) (sym a.id ∙ b.id))
-
-seq_is : (s : Source) (m n : ℕ) → Some (id_of s m) ≡ Some (id_of s n) → m ≡ n
-seq_is s m n e = ap (λ (i : Id). i.number) (some_is (id_of s m) (id_of s n) e)
-
--- a number has one request
-pub one_request : (s : Source) (P : List Step) (q r : Request) → IsNumbered s P q → IsNumbered s P r → id_in q ≡ id_in r → q ≡ r
-one_request s P q r i j e =
-    let same : i.number ≡ j.number = seq_is s i.number j.number (sym i.id ∙ e ∙ j.id) in
-    some_is q r (sym i.under ∙ ap (request_under s P) same ∙ j.under)
-
-more_numbers : (n : ℕ) (b : Bool) → n ≤ (if b then n + 1 else n)
-more_numbers n true = omega arith
-more_numbers n false = omega arith
 
 -- a step begins
 pub begun_numbered : (s : Source) (k : Bool) (a : Action) (P : List Step) (q : Request) → IsNumbered s P q → IsNumbered s (begun k a ∷ P) q

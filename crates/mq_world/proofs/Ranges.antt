@@ -1,8 +1,12 @@
 -- What a run sends is in range, where its asks are.
 use Rattle.std.proofs.Common.{◌≡◌, ℕ, ◌+◌, ◌≤◌, ◌<◌, ◌==◌, ◌&&◌, nat_le, Bool, true, false, List, [], ◌∷◌, refl, ap, subst, inl, inr, arith, Option, None, Some, if◌then◌else◌}
-use Rattle.std.specs.Prelude.{length, drop, slice_get, zero, suc}
+use Rattle.std.specs.Prelude.{length, slice_get}
 use Rattle.std.specs.List.{AllByRecursion}
 use Rattle.std.proofs.lemmas.Bool.Decides.{nat_tests}
+use Rattle.mq_lemmas.proofs.Lists.{all_drop, In, all_at, all_push}
+use Rattle.mq_lemmas.proofs.Booleans.{either, neither_first, neither_second}
+use Rattle.mq_lemmas.proofs.Options.{none_some, some_is}
+use Rattle.mq_lemmas.proofs.Numbers.{number_is}
 use Rattle.mq_request.specs.Range.{IsHost, IsRun, IsOrdinal, IsMoment, IsLogin, IsId, IsRequest}
 use Rattle.mq_request.specs.declared.message.Request.{Request}
 use Rattle.mq_request.specs.declared.message.Request.TheVariants.{Settle, Release}
@@ -15,7 +19,7 @@ use Rattle.mq_client.specs.declared.held.Asked.{Asked}
 use Rattle.mq_client.specs.declared.held.Asked.TheVariants as asked
 use Rattle.mq_client.specs.declared.held.Held.{Held}
 use Rattle.mq_world.specs.World.{begun}
-use Rattle.mq_world.proofs.Basics.{either, none_some, some_is, first_not, second_not, number_is, In, all_at, all_push, in_get}
+use Rattle.mq_world.proofs.Basics.{in_get}
 
 -- an action asks with a transaction, a moment and a login in range
 abbrev pub IsAsked : Action → Type 0
@@ -29,11 +33,6 @@ AreAsked P = AllByRecursion (λ x. IsAsked x.action) P
 pub record IsRanged (v : View) : Type 0 where
   pub held : (t : ℕ) (h : Held) → v.standing t ≡ Live h → IsHeld t h
   pub waiting : AllByRecursion IsRequest v.waiting
-
-pub all_drop : {A : Type 0} (P : A → Type 0) (n : ℕ) (xs : List A) → AllByRecursion P xs → AllByRecursion P (drop n xs)
-all_drop P zero xs all = all
-all_drop P (suc n) [] all = tt
-all_drop P (suc n) (x ∷ xs) all = all_drop P n xs all.1
 
 -- ---- the next request is one of the queue
 
@@ -91,7 +90,7 @@ asked_held : (txn moment : ℕ) (login : List ℕ) (answer : Asked) (o : Option 
 asked_held txn moment login answer None live numbers waiting i held free = let_held txn answer (opened moment login None) i.0 i.1 i.2 (omega arith)
 asked_held txn moment login answer (Some h) live numbers waiting i held free =
     let k = held h refl in
-    let few : nat_le 1000 h.granted ≡ false = first_not (nat_le 1000 h.granted) (lacks_numbers numbers live) (second_not (is_other h moment login) _ free) in
+    let few : nat_le 1000 h.granted ≡ false = neither_first (nat_le 1000 h.granted) (lacks_numbers numbers live) (neither_second (is_other h moment login) _ free) in
     let_held txn answer h k.number k.moment k.login (grind (arith, nat_tests, few))
 
 ranged_ask : (s : Source) (tries txn moment : ℕ) (login : List ℕ) (x : Exchange) (g : List Exchange) (v : View) → IsOrdinal txn × IsMoment moment × IsLogin login → ComeInTurn tries (queue_of s v (held_for v (Ask txn moment login)) (Ask txn moment login)) (x ∷ g) → IsRanged v → IsRanged (after_ask txn moment login (x ∷ g) v)

@@ -1,6 +1,9 @@
 -- One run against any others.
 use Rattle.std.proofs.Common.{◌≡◌, ℕ, ◌+◌, ◌≤◌, ◌<◌, List, [], ◌∷◌, Bool, true, false, refl, ◌∙◌, ap, sym, subst, inl, inr, arith, Option, None, Some}
 use Rattle.std.specs.Prelude.{length, ◌⊎◌}
+use Rattle.mq_lemmas.proofs.Booleans.{clash}
+use Rattle.mq_lemmas.proofs.Options.{none_some}
+use Rattle.mq_lemmas.proofs.Lists.{In}
 use Rattle.mq_request.specs.Range.{IsHost, IsRun, IsRequest, IsReply}
 use Rattle.mq_frame.specs.Spelling.{request_body, reply_body, frame, request_frame}
 use Rattle.mq_request.specs.declared.message.Id.{Id}
@@ -20,10 +23,10 @@ use Rattle.mq_client.specs.declared.held.Asked.TheVariants as asked
 use Rattle.mq_link.specs.declared.link.LinkFault.TheVariants.{Down}
 use Rattle.mq_link.specs.declared.link.Outcome.{Outcome}
 use Rattle.mq_link.specs.declared.link.Outcome.TheVariants.{Faulted}
+use Rattle.mq_client.proofs.Numbering.{one_request}
 use Rattle.mq_world.specs.World.{begun, with_exchange}
-use Rattle.mq_world.proofs.Basics.{clash, none_some, In}
 use Rattle.mq_world.proofs.Known.{OfFrames, OfClients}
-use Rattle.mq_world.proofs.Numbers.{IsOwn, one_request, numbered_own, begun_numbered, more_numbered, ended_numbered}
+use Rattle.mq_world.proofs.Numbers.{IsOwn, numbered_own, begun_numbered, more_numbered, ended_numbered}
 use Rattle.mq_world.proofs.Ranges.{IsAsked, AreAsked, next_among, free_ask, next_in_range}
 use Rattle.mq_world.proofs.Grounds.{is_grant, GrantedIn, IsGround, IsGrounded, ground_in}
 

@@ -1,6 +1,8 @@
 -- A ledger takes a request.
 use Rattle.std.proofs.Common.{◌≡◌, ℕ, List, [], ◌∷◌, ◌++◌, Bool, true, false, refl, ◌∙◌, ap, sym, subst, inl, inr, Some, if◌then◌else◌}
 use Rattle.std.specs.Prelude.{◌&&◌, ◌⊎◌, nat_le}
+use Rattle.mq_lemmas.proofs.Booleans.{either, clash, first_so, second_so}
+use Rattle.mq_lemmas.proofs.Lists.{In}
 use Rattle.mq_request.specs.Range.{IsRequest, IsReply}
 use Rattle.mq_frame.specs.Spelling.{request_body, reply_body, frame}
 use Rattle.mq_request.specs.declared.message.Id.{Id}
@@ -18,7 +20,7 @@ use Rattle.mq_client.specs.Past.{Source, Step, Standing, Never, Live, Closed, vi
 use Rattle.mq_client.specs.Numbered.{id_in, txn_in, IsNumbered, Suits}
 use Rattle.mq_track.specs.declared.closing.CloseEnd.{CloseEnd}
 use Rattle.mq_client.specs.declared.held.Held.{Held}
-use Rattle.mq_world.proofs.Basics.{either, clash, first_so, second_so, In, in_push, in_front, in_back, in_either, in_last, any_found}
+use Rattle.mq_world.proofs.Basics.{in_push, in_front, in_back, in_either, in_last, any_found}
 use Rattle.mq_world.proofs.Known.{OfFrames, OfClients, OfLedgers}
 use Rattle.mq_world.proofs.Numbers.{IsOwn}
 use Rattle.mq_world.proofs.Grounds.{of_source, at_of, ground_in}

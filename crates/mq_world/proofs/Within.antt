@@ -4,6 +4,10 @@ use Rattle.std.specs.Prelude.{◌&&◌, ◌==◌, ◌⊎◌, nat_le, slice_get, 
 use Rattle.std.specs.List.{list_any, AllByRecursion}
 use Rattle.std.proofs.lemmas.List.Sums.{sum_by-cons, sum_by-append}
 use Rattle.std.proofs.lemmas.Bool.Decides.{nat_tests}
+use Rattle.mq_lemmas.proofs.Booleans.{either, clash, first_so, second_so, both_so}
+use Rattle.mq_lemmas.proofs.Options.{none_some, some_is, option_cases}
+use Rattle.mq_lemmas.proofs.Numbers.{zero_or_more, number_is}
+use Rattle.mq_lemmas.proofs.Lists.{In}
 use Rattle.mq_request.specs.Same.{same_text}
 use Rattle.mq_request.specs.declared.message.Request.{Request}
 use Rattle.mq_request.specs.declared.message.Request.TheVariants.{Settle, Release}
@@ -22,10 +26,11 @@ use Rattle.mq_track.specs.declared.closing.CloseEnd.{CloseEnd}
 use Rattle.mq_track.specs.declared.closing.CloseEnd.TheVariants as ending
 use Rattle.mq_client.specs.declared.held.Asked.TheVariants as asked
 use Rattle.mq_client.specs.declared.held.Held.{Held}
+use Rattle.mq_client.proofs.Numbering.{ended_not}
 use Rattle.mq_world.specs.World.{with_exchange}
 use Rattle.mq_world.specs.Law.{counting, granted_of, let_by, is_on, let_on}
 use Rattle.mq_world.specs.Together.{kept_of, used_of, cap_of}
-use Rattle.mq_world.proofs.Basics.{either, clash, none_some, some_is, first_so, second_so, both_so, zero_or_more, number_is, In, in_front, in_back, found, any_found, not_any, sum_below, sum_has, sum_plus, sum_zero, option_cases}
+use Rattle.mq_world.proofs.Basics.{in_front, in_back, found, any_found, not_any, sum_below, sum_has, sum_plus, sum_zero}
 use Rattle.mq_world.proofs.Known.{OfLedgers, OfSums}
 use Rattle.mq_world.proofs.Pools.{pool, in_one}
 use Rattle.mq_world.proofs.Ranges.{unless}
@@ -53,9 +58,6 @@ still_unavailable : (tries : ℕ) (r q : Request) (b : Bool) (g : List Exchange)
 still_unavailable tries r q b [] e = refl
 still_unavailable tries r q b (x ∷ g) e =
     decided_one x.decided (decisions g) (undecided_at r b (decisions (x ∷ g)) q (unless (nat_le tries (failures (x ∷ g))) (slice_get (if b then [] else r ∷ []) (decisions (x ∷ g))) q e))
-
-ended_not : (end : CloseEnd) (number : ℕ) (h : Held) → is_closed (Closed end number h) ≡ false → ⊥
-ended_not end number h e = cc (e)
 
 first_exchange : (moment : ℕ) (login : List ℕ) (st : Standing) → is_closed st ≡ false → Counts st (Live (let_through asked.Unavailable (opened moment login (held_by st))))
 first_exchange moment login Never e = inl refl

@@ -3,9 +3,14 @@ use Rattle.std.proofs.Common.{◌≡◌, ℕ, ◌≤◌, List, [], ◌∷◌, �
 use Rattle.std.specs.Prelude.{◌==◌, ◌||◌, is_some}
 use Rattle.std.specs.List.{AllByRecursion}
 use Rattle.std.proofs.lemmas.List.Elements.{recursion_from_All, All-from_recursion}
+use Rattle.mq_lemmas.proofs.Booleans.{either, clash, first_so, second_so, both_so}
+use Rattle.mq_lemmas.proofs.Options.{none_some}
+use Rattle.mq_lemmas.proofs.Numbers.{number_is, number_itself}
+use Rattle.mq_lemmas.proofs.Lists.{In, all_at, all_push}
 use Rattle.mq_track.specs.Sessions.{begin_count}
 use Rattle.mq_request.specs.Range.{IsRequest, IsReply}
 use Rattle.mq_request.specs.Same.{same_text, same_request}
+use Rattle.mq_request.proofs.Alike.{text_is, text_itself}
 use Rattle.mq_frame.specs.Spelling.{request_body, reply_body, frame}
 use Rattle.mq_request.specs.declared.message.Id.{Id}
 use Rattle.mq_request.specs.declared.message.Request.{Request}
@@ -23,7 +28,7 @@ use Rattle.mq_client.specs.Numbered.{id_in}
 use Rattle.mq_client.specs.Filter.{actions, actions_of}
 use Rattle.mq_world.specs.World.{Site, Run, World, fresh, same_source, put, book_after}
 use Rattle.mq_world.specs.Law.{earlier}
-use Rattle.mq_world.proofs.Basics.{either, clash, none_some, first_so, second_so, both_so, text_is, text_itself, number_is, number_itself, In, in_front, in_either, all_at, all_push, found}
+use Rattle.mq_world.proofs.Basics.{in_front, in_either, found}
 use Rattle.mq_world.proofs.Known.{OfFrames, OfLedgers, Known}
 use Rattle.mq_world.proofs.Grounds.{is_grant}
 use Rattle.mq_world.proofs.Runs.{Wrote, Holds, AllSuit, so_far, writes_on, same_id_by}

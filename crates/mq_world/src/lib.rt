@@ -13,7 +13,7 @@
 //! sum of their limits.
 //!
 //! It stands on `mq_line`, `mq_track`, `mq_request`, `mq_frame`, `mq_ledger`, `mq_link`, `mq_client` and `mq_forget`,
-//! by their definitions and laws alone. Begin with `specs/World.antt`, what may happen, and `specs/Law.antt`, what was
+//! by their definitions, laws and lemmas alone. Begin with `specs/World.antt`, what may happen, and `specs/Law.antt`, what was
 //! let through.
 #![tactic(auto)]
 

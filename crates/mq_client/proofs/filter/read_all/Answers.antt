@@ -2,9 +2,10 @@ use Rattle.std.proofs.Common.{◌≡◌, ◌≤◌, ◌<◌, ◌∷◌, [], ◌+
 use Rattle.std.proofs.lemmas.List.{length-take-le}
 use Rattle.std.specs.List.{concat}
 use Rattle.std.specs.Io.KnownBytes.{IsAtEnd}
+use Rattle.mq_lemmas.proofs.Streams.{consumes_kept}
 use Rattle.mq_client.specs.declared.fault.FilterFault.TheVariants as faults
 use Rattle.mq_client.proofs.Looping.{Does-still, stops, so_far_start, so_far_fed, so_far_none, is_line_none}
-use Rattle.mq_client.proofs.Supplying.{supplied_start, supplied_more, consumes_kept}
+use Rattle.mq_client.proofs.Supplying.{supplied_start, supplied_more}
 use Rattle.mq_client.proofs.filter.read_all.Goals as goal
 
 pub loop-read-init : goal.loop-read-init

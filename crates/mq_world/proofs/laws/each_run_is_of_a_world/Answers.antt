@@ -2,6 +2,7 @@
 use Rattle.std.proofs.Common.{◌≡◌, ℕ, List, [], ◌∷◌, ◌++◌, Bool, true, false, refl, ◌∙◌, ap, sym, subst, inl, inr, Option, None, Some, is_some}
 use Rattle.std.specs.Option.{option_map}
 use Rattle.std.proofs.lemmas.List.{append-nil}
+use Rattle.mq_lemmas.proofs.Options.{none_some}
 use Rattle.mq_line.specs.Grammar.{Meaning, ConfigLine, ReadyLine, ReportLine, FilterLine, OtherLine}
 use Rattle.mq_line.specs.declared.results.Decision.{Decision}
 use Rattle.mq_track.specs.Sessions.{fault, closing}
@@ -22,7 +23,6 @@ use Rattle.mq_client.specs.declared.filter.Ended.{Ended}
 use Rattle.std.specs.Prelude.{◌⊎◌}
 use Rattle.mq_world.specs.World.{Site, Run, World, fresh, IsUp, ReadsOn, begun, after_line, after_end, next_request, with_on_way, after_exchange, after_stop, MayCome, with_run, with_sent, Next, Reads, ReadsEnd, Sends, Ends, Stops, Reaches, AtOnce, Later}
 use Rattle.mq_world.specs.Running.{ran, step_of, unsent, exchanges_of, OthersGoOn, NobodyYet, OneStep, GoesOnAround, Before, During, IsNew, lines_at, IsOrOneMore}
-use Rattle.mq_world.proofs.Basics.{none_some}
 use Rattle.mq_world.proofs.Others.{twice, itself, anywhere}
 use Rattle.mq_world.proofs.Worlds.{same_itself}
 use Rattle.mq_world.proofs.laws.each_run_is_of_a_world.Goals as goal

@@ -2,6 +2,7 @@
 use Rattle.std.proofs.Common.{ℕ, ◌≤◌, [], ◌∷◌, arith}
 use Rattle.std.specs.Prelude.{sum_by}
 use Rattle.std.proofs.lemmas.List.Sums.{sum_by-cons}
+use Rattle.mq_lemmas.proofs.Lists.{all_filter}
 use Rattle.mq_ledger.specs.Day.{day_of}
 use Rattle.mq_ledger.specs.Legal.{Book}
 use Rattle.mq_world.specs.World.{Site, World, IsStart, IsOfOthers}
@@ -9,7 +10,7 @@ use Rattle.mq_world.specs.Forgetting.{forgotten, ReachesForgetting, FromStart, S
 use Rattle.mq_world.specs.Together.{Together, IsStartTogether, ReachesTogether, kept_of, used_of, cap_of}
 use Rattle.mq_world.specs.Together as servers
 use Rattle.mq_forget.specs.Remembered.{stays}
-use Rattle.mq_world.proofs.Forgetting.{OfForgetting, all_filter}
+use Rattle.mq_world.proofs.Forgetting.{OfForgetting}
 use Rattle.mq_world.proofs.laws.never_past_the_limit_over_a_forgetting.Goals as goal
 
 abbrev pub alone : World → Together

@@ -3,6 +3,9 @@ use Rattle.std.proofs.Common.{◌≡◌, ℕ, ◌≤◌, List, [], ◌∷◌, �
 use Rattle.std.specs.Prelude.{slice_get, sum_by}
 use Rattle.std.specs.List.{AllByRecursion}
 use Rattle.std.specs.Option.{option_map}
+use Rattle.mq_lemmas.proofs.Booleans.{either, clash}
+use Rattle.mq_lemmas.proofs.Options.{none_some}
+use Rattle.mq_lemmas.proofs.Lists.{In, all_at}
 use Rattle.mq_line.specs.Grammar.{Meaning}
 use Rattle.mq_track.specs.Sessions.{fault, begin_count}
 use Rattle.mq_request.specs.Range.{IsRequest, IsReply}
@@ -23,7 +26,7 @@ use Rattle.mq_client.specs.Filter.{push, action_of, actions, actions_of}
 use Rattle.mq_world.specs.World.{Site, Run, World, fresh, IsOfOthers, IsFrameOfOthers, IsReplyToOthers, IsStart, IsUp, ReadsOn, begun, after_line, after_end, next_request, with_on_way, with_exchange, after_exchange, after_stop, MayCome, same_source, with_run, with_sent, after_arrival, Next, Reads, ReadsEnd, Sends, Ends, Takes, OthersSend, Stops}
 use Rattle.mq_world.specs.Forgetting.{forgotten}
 use Rattle.mq_world.specs.Together.{Together, with_ledger, IsStartTogether, ReachesTogether, FromStart, Steps, Moves, Forgets, kept_of, used_of, cap_of}
-use Rattle.mq_world.proofs.Basics.{either, clash, none_some, In, in_back, in_either, in_get, all_at, all_put, sum_below}
+use Rattle.mq_world.proofs.Basics.{in_back, in_either, in_get, all_put, sum_below}
 use Rattle.mq_world.proofs.Known.{Known, OfSums, OfFrames, OfLedgers}
 use Rattle.mq_world.proofs.Pools.{pool, places_change}
 use Rattle.mq_world.proofs.Numbers.{IsOwn, same_own}

@@ -1,8 +1,11 @@
 -- A world of two runs, step by step.
 use Rattle.std.proofs.Common.{◌≡◌, ℕ, suc, is_eq, Less, Greater, ◌∙◌, ◌≤◌, List, [], ◌∷◌, ◌++◌, Bool, true, false, refl, ap, sym, subst, inl, inr, arith, None, Some, if◌then◌else◌}
 use Rattle.std.specs.List.{AllByRecursion, list_all}
-use Rattle.std.specs.Prelude.{codes, length, not, ◌≢◌, nat_lt, nat_le, ◌||◌, ◌⊎◌, count_by, ◌<◌, ◌+◌, ◌*◌, ◌==◌, ℤ, pos, ◌≤ℤ◌, ◌<ℤ◌}
+use Rattle.std.specs.Prelude.{codes, length, not, ◌≢◌, nat_lt, nat_le, ◌||◌, count_by, ◌<◌, ◌+◌, ◌*◌, ◌==◌, ℤ, pos, ◌≤ℤ◌, ◌<ℤ◌}
 use Rattle.std.proofs.lemmas.Int.{ints}
+use Rattle.mq_lemmas.proofs.Booleans.{either_of, either, clash, first_so, second_so}
+use Rattle.mq_lemmas.proofs.Options.{some_is}
+use Rattle.mq_lemmas.proofs.Numbers.{number_is, number_itself}
 use Rattle.mq_request.specs.Same.{same_text}
 use Rattle.std.proofs.lemmas.Bool.Decides.{nat_tests}
 use Rattle.std.proofs.lemmas.List.Elements.{All-from_recursion}
@@ -41,7 +44,6 @@ use Rattle.mq_world.specs.Running.{ran, OthersGoOn, NobodyYet, OneStep, GoesOnAr
 use Rattle.mq_world.specs.Forgetting.{forgotten, FromStart, Forgets}
 use Rattle.mq_world.specs.Together.{Together, with_ledger, IsStartTogether, ReachesTogether}
 use Rattle.mq_world.specs.Together as servers
-use Rattle.mq_world.proofs.Basics.{either, clash, first_so, second_so, some_is, number_is, number_itself}
 use Rattle.mq_world.proofs.Runs.{step}
 use Rattle.mq_world.proofs.Ways.{with_steps, with_steps_together}
 use Rattle.mq_world.proofs.Worlds.{source_is}
@@ -175,10 +177,6 @@ host_there s e = subst (λ u. IsHost u.host × IsRun u.run) (source_is there s e
   record { size = record { from = omega arith; to = omega arith }; bytes = All-from_recursion IsHostByte (codes "b") (inr (inr (inl (record { from = omega arith; to = omega arith }))), tt) },
   record { from = omega arith; to = omega arith },
 )
-
-either_of : (a b : Bool) → (a || b) ≡ true → (a ≡ true) ⊎ (b ≡ true)
-either_of true b e = inl refl
-either_of false b e = inr e
 
 hosts : (s : Source) → site.is_run s ≡ true → IsHost s.host × IsRun s.run
 hosts s e = elim (either_of (same_source here s) (same_source there s) e) [ inl h ↦ host_range s h | inr t ↦ host_there s t ]

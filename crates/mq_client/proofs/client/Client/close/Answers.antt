@@ -1,5 +1,6 @@
 use Rattle.std.proofs.Common.{◌≡◌, ℕ, ◌+◌, List, [], ◌∷◌, ◌++◌, refl, sym, ap, ◌∙◌, subst, rules, arith, None, Some}
 use Rattle.std.specs.List.{AllByRecursion}
+use Rattle.mq_lemmas.proofs.Lists.{all_push}
 use Rattle.mq_client.specs.Framed.{IsFramed, requests_of}
 use Rattle.mq_request.specs.declared.message.Request.{Request}
 use Rattle.mq_client.specs.Past.{State, Close, Makes, find, closing_of}
@@ -11,7 +12,6 @@ use Rattle.mq_client.proofs.Telling.{Tells-none}
 use Rattle.mq_client.proofs.Making.{closed, closed_nothing}
 use Rattle.mq_client.proofs.Keeping.{closed_in_range}
 use Rattle.mq_client.proofs.client.Client.close.Goals as goal
-use Rattle.mq_client.proofs.Basics.{all_push}
 
 pub returns-in_default-clause-ok : goal.returns-in_default-clause-ok
 returns-in_default-clause-ok g c =
