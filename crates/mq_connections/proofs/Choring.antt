@@ -1,14 +1,15 @@
 -- A server goes on where a chore alongside leaves the book and what is told of it.
-use Rattle.std.proofs.Common.{◌≡◌, ℕ, List, [], ◌∷◌, ◌++◌, map, Bool, true, Option, Result, Err, refl, sym, subst, ap, ◌∙◌}
+use Rattle.std.proofs.Common.{◌≡◌, ℕ, List, [], ◌∷◌, ◌++◌, map, Bool, Option, Result, Err, refl, sym, subst, ap, ◌∙◌}
 use Rattle.mq_request.specs.declared.message.Request.{Request}
 use Rattle.mq_ledger.specs.declared.ledger.Told.{Told}
 use Rattle.mq_ledger.specs.Answer.{history_of}
 use Rattle.mq_ledger.specs.Day.{day_of}
 use Rattle.mq_ledger.specs.History.{requests}
 use Rattle.mq_ledger.specs.Legal.{Book, IsLegalBook}
-use Rattle.mq_server.specs.Delivery.{Delivery, HasGrown, arrivals}
+use Rattle.mq_server.specs.Delivery.{HasGrown, arrivals}
 use Rattle.mq_server.specs.Held.{State}
 use Rattle.mq_chore.specs.Choring.{HasCome, Fitted}
+use Rattle.mq_server.proofs.Deliveries.{taken}
 use Rattle.mq_connections.specs.Sessions.{GoesOn, GoesOnOrStops, Outside}
 use Rattle.mq_connections.specs.Wires.{Wire}
 
@@ -39,9 +40,6 @@ goes_at {A} {B} {E} old new last held store fault g = record {
 }
 
 -- What a chore has done fits a ledger to which more came.
-
-abbrev taken : Request → Delivery
-taken r = record { request = r; taken = true }
 
 all_taken : (rs : List Request) → arrivals (map taken rs) ≡ rs
 all_taken [] = refl

@@ -1,4 +1,3 @@
-pub mod Leaving
 pub mod Maps
 pub mod Standing
 pub mod Turning

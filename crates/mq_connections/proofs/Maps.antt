@@ -6,6 +6,7 @@ use Rattle.std.specs.Cmp.{unsigned_tied}
 use Rattle.std.specs.Map.{lookup}
 use Rattle.std.specs.Ordering.{nat_cmp}
 use Rattle.std.proofs.lemmas.Bool.Decides.{eqb_tells}
+use Rattle.mq_lemmas.proofs.Options.{none_some, some_is}
 use Rattle.mq_server.specs.Held.{State, fresh}
 use Rattle.mq_connections.specs.declared.opened.OpenConnection.{OpenConnection}
 use Rattle.mq_connections.specs.Sessions.{held}
@@ -30,12 +31,6 @@ held_beside m n k w updates q not = ap connection_of (updates.2 q (apart k q (λ
 pub held_now : (m n : Map) (k : ℕ) (w : Option OpenConnection) → UpdatesBy nat_cmp (nat_cmp k) m n w → held n k ≡ connection_of w
 held_now m n k w updates = ap connection_of updates.1
 
-none_some_state : (c : State) → None ≡ Some c → ⊥
-none_some_state c e = cc
-
-same_state : (c d : State) → Some c ≡ Some d → c ≡ d
-same_state c d e = cc
-
 opens_at : (room : ℕ) (m n : Map) (k : ℕ) (o : OpenConnection) → o.connection ≡ fresh room → UpdatesBy nat_cmp (nat_cmp k) m n (Some o) → (q : ℕ) → ((eqb q k ≡ true) × (q ≡ k)) ⊎ ((eqb q k ≡ false) × (q ≢ k)) → (held n q ≡ held m q) ⊎ ((q ≡ k) × (held n q ≡ Some (fresh room)))
 opens_at room m n k o new updates q (inl (t, is)) = inr (is, ap (held n) is ∙ held_now m n k (Some o) updates ∙ ap Some new)
 opens_at room m n k o new updates q (inr (f, not)) = inl (held_beside m n k (Some o) updates q not)
@@ -58,11 +53,11 @@ same_map m n is q = ap (λ (x : Map). held x q) is
 
 -- a connection that is held and one that was found are the same
 pub found_is : (m : Map) (k : ℕ) (o : OpenConnection) (c : State) → Some o ≡ get nat_cmp m k → held m k ≡ Some c → o.connection ≡ c
-found_is m k o c found here = same_state o.connection c (sym (held_here m k o found) ∙ here)
+found_is m k o c found here = some_is o.connection c (sym (held_here m k o found) ∙ here)
 
 -- and nothing is held where none was found
 pub not_none : (m : Map) (k : ℕ) (o : OpenConnection) → Some o ≡ get nat_cmp m k → held m k ≡ None → ⊥
-not_none m k o found none = none_some_state o.connection (sym none ∙ held_here m k o found)
+not_none m k o found none = none_some o.connection (sym none ∙ held_here m k o found)
 
 pub none_here : (m : Map) (k : ℕ) → None ≡ get nat_cmp m k → held m k ≡ None
 none_here m k is = ap connection_of (sym is)
@@ -88,5 +83,5 @@ closes_none m n k old found same = record {
   gone = same_held m n same k ∙ none_here m k found;
   others = λ q not. (same_held m n same q, refl);
   absent = λ none. refl;
-  offers = λ c is. absurd (none_some_state c (sym (none_here m k found) ∙ is));
+  offers = λ c is. absurd (none_some c (sym (none_here m k found) ∙ is));
 }

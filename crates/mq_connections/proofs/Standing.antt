@@ -8,11 +8,14 @@ use Rattle.std.proofs.lemmas.Bool.{eq-eqb}
 use Rattle.std.proofs.lemmas.Bool.Decides.{eqb_tells}
 use Rattle.std.proofs.lemmas.List.{map-append}
 use Rattle.std.proofs.lemmas.List.Elements.{filter-append}
+use Rattle.mq_lemmas.proofs.Booleans.{false_true}
+use Rattle.mq_lemmas.proofs.Options.{ok_not, none_some, some_is}
 use Rattle.mq_request.specs.declared.message.Request.{Request}
 use Rattle.mq_ledger.specs.declared.entry.Entry.{Entry}
 use Rattle.mq_ledger.specs.declared.ledger.Told.{Told}
 use Rattle.mq_ledger.specs.Legal.{Book, IsLegalBook}
 use Rattle.mq_ledger.specs.Told.{Tells}
+use Rattle.mq_ledger.proofs.Telling.{Tells-none}
 use Rattle.mq_server.specs.declared.connection.Progress.{Progress}
 use Rattle.mq_server.specs.declared.connection.Progress.TheVariants.{Ended}
 use Rattle.mq_server.specs.declared.connection.Served.{Served}
@@ -22,12 +25,13 @@ use Rattle.mq_server.specs.declared.input.TheConstants.{PIECE}
 use Rattle.mq_server.specs.Delivery.{HasGrown, failed_call}
 use Rattle.mq_server.specs.Held.{State, fresh}
 use Rattle.mq_server.specs.Life.{AreAnswered, Exchange, Life, Lives, StandsNext, deliveries, told_of, unborn, with_taken}
+use Rattle.mq_server.proofs.Advance.{ended_same}
 use Rattle.mq_connections.specs.declared.fault.RoomFault.{RoomFault}
 use Rattle.mq_connections.specs.declared.fault.RoomFault.TheVariants as faults
 use Rattle.mq_connections.specs.Sessions.{EndsServing, GoesOn, GoesOnOrStops, HaveServed, Outside, Placed, Session, all_of, those_of}
 use Rattle.mq_connections.specs.Turns.{Closes, Offers, Turns, lived}
 use Rattle.mq_connections.specs.Wires.{AreOffered, IsKnownAs, Wire}
-use Rattle.mq_connections.proofs.Turning.{Follow, Tells-none, Works, ended_inj, few_of, none_few, none_some, session_shuts, some_of, told_on, turned_out, worked_calls}
+use Rattle.mq_connections.proofs.Turning.{Follow, Works, few_of, none_few, session_shuts, some_of, told_on, turned_out, worked_calls}
 
 -- ---- exchanges of one connection after those of all
 
@@ -123,7 +127,7 @@ session_new room n ps old new lives none is =
       lost = [];
       few = none_few;
       consumed = subst P (sym is) (Consumes-nil old.remaining);
-      closed = λ closed. absurd (none_some closed);
+      closed = λ closed. absurd (false_true closed);
       sent = subst Q (sym is) (Appends-nil old.contents);
     }
 
@@ -166,9 +170,6 @@ begun_served o lives none = record {
   each = λ n. session_new 0 n [] (o.wires n) (o.wires n) lives refl refl;
 }
 
-none_is : (c : State) → None ≡ Some c → ⊥
-none_is c e = cc
-
 new_offered : (room : ℕ) (wire : Wire) → AreOffered (fresh room) wire
 new_offered room wire = λ some. absurd (some refl)
 
@@ -176,9 +177,9 @@ pub begins : (o : Outside) (held : ℕ → Option State) → ((room : ℕ) → L
 begins o held lives none empty = record {
   served = begun_served o lives none;
   beyond = λ n above. (refl, refl);
-  are_held = λ n c is. absurd (none_is c (sym (empty n) ∙ is));
+  are_held = λ n c is. absurd (none_some c (sym (empty n) ∙ is));
   offered = λ n is. new_offered 0 (o.wires n);
-  at = λ some. absurd (none_some some);
+  at = λ some. absurd (false_true some);
 }
 
 -- ---- the same connections, and the same wires
@@ -221,9 +222,6 @@ Held_so c n last state lost = (state ≡ c) × (lost ≡ []) × (c.end ≢ Some 
 new_goes : (room : ℕ) → (fresh room).end ≢ Some (Err Store)
 new_goes room e = cc
 
-same_some : (c d : State) → Some c ≡ Some d → c ≡ d
-same_some c d e = cc
-
 -- the same connections are held, but for one of that number, on which nothing came yet
 abbrev pub Opens : ℕ → (ℕ → Option State) → (ℕ → Option State) → ℕ → Type 0
 Opens room was now number = (n : ℕ) → (now n ≡ was n) ⊎ ((n ≡ number) × (now n ≡ Some (fresh room)))
@@ -236,7 +234,7 @@ opened_held room old new wires last number held now counted g mine kept is none 
     let h = g.are_held n c (sym same ∙ here) in
     picked number n g.served.placed g.served.placed old.wires new.wires wires g.served.each mine kept (Held_so c n number) (λ at. absurd (not_above n last number counted h.3 at)) (λ not. (h.0, h.1, h.2, omega (arith, h.3, counted))) (eqb_tells n number)
 opened_held room old new wires last number held now counted g mine kept is none n c here (inr (at, some)) =
-    let same = same_some c (fresh room) (sym here ∙ some) in
+    let same = some_is c (fresh room) (sym here ∙ some) in
     let P : State → Type 0 = λ x. x.end ≢ Some (Err Store) in
     picked number n g.served.placed g.served.placed old.wires new.wires wires g.served.each mine kept (Held_so c n number) (λ _. (is ∙ sym same, none, subst P (sym same) (new_goes room), omega (arith, at))) (λ not. absurd (not at)) (eqb_tells n number)
 
@@ -248,7 +246,7 @@ opened_offered room old new wires last number held now g mine kept is n none (in
     let P : State → Type 0 = λ x. AreOffered x (wires n) in
     picked number n g.served.placed g.served.placed old.wires new.wires wires g.served.each mine kept (λ s _. AreOffered s (wires n)) (λ _. subst P (sym is) (new_offered room (wires n)))
     (λ not. offered_as (g.served.each n).state (new.wires n) (wires n) (kept n not).0 (g.offered n (sym same ∙ none))) (eqb_tells n number)
-opened_offered room old new wires last number held now g mine kept is n none (inr (at, some)) = absurd (none_is (fresh room) (sym none ∙ some))
+opened_offered room old new wires last number held now g mine kept is n none (inr (at, some)) = absurd (none_some (fresh room) (sym none ∙ some))
 
 pub opened : (room : ℕ) (old new : Outside) (wires : ℕ → Wire) (last number : ℕ) (held now : ℕ → Option State) → ((room : ℕ) → Lives unborn (fresh room)) → number ≡ last + 1 → ((n : ℕ) → wires n ≡ new.wires n) → Opens room held now number
     → GoesOn old new last held None → GoesOn old (with_wires new wires) number now None
@@ -269,7 +267,7 @@ opened room old new wires last number held now lives counted same opens g =
       beyond = λ n higher. let b = g.beyond n (omega (arith, counted, higher)) in (b.0, same n ∙ b.1);
       are_held = λ n c is. opened_held room old new wires last number held now counted g mine kept refl refl n c is (opens n);
       offered = λ n is. opened_offered room old new wires last number held now g mine kept refl n is (opens n);
-      at = λ some. absurd (none_some some);
+      at = λ some. absurd (false_true some);
     }
 
 -- ---- a turn of one
@@ -398,12 +396,9 @@ module _ (old new now : Outside) (number last : ℕ) (p : Progress) (c after : S
   pub goes_open : Follow → (still : ℕ → Option State) → Works p → p ≢ Ended (Err Memory) → (c.end ≢ Some (Err Store) → after.end ≢ Some (Err Store)) → Others still → still number ≡ Some after → GoesOn old now last still None
   goes_open follow still works room stays others stands =
       goes_turn follow still None (told_none new.told now.told xs (worked_calls new.told now.told c.end p xs works t.turn.calls)) others
-      (λ d is. (same_some d after (sym is ∙ stands), t.turn.whole room, stays (g.are_held number c here).2)) (λ none. absurd (none_is after (sym none ∙ stands))) (λ some. absurd (none_some some)) tt
+      (λ d is. (some_is d after (sym is ∙ stands), t.turn.whole room, stays (g.are_held number c here).2)) (λ none. absurd (none_some after (sym none ∙ stands))) (λ some. absurd (false_true some)) tt
 
 -- ---- what it comes to
-
-pub ok_not : {A E : Type 0} (x : A) (e : E) → Ok x ≡ Err e → ⊥
-ok_not x e is = cc
 
 -- an end that is the store's, and only such a one, is its fault
 stops_so : {A F : Type 0} (store : F) (r : Result A F) (end : Result Served ServeFault) → OnOk r (end ≢ Err Store) → IfErr r (λ f. (f ≡ store) × (end ≡ Err Store)) → end ≡ Err Store → r ≡ Err store
@@ -421,8 +416,8 @@ pub closed_turn : {A F : Type 0} (old new now : Outside) (number last : ℕ) (p 
 closed_turn old new now number last p c after held still store r end g here t follow is at_end ok err others gone offered =
     let calls = t.turn.calls in record {
       failed = calls.failed;
-      goes = goes_turn old new now number last p c after held g here t follow still calls.failed calls.told others (λ d some. absurd (none_is d (sym gone ∙ some))) (λ _. offered) (λ some. at_end (calls.ends some)) (failed_stands old new now number last p c after held g here t);
-      stops = λ some. stops_so store r end ok err (ended_inj end (Err Store) (sym is ∙ calls.ends some));
+      goes = goes_turn old new now number last p c after held g here t follow still calls.failed calls.told others (λ d some. absurd (none_some d (sym gone ∙ some))) (λ _. offered) (λ some. at_end (calls.ends some)) (failed_stands old new now number last p c after held g here t);
+      stops = λ some. stops_so store r end ok err (ended_same end (Err Store) (sym is ∙ calls.ends some));
       only = λ fault. calls.only (g.are_held number c here).2 (is ∙ ap Ended (only_so store r end err fault));
     }
 
@@ -430,7 +425,7 @@ pub goes_so : {A E : Type 0} (old new : Outside) (last : ℕ) (held : ℕ → Op
 goes_so old new last held store result not g = record {
   failed = None;
   goes = g;
-  stops = λ some. absurd (none_some some);
+  stops = λ some. absurd (false_true some);
   only = λ is. absurd (not is);
 }
 
@@ -460,7 +455,7 @@ nothing_served o store result lives none not =
     let g = begins o (λ n. None) lives none (λ n. refl) in record {
       failed = None;
       served = g.served;
-      stops = λ some. absurd (none_some some);
+      stops = λ some. absurd (false_true some);
       only = λ is. absurd (not is);
       at = g.at;
       offered = λ n. g.offered n refl;
@@ -508,7 +503,7 @@ shut old new wires number last c d held still failed bs written here few read se
       };
       beyond = λ n above. let b = g.beyond n above in (b.0, (others n (λ is. above_held n last number above is h.3)).1 ∙ b.1);
       are_held = λ n e is.
-          let not : n ≢ number = λ at. none_is e (sym gone ∙ ap still (sym at) ∙ is) in
+          let not : n ≢ number = λ at. none_some e (sym gone ∙ ap still (sym at) ∙ is) in
           picked number n ps ps old.wires new.wires wires g.served.each mine kept (Held_so e n last) (λ at. absurd (not at)) (λ _. g.are_held n e (sym (others n not).0 ∙ is)) (eqb_tells n number);
       offered = λ n none.
           picked number n ps ps old.wires new.wires wires g.served.each mine kept (λ s _. AreOffered s (wires n)) (λ at. subst P (sym at) off)

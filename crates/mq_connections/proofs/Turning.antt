@@ -1,45 +1,32 @@
 -- One turn after another.
-use Rattle.std.proofs.Common.{◌≡◌, ◌≢◌, ◌⊎◌, ℕ, ◌<◌, inl, inr, length-append, ◌≤◌, List, [], ◌++◌, length, map, take, drop, arith, refl, sym, ap, subst, ◌∙◌, append-nil, append_assoc, Option, Some, None, Result, Ok, Err, false, true}
+use Rattle.std.proofs.Common.{◌≡◌, ◌≢◌, ◌⊎◌, ℕ, ◌<◌, inl, inr, length-append, ◌≤◌, List, [], ◌++◌, length, map, take, drop, arith, refl, sym, ap, subst, ◌∙◌, append-nil, append_assoc, Option, Some, None, Result, Ok, Err, true}
 use Rattle.std.specs.Prelude.{IsSome}
 use Rattle.std.specs.Option.{option_to_list}
 use Rattle.std.specs.Io.KnownBytes.{Appends, Consumes, IsAtEnd, Keeps, ReadConsumes, WriteAppends}
 use Rattle.std.proofs.KnownBytes.{Appends-nil, Appends-trans, Consumes-nil, Consumes-trans}
-use Rattle.std.proofs.lemmas.List.{length-take, map-append, nil_from_length}
+use Rattle.std.proofs.lemmas.List.{length-take, nil_from_length}
+use Rattle.mq_lemmas.proofs.Booleans.{false_true}
+use Rattle.mq_lemmas.proofs.Streams.{appends_kept}
 use Rattle.mq_request.specs.declared.message.Request.{Request}
 use Rattle.mq_ledger.specs.declared.entry.Entry.{Entry}
 use Rattle.mq_ledger.specs.declared.ledger.Told.{Told}
 use Rattle.mq_ledger.specs.Legal.{Book, IsLegalBook}
 use Rattle.mq_ledger.specs.Told.{Tells}
+use Rattle.mq_ledger.proofs.Telling.{Tells-none, Tells-trans}
 use Rattle.mq_server.specs.declared.connection.Progress.{Progress}
 use Rattle.mq_server.specs.declared.connection.Progress.TheVariants.{Answered, Waits, Ended}
 use Rattle.mq_server.specs.declared.connection.Served.{Served}
 use Rattle.mq_server.specs.declared.fault.ServeFault.TheVariants.{Memory, Store}
 use Rattle.mq_server.specs.declared.fault.ServeFault.{ServeFault}
 use Rattle.mq_server.specs.declared.input.TheConstants.{PIECE}
-use Rattle.mq_server.specs.Delivery.{call, failed_call}
+use Rattle.mq_server.specs.Delivery.{failed_call}
 use Rattle.mq_server.specs.Held.{State}
 use Rattle.mq_server.specs.Life.{AreAnswered, Exchange, Life, Lives, MakesCalls, StandsNext, told_of, with_bytes, with_exchanges, with_taken}
+use Rattle.mq_server.proofs.Advance.{told_both, same_life, ended_same}
 use Rattle.mq_connections.specs.Turns.{ClosesAtEnd, Offers, Turns, lived}
 use Rattle.mq_connections.specs.Wires.{AreOffered, IsKnownAs, Wire}
 
 -- ---- what a ledger reports
-
-pub Tells-none : (t : Option (List Told)) → Tells t t []
-Tells-none None = tt
-Tells-none (Some xs) = sym (append-nil xs)
-
-pub Tells-trans : (a b c : Option (List Told)) (xs ys : List Told) → Tells a b xs → Tells b c ys → Tells a c (xs ++ ys)
-Tells-trans a b None xs ys h i = tt
-Tells-trans None None (Some e) xs ys h i = absurd i
-Tells-trans None (Some d) (Some e) xs ys h i = absurd h
-Tells-trans (Some c) None (Some e) xs ys h i = absurd i
-Tells-trans (Some c) (Some d) (Some e) xs ys h i = i ∙ ap (λ l. l ++ ys) h ∙ append_assoc c xs ys
-
-told_both : (xs ys : List Exchange) → told_of (xs ++ ys) ≡ told_of xs ++ told_of ys
-told_both xs ys = map-append (λ (x : Exchange). call x.delivery x.answer) xs ys
-
-pub none_some : false ≡ true → ⊥
-none_some e = cc
 
 pub some_of : (r : Request) → IsSome (Some r)
 some_of r = refl
@@ -49,7 +36,7 @@ abbrev pub Works : Progress → Type 0
 Works p = p ≡ Ended (Err Store) → ⊥
 
 abbrev pub no_calls : (t : Option (List Told)) (was : Option (Result Served ServeFault)) (p : Progress) → Works p → MakesCalls was p t t []
-no_calls t was p works = record { failed = None; told = Tells-none t; ends = λ some. absurd (none_some some); only = λ not is. absurd (works is) }
+no_calls t was p works = record { failed = None; told = Tells-none t; ends = λ some. absurd (false_true some); only = λ not is. absurd (works is) }
 
 abbrev pub calls_as : (t u : Option (List Told)) (was : Option (Result Served ServeFault)) (p q : Progress) (xs : List Exchange) → Works p → Works q → MakesCalls was p t u xs → MakesCalls was q t u xs
 calls_as t u was p q xs works still calls = record { failed = calls.failed; told = calls.told; ends = λ some. absurd (works (calls.ends some)); only = λ not is. absurd (still is) }
@@ -93,9 +80,6 @@ carried_in l r = λ i. named l (l.bytes ++ r) l.exchanges (l.rest ++ r) (sym (ap
 carried_none : (l : Life) → l ≡ carried l [] []
 carried_none l = λ i. named l (sym (append-nil l.bytes) i) l.exchanges (sym (append-nil l.rest) i) (sym (append-nil l.taken) i)
 
-none_more : (l : Life) → l ≡ with_exchanges l [] l.rest
-none_more l = λ i. named l l.bytes (sym (append-nil l.exchanges) i) l.rest l.taken
-
 lived_both : (l : Life) (r s : List ℕ) (xs ys : List Exchange) (rest rest' w v : List ℕ) → lived (lived l r xs rest w) s ys rest' v ≡ lived l (r ++ s) (xs ++ ys) rest' (w ++ v)
 lived_both l r s xs ys rest rest' w v = λ i. named l (append_assoc l.bytes r s i) (append_assoc l.exchanges xs ys i) rest' (append_assoc l.taken w v i)
 
@@ -108,7 +92,7 @@ abbrev pub Carries : State → State → List ℕ → List ℕ → Type 0
 Carries c now read written = (l : Life) → Lives l c → Lives (carried l read written) now
 
 pub extends_none : (c : State) → Extends c c [] None
-extends_none c = λ l here. (l.rest, (let P : Life → Type 0 = λ q. Lives q c in subst P (none_more l) here), tt)
+extends_none c = λ l here. (l.rest, (let P : Life → Type 0 = λ q. Lives q c in subst P (same_life l) here), tt)
 
 pub carries_none : (c : State) → Carries c c [] []
 carries_none c = λ l here. let P : Life → Type 0 = λ q. Lives q c in subst P (carried_none l) here
@@ -273,18 +257,6 @@ takes_none c l here = let P : Life → Type 0 = λ q. Lives q c in subst P (λ i
 pub comes_none : (c : State) (l : Life) → Lives l c → Lives (with_bytes l []) c
 comes_none c l here = let P : Life → Type 0 = λ q. Lives q c in subst P (λ i. named l (sym (append-nil l.bytes) i) l.exchanges (sym (append-nil l.rest) i) l.taken) here
 
--- known bytes that stay grow by none
-pub appends_kept : (a b : Option (List ℕ)) → Keeps a b → Appends a b []
-appends_kept None b h = tt
-appends_kept (Some x) None h = absurd h
-appends_kept (Some x) (Some y) h = h ∙ sym (append-nil x)
-
--- and lose none
-pub consumes_kept : (a b : Option (List ℕ)) → Keeps a b → Consumes a b []
-consumes_kept None b h = tt
-consumes_kept (Some x) None h = absurd h
-consumes_kept (Some x) (Some y) h = sym h
-
 -- an end that isn't the store's, by what an answer came to
 pub still_works : (p : Progress) (e : Option (Result Served ServeFault)) → ((r : Result Served ServeFault) → p ≡ Ended r → e ≡ Some r) → (p ≡ Answered → e ≡ None) → (p ≡ Waits → e ≡ None) → Works p → e ≢ Some (Err Store)
 still_works Answered e ended answered waits works is = let h = answered refl in cc
@@ -329,12 +301,9 @@ reads_lost a b c now p bytes few is same still consumed = ([], bytes, few, (λ n
 abbrev pub calls_either : (t u : Option (List Told)) (was : Option (Result Served ServeFault)) (p q : Progress) (xs : List Exchange) → (p ≡ Ended (Err Store) → q ≡ Ended (Err Store)) → (q ≡ Ended (Err Store) → p ≡ Ended (Err Store)) → MakesCalls was p t u xs → MakesCalls was q t u xs
 calls_either t u was p q xs to back calls = record { failed = calls.failed; told = calls.told; ends = λ some. to (calls.ends some); only = λ not is. calls.only not (back is) }
 
-pub ended_inj : (a b : Result Served ServeFault) → Ended a ≡ Ended b → a ≡ b
-ended_inj a b is = cc
-
 -- what an end that was told says of the progress that it is
 pub ended_to : (p q : Progress) (end : Result Served ServeFault) → p ≡ Ended end → (end ≡ Err Store → q ≡ Ended (Err Store)) → p ≡ Ended (Err Store) → q ≡ Ended (Err Store)
-ended_to p q end is store failed = store (ended_inj end (Err Store) (sym is ∙ failed))
+ended_to p q end is store failed = store (ended_same end (Err Store) (sym is ∙ failed))
 
 pub ended_back : (p q : Progress) (end : Result Served ServeFault) → p ≡ Ended end → (q ≡ Ended (Err Store) → end ≡ Err Store) → q ≡ Ended (Err Store) → p ≡ Ended (Err Store)
 ended_back p q end is other failed = is ∙ ap Ended (other failed)

@@ -1,6 +1,7 @@
 use Rattle.std.proofs.Common.{Ok}
+use Rattle.mq_lemmas.proofs.Options.{ok_not}
 use Rattle.mq_connections.specs.declared.fault.RoomFault.TheVariants as faults
-use Rattle.mq_connections.proofs.Standing.{nothing_served, ok_not}
+use Rattle.mq_connections.proofs.Standing.{nothing_served}
 use Rattle.mq_connections.proofs.laws.nothing_is_served.Goals as goal
 
 pub returns : goal.returns

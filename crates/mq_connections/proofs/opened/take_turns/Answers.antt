@@ -1,6 +1,6 @@
 use Rattle.std.proofs.Common.{◌∙◌, refl, sym}
+use Rattle.mq_ledger.proofs.Leaving.{left_alone, left_both}
 use Rattle.mq_server.specs.declared.connection.Progress.TheVariants.{Answered}
-use Rattle.mq_connections.proofs.Leaving.{left_alone, left_both}
 use Rattle.mq_connections.proofs.Turning.{answered_room, answered_works, both, nothing_done, turns_as}
 use Rattle.mq_connections.proofs.opened.take_turns.Goals as goal
 

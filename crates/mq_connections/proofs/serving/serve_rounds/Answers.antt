@@ -1,11 +1,12 @@
 use Rattle.std.proofs.Common.{◌∙◌, None, Ok, Err, refl, sym, ap}
 use Rattle.std.proofs.lemmas.Result.{err_from_is_err_and}
-use Rattle.mq_connections.proofs.Leaving.{left_alone, left_both}
+use Rattle.mq_lemmas.proofs.Options.{ok_not}
+use Rattle.mq_ledger.proofs.Leaving.{left_alone, left_both}
 use Rattle.mq_connections.specs.declared.fault.RoomFault.TheVariants as faults
 use Rattle.mq_connections.specs.Sessions.{Outside, held}
 use Rattle.mq_connections.specs.declared.serving.Ended.TheVariants as ends
 use Rattle.mq_connections.proofs.Choring.{fitted_now, fitted_on, goes_alongside, goes_at}
-use Rattle.mq_connections.proofs.Standing.{goes_as, goes_last, goes_on, goes_so, not_store, ok_not, rewired}
+use Rattle.mq_connections.proofs.Standing.{goes_as, goes_last, goes_on, goes_so, not_store, rewired}
 use Rattle.mq_connections.proofs.serving.serve_rounds.Goals as goal
 
 pub loop-round-init : goal.loop-round-init

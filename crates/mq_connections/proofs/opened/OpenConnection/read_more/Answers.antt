@@ -1,7 +1,8 @@
 use Rattle.std.proofs.Common.{◌∙◌, ◌<◌, ◌≤◌, inl, inr, [], Ok, length, take, refl, ap, rules}
+use Rattle.mq_lemmas.proofs.Streams.{consumes_kept}
 use Rattle.mq_server.specs.declared.input.TheConstants.{PIECE}
 use Rattle.mq_server.specs.Held.{State}
-use Rattle.mq_connections.proofs.Turning.{consumes_kept, few_of, gave_end, gave_none, reads_lost, reads_none, reads_some, shuts_none}
+use Rattle.mq_connections.proofs.Turning.{few_of, gave_end, gave_none, reads_lost, reads_none, reads_some, shuts_none}
 use Rattle.mq_server.specs.declared.connection.Progress.TheVariants.{Answered}
 use Rattle.mq_connections.proofs.opened.OpenConnection.read_more.Goals as goal
 

@@ -1,5 +1,6 @@
 use Rattle.std.proofs.Common.{◌∙◌, Ok, ap}
-use Rattle.mq_connections.proofs.Turning.{appends_kept, writes_none, writes_some, wrote_none}
+use Rattle.mq_lemmas.proofs.Streams.{appends_kept}
+use Rattle.mq_connections.proofs.Turning.{writes_none, writes_some, wrote_none}
 use Rattle.mq_connections.proofs.opened.OpenConnection.write_replies.Goals as goal
 
 pub returns-in-Ok-eq0-clause-writes : goal.returns-in-Ok-eq0-clause-writes

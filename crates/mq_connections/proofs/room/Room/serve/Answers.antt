@@ -1,9 +1,10 @@
 use Rattle.std.proofs.Common.{◌∙◌, Ok, Err, refl, sym, ap}
 use Rattle.std.proofs.lemmas.Result.{err_from_is_err_and}
-use Rattle.mq_connections.proofs.Leaving.{left_alone, left_both}
+use Rattle.mq_lemmas.proofs.Options.{ok_not}
+use Rattle.mq_ledger.proofs.Leaving.{left_alone, left_both}
 use Rattle.mq_connections.specs.declared.fault.RoomFault.TheVariants as faults
 use Rattle.mq_connections.specs.Sessions.{Outside, held}
-use Rattle.mq_connections.proofs.Standing.{goes_as, goes_on, goes_so, ok_not}
+use Rattle.mq_connections.proofs.Standing.{goes_as, goes_on, goes_so}
 use Rattle.mq_connections.proofs.room.Room.serve.Goals as goal
 
 pub loop-number-init : goal.loop-number-init

@@ -1,13 +1,14 @@
 use Rattle.std.proofs.Common.{◌≡◌, ◌∙◌, None, Some, Ok, Err, refl, sym, rules}
 use Rattle.std.specs.BTreeMap.{get}
 use Rattle.std.specs.Ordering.{nat_cmp}
+use Rattle.mq_lemmas.proofs.Options.{ok_not}
 use Rattle.mq_server.specs.declared.connection.Progress.TheVariants.{Ended}
 use Rattle.mq_server.specs.declared.fault.ServeFault.TheVariants as ends
 use Rattle.mq_connections.specs.declared.fault.RoomFault.TheVariants as faults
 use Rattle.mq_connections.specs.Sessions.{Outside, held}
 use Rattle.mq_connections.proofs.Maps.{held_beside, held_here, held_now, same_map}
 use Rattle.mq_server.specs.Life.{deliveries}
-use Rattle.mq_connections.proofs.Standing.{nothing_grown, TurnOf, closed_turn, goes_last, goes_open, goes_so, goes_stop_last, ok_not, rewired, turn_closed}
+use Rattle.mq_connections.proofs.Standing.{nothing_grown, TurnOf, closed_turn, goes_last, goes_open, goes_so, goes_stop_last, rewired, turn_closed}
 use Rattle.mq_connections.proofs.Turning.{answered_room, answered_works, waits_room, waits_works}
 use Rattle.mq_connections.proofs.room.Room.serve_one.Goals as goal
 
