@@ -1,8 +1,8 @@
 -- What stops a request over the rows of a legal history.
-use Rattle.std.proofs.Common.{◌≡◌, ℕ, ◌≤◌, ◌<◌, nat_le, List, length, true, false, sym, subst, refl, arith, inl, inr}
+use Rattle.std.proofs.Common.{◌≡◌, ◌<◌, nat_le, List, length, sym, subst, refl, inl, inr}
 use Rattle.std.specs.Prelude.{Result, Ok, Err, IfErr, IsErrAnd}
 use Rattle.std.proofs.lemmas.Bool.{cases_Bool}
-use Rattle.std.proofs.lemmas.Bool.Decides.{nat_tests}
+use Rattle.mq_lemmas.proofs.Numbers.{le_of, lt_of}
 use Rattle.mq_ledger.specs.declared.entry.Entry.{Entry}
 use Rattle.mq_ledger.specs.declared.ledger.LedgerFault.{LedgerFault}
 use Rattle.mq_ledger.specs.declared.ledger.LedgerFault.TheVariants as ledger
@@ -15,17 +15,11 @@ of_rows H ledger.Memory decides = tt
 of_rows H ledger.Store decides = absurd (decides refl)
 
 -- they decide it unless as many answers are stored as there may be
-at_least : (m n : ℕ) → nat_le m n ≡ true → m ≤ n
-at_least m n h = grind (arith, nat_tests)
-
-below : (m n : ℕ) → nat_le m n ≡ false → n < m
-below m n h = grind (arith, nat_tests)
-
 pub of_stored : (H : List Entry) (fault : LedgerFault) → (fault ≡ ledger.Store → length H < 4611686018427387904 → ⊥) → IsCauseOver H (cause_in (refused_at fault))
 of_stored H ledger.Memory decides = tt
 of_stored H ledger.Store decides = elim (cases_Bool (nat_le 4611686018427387904 (length H))) [
-  | inl full ↦ at_least 4611686018427387904 (length H) full
-  | inr few ↦ absurd (decides refl (below 4611686018427387904 (length H) few))
+  | inl full ↦ le_of 4611686018427387904 (length H) full
+  | inr few ↦ absurd (decides refl (lt_of 4611686018427387904 (length H) few))
 ]
 
 -- a fault that was handed on

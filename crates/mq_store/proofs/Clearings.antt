@@ -9,6 +9,8 @@ use Rattle.std.proofs.lemmas.List.Sorted.{list_any-IsPermutation}
 use Rattle.sqlite.specs.Effect.{Database}
 use Rattle.sqlite.specs.Order.{Row}
 use Rattle.sqlite.specs.State.{State}
+use Rattle.mq_lemmas.proofs.Booleans.{and_false}
+use Rattle.mq_lemmas.proofs.Numbers.{other_number}
 use Rattle.mq_rows.specs.declared.plan.Runs.{Runs}
 use Rattle.mq_rows.specs.declared.record.AnswerRecord.{AnswerRecord}
 use Rattle.mq_rows.specs.declared.record.TransactionRecord.{TransactionRecord}
@@ -59,21 +61,11 @@ all_at_places t all db left = subst (λ (xs : List AnswerRecord). HasLedger db (
 
 -- ---- the places of the answers that pass
 
-differ : (m n : ℕ) → m < n → (m == n) ≡ false
-differ m n less = elim (cases_Bool (m == n)) [
-  | inl same ↦ (let e = (Decides-eqb m n).0 same in absurd (omega (arith, e, less)))
-  | inr other ↦ other
-]
-
 differ' : (m n : ℕ) → n < m → (m == n) ≡ false
 differ' m n less = elim (cases_Bool (m == n)) [
   | inl same ↦ (let e = (Decides-eqb m n).0 same in absurd (omega (arith, e, less)))
   | inr other ↦ other
 ]
-
-not_both : (b : Bool) → (b && false) ≡ false
-not_both true = refl
-not_both false = refl
 
 itself : (b : Bool) → ((b && true) || false) ≡ b
 itself true = refl
@@ -95,7 +87,7 @@ module _ (passes : AnswerRecord → Bool) where
   none_before [] k n numbered less = refl
   none_before (a ∷ more) k n numbered less =
       ap₂ (λ (b c : Bool). b || c)
-      (ap (λ (b : Bool). passes a && b) (differ n a.n (omega (arith, less, numbered.0))) ∙ not_both (passes a))
+      (ap (λ (b : Bool). passes a && b) (other_number n a.n (omega (arith, less, numbered.0))) ∙ and_false (passes a))
       (none_before more (k + 1) n numbered.1 (omega (arith, less)))
 
   same_hits : (answers : List AnswerRecord) (k : ℕ) (f : ℕ → Bool) → AreNumbered k answers → ((n : ℕ) → k ≤ n → f n ≡ hits answers n) → map (λ a. clear_if (f a.n) a) answers ≡ map (λ a. clear_if (passes a) a) answers
@@ -106,7 +98,7 @@ module _ (passes : AnswerRecord → Bool) where
       let here : f a.n ≡ passes a = is a.n (omega (arith, numbered.0)) ∙ ap₂ (λ (b c : Bool). (passes a && b) || c) own none ∙ itself (passes a) in
       ap₂ ◌∷◌ (ap (λ (b : Bool). clear_if b a) here)
       (same_hits more (k + 1) f numbered.1 (λ n above. is n (omega (arith, above))
-      ∙ ap (λ (b : Bool). b || hits more n) (ap (λ (b : Bool). passes a && b) (differ' n a.n (omega (arith, above, numbered.0))) ∙ not_both (passes a))))
+      ∙ ap (λ (b : Bool). b || hits more n) (ap (λ (b : Bool). passes a && b) (differ' n a.n (omega (arith, above, numbered.0))) ∙ and_false (passes a))))
 
   pub by_places : (answers : List AnswerRecord) (rows : List Row) → AreNumbered 1 answers → IsPermutation (map place_row (filter passes answers)) rows → cleared_at rows answers ≡ cleared_where passes answers
   by_places answers rows numbered places =

@@ -1,8 +1,7 @@
 -- The rows of answers and of transactions, read one by one, and the entries of a history one after another.
 use Rattle.std.proofs.Common.{◌≡◌, ℕ, suc, ◌+◌, ◌<◌, List, [], ◌∷◌, ◌++◌, length, get_or, take, drop, map, filter, Bool, true, false, refl, ◌∙◌, ap, sym, subst, inl, inr, arith, add-one, drop-cons}
-use Rattle.std.specs.Prelude.{◌⊎◌, Option, Some, None, All, if◌then◌else◌}
+use Rattle.std.specs.Prelude.{Option, Some, None, All, if◌then◌else◌}
 use Rattle.std.specs.List.{AllByRecursion, enumerate_from}
-use Rattle.std.proofs.lemmas.Bool.{cases_Bool}
 use Rattle.std.proofs.lemmas.List.{get_or_default, map-append, take-append-drop, take_more}
 use Rattle.sqlite_rules.specs.Lists.{Has}
 use Rattle.mq_request.specs.declared.message.Id.{Id}
@@ -28,6 +27,7 @@ use Rattle.mq_tables.specs.Entries.{AreBodiesAt}
 use Rattle.mq_tables.specs.Records.{IsOneOf}
 use Rattle.mq_store.specs.Carrying.{day_by, SpellsWhereKnown, IsWhereKnown, IsAnswered}
 use Rattle.mq_store.proofs.Firsts.{not_below, not_stored}
+use Rattle.mq_store.proofs.Keyed.{has_filtered}
 
 -- Answers.
 
@@ -77,11 +77,6 @@ none_left : {R : Type 0} (p : R → Bool) (rows : List R) → AllByRecursion (λ
 none_left p [] all = refl
 none_left p (r ∷ rows) all = rw all.0 (none_left p rows all.1)
 
-has_left : {R : Type 0} (p : R → Bool) (rows : List R) (r : R) → Has rows r → p r ≡ true → Has (filter p rows) r
-has_left p [] r h k = h
-has_left p (x ∷ rows) r (inl e) k = (let t : p x ≡ true = ap p (sym e) ∙ k in rw t (inl e))
-has_left p (x ∷ rows) r (inr h) k = elim (cases_Bool (p x)) [ inl t ↦ rw t (inr (has_left p rows r h k)) | inr f ↦ rw f (has_left p rows r h k) ]
-
 same_moment : (r : Request) → moment_of r ≡ moment_in r
 same_moment (Reserve id txn moment login count) = refl
 same_moment (Settle id txn moment login count) = refl
@@ -106,7 +101,7 @@ named_day day H t moment row (Some e) h there =
 
 pub day_is : (day : ℕ → ℕ) (H : List Entry) (rows : List TransactionRecord) (t : Transaction) (moment : ℕ) (found : Option TransactionRecord) → AreTransactions day H rows → IsOneOf (is_transaction t) rows found → day_by day moment found ≡ day_named day moment (named H t)
 day_is day H rows t moment None are none = unnamed_day day H t moment (named H t) refl (sym (are t) ∙ none_left (is_transaction t) rows none)
-day_is day H rows t moment (Some row) are found = named_day day H t moment row (named H t) refl (subst (λ all. Has all row) (are t) (has_left (is_transaction t) rows row found.0 found.1))
+day_is day H rows t moment (Some row) are found = named_day day H t moment row (named H t) refl (subst (λ all. Has all row) (are t) (has_filtered (is_transaction t) rows row found.0 found.1))
 
 -- The next entry.
 
@@ -134,10 +129,6 @@ module _ (day : ℕ → ℕ) (default : ℕ) (H : List Entry) (place : ℕ) (e :
       new_reply day default (take place H) e.request (id_of e.request) n.0 ∙ sym n.1
 
 -- Cases.
-
-pub option_cases : {A : Type 0} (o : Option A) → (o ≡ None) ⊎ ((x : A) × (o ≡ Some x))
-option_cases None = inl refl
-option_cases (Some x) = inr (x, refl)
 
 pub take_all : {X : Type 0} (xs : List X) → take (length xs) xs ≡ xs
 take_all [] = refl

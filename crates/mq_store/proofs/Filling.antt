@@ -1,6 +1,6 @@
 -- A new ledger that has what is remembered of an old one.
 use Rattle.std.proofs.Common.{arith, inl, inr, refl, sym, ap, subst}
-use Rattle.std.specs.Prelude.{◌≡◌, ◌⊎◌, ℕ, Bool, List, Result, Ok, Err, OnOk, OnErr}
+use Rattle.std.specs.Prelude.{◌≡◌, ◌⊎◌, ℕ, Bool, List, Result, Ok, Err, OnOk}
 use Rattle.sqlite.specs.Effect.{Database, IsDatabase}
 use Rattle.sqlite.specs.State.{State, HasCleanDisk, Survives}
 use Rattle.sqlite.specs.Tree.{Trees}
@@ -34,10 +34,6 @@ made_blank indexed zone default old new is_zone amount made free = record {
 pub on_ok : {A E : Type 0} (r : Result A E) (P Q : Type 0) → (P → Q) → OnOk r P → OnOk r Q
 on_ok (Ok a) P Q f p = f p
 on_ok (Err e) P Q f p = tt
-
-pub on_err : {A E : Type 0} (r : Result A E) (P : Type 0) → P → OnErr r P
-on_err (Ok a) P p = tt
-on_err (Err e) P p = p
 
 -- made, and then filled from a store that stayed as it was
 pub fills_over : (zone : Zone) (default D : ℕ) (from old mid new : Database) → MakesBlank zone default old mid → Carries zone default D from mid new → Fills zone default D from old new

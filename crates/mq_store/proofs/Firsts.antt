@@ -1,8 +1,10 @@
 -- The first request of its number, whose run isn't below the floor, is one that the history doesn't know.
 use Rattle.std.proofs.Common.{◌≡◌, List, [], ◌∷◌, refl, ap, ap₂, ◌∙◌, inl, inr}
-use Rattle.std.specs.Prelude.{Bool, Option, Some, None, is_some, not, true, false, ◌||◌}
+use Rattle.std.specs.Prelude.{Bool, Some, None, is_some, not, true, false, ◌||◌}
 use Rattle.std.specs.List.{list_any}
 use Rattle.std.proofs.lemmas.Bool.{cases_Bool}
+use Rattle.mq_lemmas.proofs.Booleans.{neither}
+use Rattle.mq_lemmas.proofs.Options.{not_some}
 use Rattle.mq_request.specs.declared.message.Id.{Id}
 use Rattle.mq_request.specs.declared.message.Request.{Request}
 use Rattle.mq_ledger.specs.declared.entry.Entry.{Entry}
@@ -26,19 +28,11 @@ unnumbered_is_not_first H r unnumbered = ap (is_first_by (requests H)) unnumbere
 
 -- ---- a number is known where its run is below the floor, and where it is stored
 
-neither : (a b : Bool) → (a || b) ≡ false → (a ≡ false) × (b ≡ false)
-neither true b h = absurd (cc h)
-neither false b h = (refl, h)
-
-is_none : {X : Type 0} (o : Option X) → is_some o ≡ false → o ≡ None
-is_none None h = refl
-is_none (Some x) h = absurd (cc h)
-
 pub not_below : (H : List Entry) (id : Id) → known_by H (Some id) ≡ false → is_below (requests H) id ≡ false
 not_below H id new = (neither (is_below (requests H) id) (is_some (stored H id)) new).0
 
 pub not_stored : (H : List Entry) (id : Id) → known_by H (Some id) ≡ false → stored H id ≡ None
-not_stored H id new = is_none (stored H id) (neither (is_below (requests H) id) (is_some (stored H id)) new).1
+not_stored H id new = not_some (stored H id) (neither (is_below (requests H) id) (is_some (stored H id)) new).1
 
 pub known_below : (H : List Entry) (id : Id) → is_below (requests H) id ≡ true → known_by H (Some id) ≡ true
 known_below H id below = ap (λ (b : Bool). b || is_some (stored H id)) below

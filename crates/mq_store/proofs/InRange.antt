@@ -1,11 +1,13 @@
 -- What the rows of a legal history show is in range.
-use Rattle.std.proofs.Common.{◌≡◌, ℕ, ◌≤◌, nat_le, List, [], ◌∷◌, find, Bool, true, false, ◌==◌, refl, sym, ap, subst, inl, inr, arith}
-use Rattle.std.specs.Prelude.{◌&&◌, Option, Some, None, Contains}
+use Rattle.std.proofs.Common.{◌≡◌, ℕ, List, [], ◌∷◌, find, true, false, ◌==◌, refl, sym, ap, subst, inl, inr}
+use Rattle.std.specs.Prelude.{Option, Some, None, Contains}
 use Rattle.std.specs.List.{AllByRecursion}
 use Rattle.std.specs.Cmp.Lexicographic.{bytes_decides}
 use Rattle.std.proofs.lemmas.Bool.{cases_Bool}
-use Rattle.std.proofs.lemmas.Bool.Decides.{nat_tests, Decides-eqb}
+use Rattle.std.proofs.lemmas.Bool.Decides.{Decides-eqb}
 use Rattle.std.proofs.lemmas.List.Elements.{All-from_recursion}
+use Rattle.mq_lemmas.proofs.Booleans.{first_so}
+use Rattle.mq_lemmas.proofs.Numbers.{le_is}
 use Rattle.mq_request.specs.declared.message.Request.{Request}
 use Rattle.mq_request.specs.declared.message.Request.TheVariants.{Reserve}
 use Rattle.mq_request.specs.declared.message.Reply.{Reply}
@@ -20,11 +22,8 @@ use Rattle.mq_rows.specs.Rows.{is_usage, usage_row}
 
 -- ---- amounts
 
-low : (n m : ℕ) → n ≤ m → nat_le n m ≡ true
-low n m h = grind (arith, nat_tests)
-
 pub amounts : (s r c : ℕ) → IsAmount s → IsAmount r → IsAmount c → are_amounts s r c ≡ true
-amounts s r c p q o = rw (low s 1000000 p.to, low r 1000000 q.to, low c 1000000 o.to) refl
+amounts s r c p q o = rw (le_is s 1000000 p.to, le_is r 1000000 q.to, le_is c 1000000 o.to) refl
 
 abbrev settled_in : Reply → ℕ
 settled_in (UsageReply login day settled reserved cap) = settled
@@ -72,13 +71,9 @@ has_row day H l d u is = elim (cases_Bool (has_reserve day H d l)) [
 contained : (P : UsageRecord → Type 0) (rows : List UsageRecord) (u : UsageRecord) → AllByRecursion P rows → Contains rows u → P u
 contained P rows u all there = subst P there.2 (All-from_recursion P rows all there.0 u there.1)
 
-first_of : (a b : Bool) → (a && b) ≡ true → a ≡ true
-first_of true b h = refl
-first_of false b h = absurd (cc h)
-
 -- a row above is of that day
 day_is : (d : ℕ) (after : List ℕ) (u : UsageRecord) → is_above d after u ≡ true → d ≡ u.day
-day_is d after u h = (Decides-eqb d u.day).0 (first_of (d == u.day) (below after u.login) h)
+day_is d after u h = (Decides-eqb d u.day).0 (first_so (d == u.day) (below after u.login) h)
 
 its_own : (d : ℕ) (u : UsageRecord) → d ≡ u.day → is_usage u.login d u ≡ true
 its_own d u same =

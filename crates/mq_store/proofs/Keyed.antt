@@ -34,7 +34,7 @@ keyed b t rows = record {
 
 -- ---- a row that is there once is the one that is found
 
-has_filtered : {X : Type 0} (test : X → Bool) (xs : List X) (x : X) → Has xs x → test x ≡ true → Has (filter test xs) x
+pub has_filtered : {X : Type 0} (test : X → Bool) (xs : List X) (x : X) → Has xs x → test x ≡ true → Has (filter test xs) x
 has_filtered test [] x there passes = absurd there
 has_filtered test (y ∷ ys) x (inl same) passes = rw (ap test (sym same) ∙ passes) (inl same)
 has_filtered test (y ∷ ys) x (inr more) passes = elim (cases_Bool (test y)) [

@@ -25,6 +25,7 @@ use Rattle.mq_tables.specs.Migrating.{IsMigrated, migrated}
 use Rattle.mq_tables.specs.Reading.{Spares}
 use Rattle.mq_tables.specs.declared.setting.Setting.{Setting}
 use Rattle.mq_tables.specs.Settings.{SettingRow, shown_of}
+use Rattle.mq_tables.proofs.Changes.{is_since}
 use Rattle.mq_store.specs.declared.fault.OpenFault.{OpenFault}
 use Rattle.mq_store.specs.declared.fault.OpenFault.TheVariants.{NotOurs, ZoneDiffers, DefaultDiffers, Memory, Store}
 use Rattle.mq_store.specs.declared.fault.Refused.{Refused}
@@ -35,7 +36,7 @@ use Rattle.mq_store.specs.Opening.{fault_in, same_rule, audit_fault, known_versi
 use Rattle.mq_store.specs.Taking.{HasBook, book_of}
 use Rattle.mq_store.specs.Soundness.{book_in, HasKept, HasStored, IsSound, MeansBook, IsOpened}
 use Rattle.mq_store.proofs.Sound.{sound_with}
-use Rattle.mq_store.proofs.Versions.{since_then, not_since}
+use Rattle.mq_store.proofs.Versions.{not_since}
 
 -- ---- the version
 
@@ -110,7 +111,7 @@ module _ (b : Book) (db : Database) (has : HasStored b db) where
   rule_is = ap (λ (s : SettingRecord). s.rule) has.rows.setting.row
 
   current_held : v ≡ 3 → HasCurrent db t.setting.rule
-  current_held e = (since_then _ _ (nat_le 2 v) (ap (nat_le 2) e) has.holds.later.rule, (t.retired, since_then _ _ (nat_le 3 v) (ap (nat_le 3) e) has.holds.later.retired))
+  current_held e = (is_since _ _ (nat_le 2 v) (ap (nat_le 2) e) has.holds.later.rule, (t.retired, is_since _ _ (nat_le 3 v) (ap (nat_le 3) e) has.holds.later.retired))
 
   older_held : (z : Zone) (rule : Option (List ℕ)) → rule ≡ rule_in z → Since (nat_le 2 (older_version z)) (HasRule db rule) (rule ≡ None) → HoldsKnown (Some (older_version z)) db (rule_in z)
   older_held (ByOffset minutes) rule is h = refl
@@ -177,7 +178,7 @@ module _ (one : (a b : Database) → IsDatabase a → IsDatabase b → a.trees �
 
   pub written_book : AreBroughtUp has.tables.setting.version old db.trees → HasBook b db
   written_book up = elim (versions b.zone has.tables.setting.version has.rows.setting.version) [
-    | inl current ↦ (let made = since_then _ _ (nat_le 3 has.tables.setting.version) (ap (nat_le 3) current) up in again_book made.new made.trees_are (indexed_book b old has made.new current made.made))
+    | inl current ↦ (let made = is_since _ _ (nat_le 3 has.tables.setting.version) (ap (nat_le 3) current) up in again_book made.new made.trees_are (indexed_book b old has made.new current made.made))
     | inr older ↦ (let below = ap (nat_le 3) older ∙ older_is b.zone in
         let made = not_since _ _ (nat_le 3 has.tables.setting.version) below up in
         again_book made.new made.trees_are (migrated_book b old has made.new below made.made))
@@ -189,7 +190,7 @@ module _ (b : Book) (old new : State) (has : HasStored b old.now) where
 
   brought_book : IsTrue new.is_open → IsBroughtUp v' old new → HasBook b new.now
   brought_book is_open up = elim (versions b.zone v' has.rows.setting.version) [
-    | inl current ↦ elim (since_then _ _ (nat_le 3 v') (ap (nat_le 3) current) up) [
+    | inl current ↦ elim (is_since _ _ (nat_le 3 v') (ap (nat_le 3) current) up) [
       | inl left ↦ kept_book b old.now has new.now current (left.0.now is_open)
       | inr made ↦ indexed_book b old.now has new.now current made.1
     ]

@@ -3,10 +3,6 @@ use Rattle.std.proofs.Common.{◌≡◌, true, false}
 use Rattle.std.specs.Prelude.{Bool}
 use Rattle.mq_tables.specs.Ledger.{Since}
 
-pub since_then : (Now Before : Type 0) (b : Bool) → b ≡ true → Since b Now Before → Now
-since_then Now Before true e h = h
-since_then Now Before false e h = absurd cc
-
 pub not_since : (Now Before : Type 0) (b : Bool) → b ≡ false → Since b Now Before → Before
 not_since Now Before true e h = absurd cc
 not_since Now Before false e h = h

@@ -1,6 +1,6 @@
 use Rattle.std.proofs.Common.{sym, subst}
+use Rattle.mq_tables.proofs.Chain.{was_clean}
 use Rattle.mq_store.specs.Taking.{HasBook, book_of}
-use Rattle.mq_store.proofs.Chain.{was_clean}
 use Rattle.mq_store.proofs.carry.judge.Goals as goal
 
 pub returns-clause-judged : goal.returns-clause-judged

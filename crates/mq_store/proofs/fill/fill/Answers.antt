@@ -1,6 +1,6 @@
 use Rattle.sqlite.specs.Held.{state}
+use Rattle.mq_tables.proofs.Chain.{was_clean}
 use Rattle.mq_store.proofs.Filling.{on_ok, fills_over}
-use Rattle.mq_store.proofs.Chain.{was_clean}
 use Rattle.mq_store.proofs.fill.fill.Goals as goal
 
 pub returns-clause-filled : goal.returns-clause-filled

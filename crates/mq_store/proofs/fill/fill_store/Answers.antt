@@ -2,8 +2,9 @@ use Rattle.std.proofs.Common.{◌≡◌, rules}
 use Rattle.sqlite.specs.Held.{state}
 use Rattle.sqlite.specs.State.{HasCleanDisk}
 use Rattle.sqlite.proofs.Callers.{survives_begin}
+use Rattle.mq_lemmas.proofs.Options.{on_err}
 use Rattle.mq_store.specs.Forgetting.{Fills}
-use Rattle.mq_store.proofs.Filling.{on_err, leaves_filled}
+use Rattle.mq_store.proofs.Filling.{leaves_filled}
 use Rattle.mq_store.proofs.fill.fill_store.Goals as goal
 
 pub returns-in_err-commit-clause-crash_err : goal.returns-in_err-commit-clause-crash_err

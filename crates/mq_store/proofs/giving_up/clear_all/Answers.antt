@@ -2,8 +2,8 @@ use Rattle.std.proofs.Common.{◌≡◌, ◌+◌, List, ◌∷◌, drop, subst, 
 use Rattle.std.proofs.lemmas.List.{drop_more, drop_all}
 use Rattle.sqlite.specs.Held.{state}
 use Rattle.sqlite.specs.Order.{Row}
+use Rattle.mq_tables.proofs.Chain.{leaves_both, was_clean}
 use Rattle.mq_store.specs.GivingUp.{place_of}
-use Rattle.mq_store.proofs.Chain.{leaves_both, was_clean}
 use Rattle.mq_store.proofs.Clearings.{IsToClear, one_cleared, all_at_places}
 use Rattle.mq_store.proofs.giving_up.clear_all.Goals as goal
 

@@ -1,6 +1,6 @@
 use Rattle.sqlite.specs.Held.{state}
+use Rattle.mq_tables.proofs.Chain.{was_clean}
 use Rattle.mq_store.proofs.Clearings.{runs_cleared_ok}
-use Rattle.mq_store.proofs.Chain.{was_clean}
 use Rattle.mq_store.proofs.giving_up.clear_runs.Goals as goal
 
 pub returns-clause-cleared : goal.returns-clause-cleared

@@ -2,7 +2,7 @@ use Rattle.std.proofs.Common.{◌≡◌, ◌+◌, List, ◌∷◌, drop, subst, 
 use Rattle.std.proofs.lemmas.List.{drop_more, drop_all}
 use Rattle.sqlite.specs.Held.{state}
 use Rattle.mq_rows.specs.declared.record.TransactionRecord.{TransactionRecord}
-use Rattle.mq_store.proofs.Chain.{leaves_both, was_clean}
+use Rattle.mq_tables.proofs.Chain.{leaves_both, was_clean}
 use Rattle.mq_store.proofs.Closings.{IsLeft, one_more, all_closed}
 use Rattle.mq_store.proofs.giving_up.close_all.Goals as goal
 

@@ -6,8 +6,8 @@ use Rattle.mq_rows.specs.declared.plan.Write.TheVariants.{Update}
 use Rattle.mq_rows.specs.declared.record.TransactionRecord.{TransactionRecord}
 use Rattle.mq_rows.specs.declared.record.UsageRecord.{UsageRecord}
 use Rattle.mq_tables.specs.Updates.{WritesTransaction, WritesUsage}
+use Rattle.mq_tables.proofs.Chain.{was_clean}
 use Rattle.mq_store.proofs.Closings.{closes_ok}
-use Rattle.mq_store.proofs.Chain.{was_clean}
 use Rattle.mq_store.proofs.giving_up.close_one.Goals as goal
 
 pub returns-clause-closed : goal.returns-clause-closed

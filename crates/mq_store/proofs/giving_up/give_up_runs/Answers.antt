@@ -1,6 +1,6 @@
 use Rattle.sqlite.specs.Held.{state}
+use Rattle.mq_tables.proofs.Chain.{was_clean}
 use Rattle.mq_store.proofs.Clearings.{gives_up_ok}
-use Rattle.mq_store.proofs.Chain.{was_clean}
 use Rattle.mq_store.proofs.giving_up.give_up_runs.Goals as goal
 
 pub returns-clause-given_up : goal.returns-clause-given_up

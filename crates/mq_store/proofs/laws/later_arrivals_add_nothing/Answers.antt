@@ -1,14 +1,11 @@
 use Rattle.std.proofs.Common.{◌≡◌, refl, sym, ap, ◌∙◌, inl, inr}
-use Rattle.std.specs.Prelude.{◌⊎◌, Bool, true, false, not, Option, Some, None}
+use Rattle.std.specs.Prelude.{◌⊎◌, Option, Some, None}
+use Rattle.mq_lemmas.proofs.Booleans.{not_false}
 use Rattle.mq_request.specs.declared.message.Id.{Id}
 use Rattle.mq_ledger.specs.Answer.{known_by}
 use Rattle.mq_ledger.specs.Arrivals.{id_of}
 use Rattle.mq_store.proofs.Firsts.{first_if_unknown}
 use Rattle.mq_store.proofs.laws.later_arrivals_add_nothing.Goals as goal
-
-is_true : (b : Bool) → not b ≡ false → b ≡ true
-is_true true h = refl
-is_true false h = absurd (cc h)
 
 none_or_some : (n : Option Id) → (n ≡ None) ⊎ ((id : Id) × (n ≡ Some id))
 none_or_some None = inl refl
@@ -19,5 +16,5 @@ returns c = λ zone default H r db later has.
     elim (none_or_some (id_of r)) [
       | inl none ↦ c.arrivals_are_applied.ensures.unnumbered zone default H r db none has
       | inr some ↦ c.arrivals_are_applied.ensures.known zone default H r some.0 db
-          (ap (known_by H) some.1 ∙ is_true (known_by H (Some some.0)) (sym (first_if_unknown H r some.0 has.legal.legal.distinct some.1) ∙ later)) has
+          (ap (known_by H) some.1 ∙ not_false (known_by H (Some some.0)) (sym (first_if_unknown H r some.0 has.legal.legal.distinct some.1) ∙ later)) has
     ]

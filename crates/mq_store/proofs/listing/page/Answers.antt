@@ -1,15 +1,13 @@
-use Rattle.std.proofs.Common.{◌≡◌, [], ◌∷◌, arith, subst, inl, inr, refl, length-append}
-use Rattle.std.specs.Prelude.{Option, Some, None, ◌⊎◌}
+use Rattle.std.proofs.Common.{[], ◌∷◌, arith, subst, inl, inr, length-append}
+use Rattle.std.specs.Prelude.{Some, None}
 use Rattle.std.proofs.lemmas.List.Elements.{All-push}
 use Rattle.sqlite.specs.Held.{state}
+use Rattle.mq_lemmas.proofs.Options.{option_cases}
 use Rattle.mq_request.specs.Range.{IsRow}
+use Rattle.mq_tables.proofs.Chain.{leaves_both, was_clean}
 use Rattle.mq_store.specs.Paging.{IsNextRow}
-use Rattle.mq_store.proofs.Chain.{leaves_both, was_clean, stays_both}
+use Rattle.mq_store.proofs.Chain.{stays_both}
 use Rattle.mq_store.proofs.listing.page.Goals as goal
-
-option_cases : {A : Type 0} (o : Option A) → (o ≡ None) ⊎ ((x : A) × (o ≡ Some x))
-option_cases None = inl refl
-option_cases (Some x) = inr (x, refl)
 
 pub returns-in_default-clause-page : goal.returns-in_default-clause-page
 returns-in_default-clause-page g c clean = elim (option_cases c.in_ok-row.field-0) [

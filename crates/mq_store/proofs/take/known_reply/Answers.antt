@@ -5,9 +5,9 @@ use Rattle.mq_ledger.specs.declared.zone.Zone.{Zone}
 use Rattle.mq_ledger.specs.Arrivals.{is_below}
 use Rattle.mq_ledger.specs.History.{requests}
 use Rattle.mq_tables.specs.Ledger.{HasLedger}
+use Rattle.mq_tables.proofs.Chain.{was_clean}
 use Rattle.mq_store.specs.Causes.{StopsOver}
 use Rattle.mq_store.proofs.Causes.{of_rows, stops_by}
-use Rattle.mq_store.proofs.Chain.{was_clean}
 use Rattle.mq_store.proofs.take.known_reply.Goals as goal
 
 pub returns-in-None-clause-known : goal.returns-in-None-clause-known

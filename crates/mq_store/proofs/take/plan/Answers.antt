@@ -2,9 +2,9 @@ use Rattle.std.proofs.Common.{◌≡◌, ◌<◌, length, true≢false, ap, sym,
 use Rattle.sqlite.specs.Held.{state}
 use Rattle.mq_rows.specs.declared.record.SettingRecord.{SettingRecord}
 use Rattle.mq_tables.specs.Ledger.{HasLedger}
+use Rattle.mq_tables.proofs.Chain.{leaves_both, was_clean}
 use Rattle.mq_store.specs.Causes.{StopsNew}
 use Rattle.mq_store.proofs.Causes.{of_stored, stops_by}
-use Rattle.mq_store.proofs.Chain.{leaves_both, was_clean}
 use Rattle.mq_store.proofs.take.plan.Goals as goal
 
 pub returns-clause-planned : goal.returns-clause-planned

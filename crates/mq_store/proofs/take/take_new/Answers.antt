@@ -2,8 +2,8 @@ use Rattle.std.proofs.Common.{sym, subst}
 use Rattle.mq_ledger.specs.Answer.{appended}
 use Rattle.mq_ledger.specs.Day.{day_of}
 use Rattle.mq_tables.specs.Ledger.{HasLedger}
+use Rattle.mq_tables.proofs.Chain.{leaves_both, was_clean}
 use Rattle.mq_store.specs.Taking.{book_of}
-use Rattle.mq_store.proofs.Chain.{leaves_both, was_clean}
 use Rattle.mq_store.proofs.take.take_new.Goals as goal
 
 pub returns-clause-applied : goal.returns-clause-applied

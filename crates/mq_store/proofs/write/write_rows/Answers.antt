@@ -1,6 +1,6 @@
 use Rattle.sqlite.specs.Held.{state}
+use Rattle.mq_tables.proofs.Chain.{leaves_both, was_clean}
 use Rattle.mq_store.proofs.Writing.{moves_ok}
-use Rattle.mq_store.proofs.Chain.{leaves_both, was_clean}
 use Rattle.mq_store.proofs.write.write_rows.Goals as goal
 
 pub returns-clause-written : goal.returns-clause-written
