@@ -1,6 +1,5 @@
 -- One more release, of a transaction that holds nothing.
-use Rattle.std.proofs.Common.{◌≡◌, ℕ, ◌+◌, List, [], ◌∷◌, ◌++◌, Bool, true, false, ◌==◌, ◌&&◌, ◌||◌, nat_lt, nat_le, if◌then◌else◌, refl, sym, ap, subst, ◌∙◌, arith}
-use Rattle.std.proofs.lemmas.Bool.Decides.{nat_tests}
+use Rattle.std.proofs.Common.{◌≡◌, ℕ, ◌+◌, List, [], ◌∷◌, ◌++◌, Bool, true, false, ◌==◌, ◌&&◌, ◌||◌, nat_le, if◌then◌else◌, refl, sym, ap, subst, ◌∙◌, arith}
 use Rattle.mq_request.specs.Same.{same_text}
 use Rattle.mq_request.specs.declared.message.Id.{Id}
 use Rattle.mq_request.specs.declared.message.Request.TheVariants.{Release}
@@ -10,6 +9,7 @@ use Rattle.mq_ledger.specs.declared.entry.Entry.{Entry}
 use Rattle.mq_ledger.specs.Arrivals.{floor, greater, raised}
 use Rattle.mq_ledger.specs.History.{Transaction, transaction, same_transaction, requests, closed, closes, freed, gained, granted, granted_in, held, is_of, reserved, retires, settled, settles}
 use Rattle.mq_ledger.specs.Limits.{cap, cap_of, from_of, governs, latest, limits}
+use Rattle.mq_ledger.proofs.Floors.{greater_zero}
 use Rattle.mq_command.specs.Unchanged.{AreAlike}
 
 -- a release and its reply
@@ -44,9 +44,6 @@ holds_on false true true n of_closed of_it = sym (of_it refl)
 holds_on false true false n of_closed of_it = omega arith
 holds_on false false ends n of_closed of_it = omega arith
 
-not_raised : (n : ℕ) → greater n 0 ≡ n
-not_raised n = let f : nat_lt n 0 ≡ false = grind (arith, nat_tests) in rw f refl
-
 pub one_more_release : (day : ℕ → ℕ) (default : ℕ) (H : List Entry) (id : Id) (txn moment : ℕ) (login : List ℕ) (a : Reply) → held H (transaction id txn) ≡ 0
     → ((l : List ℕ) (d : ℕ) → reserved day (H ++ released id txn moment login a ∷ []) l d + freed day H l d (Release id txn moment login) a ≡ reserved day H l d + gained day l d (Release id txn moment login) a)
     → ((l : List ℕ) (d : ℕ) → settled day (H ++ released id txn moment login a ∷ []) l d ≡ settled day H l d + settles day H l d (Release id txn moment login) a)
@@ -63,7 +60,7 @@ one_more_release day default H id txn moment login a none reserves settling caps
   all_limits = caps;
   all_held = λ t.
       holds t ∙ holds_on (closed H t) (same_transaction t (transaction id txn)) (closes a) (held H t) (λ is. ap (λ b. if b then 0 else granted_in H t) is) (λ is. ap (λ u. held H u) (same t (transaction id txn) is) ∙ none);
-  all_floors = λ h. floors h ∙ not_raised (floor (requests H) h);
+  all_floors = λ h. floors h ∙ greater_zero (floor (requests H) h);
 }
 
 pub nothing_more : (day : ℕ → ℕ) (default : ℕ) (H : List Entry) → AreAlike day default H H

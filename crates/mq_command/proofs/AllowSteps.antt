@@ -1,7 +1,8 @@
 -- The room that grows with each refusal, and the line that is told.
-use Rattle.std.proofs.Common.{◌≡◌, ◌+◌, ◌*◌, ℕ, zero, suc, List, [], Option, None, Some, Result, Ok, Err, min, refl, sym, ap, subst, inr, ◌∙◌, append-nil, arith}
+use Rattle.std.proofs.Common.{◌≡◌, ◌+◌, ◌*◌, ℕ, zero, suc, List, [], Option, Result, Ok, Err, min, refl, sym, ap, subst, inr, ◌∙◌, arith}
 use Rattle.std.specs.Prelude.{IfOk, MatchResult}
-use Rattle.std.specs.Io.KnownBytes.{Appends, Keeps}
+use Rattle.std.specs.Io.KnownBytes.{Keeps}
+use Rattle.mq_lemmas.proofs.Streams.{appends_kept}
 use Rattle.mq_command.specs.Allowing.{SetsBoth, room}
 use Rattle.mq_command.specs.Later.{ClearsLater, later_status}
 use Rattle.mq_command.specs.Orders.{PrintsLine}
@@ -20,16 +21,11 @@ room_more refused grown is =
     let next : suc refused ≡ refused + 1 = omega arith in
     ap (λ r. min (r * 2 + 8) 1000000) is ∙ ap room next
 
-nothing_more : (old new : Option (List ℕ)) → Keeps old new → Appends old new []
-nothing_more None new kept = tt
-nothing_more (Some old) None kept = absurd kept
-nothing_more (Some old) (Some new) kept = kept ∙ sym (append-nil old)
-
 -- a line that was told, or that there was no memory for
 pub line_told : {S E : Type 0} (bytes_of : S → List ℕ) (line : Result S E) (text : List ℕ) (old new : Option (List ℕ)) (status : ℕ) → IfOk line (λ l. bytes_of l ≡ text)
     → MatchResult line (λ l. PrintsLine (bytes_of l) old new status) (λ _. (status ≡ 1) × Keeps old new) → PrintsLine text old new status
 line_told bytes_of (Ok line) text old new status is printed = subst (λ t. PrintsLine t old new status) is printed
-line_told bytes_of (Err error) text old new status is (same, kept) = inr (same, ([], text, refl, nothing_more old new kept))
+line_told bytes_of (Err error) text old new status is (same, kept) = inr (same, ([], text, refl, appends_kept old new kept))
 
 -- what is used was answered, and then both limits were sent
 pub limit_given : (setter : Setter) (day limit most : ℕ) (usage : DayUsage) (old asked new : Option (List Told)) (ended : Result ℕ OrderFault)

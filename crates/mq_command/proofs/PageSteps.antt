@@ -6,13 +6,13 @@ use Rattle.std.proofs.KnownBytes.{Appends-trans, Appends-nil}
 use Rattle.std.proofs.lemmas.List.Concat.{flat_map-append}
 use Rattle.mq_request.specs.Range.{IsAfter}
 use Rattle.mq_request.specs.declared.usage.UsageRow.{UsageRow}
+use Rattle.mq_stream.proofs.Fronts.{front_later}
 use Rattle.mq_link.specs.declared.link.Told.{Told}
 use Rattle.mq_stream.specs.Flow.{AppendsFront}
 use Rattle.mq_command.specs.Report.{row_line, report_lines, last_login, IsPage, AreFullPages, no_page, page, PrintsFront, ReportsAll, output_fault}
 use Rattle.mq_command.specs.declared.output.OutputFault.{OutputFault}
 use Rattle.mq_command.specs.declared.output.OutputFault.TheVariants as outputs
 use Rattle.mq_command.specs.declared.report.ReportFault.{ReportFault}
-use Rattle.mq_command.proofs.Fronts.{front_later}
 
 -- so many full pages were accepted and printed, and the next begins after this login
 pub record ArePrinted (day : ℕ) (start told : Option (List Told)) (old new : Option (List ℕ)) (count : ℕ) (after : List ℕ) : Type 0 where
