@@ -2,20 +2,11 @@
 use Rattle.std.proofs.Common.{◌≡◌, ◌<◌, ◌+◌, ℕ, List, [], ◌∷◌, ◌++◌, Option, map, length, take, drop, get_or, sym, ap, ◌∙◌, append_assoc, take-append-drop}
 use Rattle.std.proofs.lemmas.List.{drop_more, map-append, map-id}
 use Rattle.std.specs.Io.KnownBytes.{Appends}
-use Rattle.std.proofs.KnownBytes.{Appends-trans}
 use Rattle.std.specs.List.{flat_map}
 use Rattle.std.proofs.lemmas.List.Concat.{flat_map-append}
 use Rattle.mq_stream.specs.Flow.{AppendsFront}
+use Rattle.mq_stream.proofs.Fronts.{front_first, front_later}
 use Rattle.mq_replay.specs.Lines.{hex_line, hex_lines}
-
--- a prefix of what comes first
-pub front_first : (old new : Option (List ℕ)) (bytes more : List ℕ) → AppendsFront old new bytes → AppendsFront old new (bytes ++ more)
-front_first old new bytes more (front, rest, split, written) = (front, rest ++ more, ap (λ l. l ++ more) split ∙ append_assoc front rest more, written)
-
--- all of what comes first, and a prefix of the rest
-pub front_later : (old mid new : Option (List ℕ)) (bytes more : List ℕ) → Appends old mid bytes → AppendsFront mid new more → AppendsFront old new (bytes ++ more)
-front_later old mid new bytes more before (front, rest, split, written) =
-    (bytes ++ front, rest, ap (λ l. bytes ++ l) split ∙ sym (append_assoc bytes front rest), Appends-trans old mid new bytes front before written)
 
 -- the lines of some connections, then one more, then the rest
 pub lines_around : (done : List (List ℕ)) (bytes : List ℕ) (rest : List (List ℕ)) → hex_lines (done ++ bytes ∷ rest) ≡ (hex_lines done ++ hex_line bytes) ++ hex_lines rest

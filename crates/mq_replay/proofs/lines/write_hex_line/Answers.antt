@@ -1,6 +1,6 @@
 use Rattle.std.proofs.Common.{◌≡◌, [], ◌∷◌, ◌∙◌}
 use Rattle.hex.specs.Hex.{encode_lower}
-use Rattle.mq_replay.proofs.Fronts.{front_first, front_later}
+use Rattle.mq_stream.proofs.Fronts.{front_first, front_later}
 use Rattle.mq_replay.proofs.lines.write_hex_line.Goals as goal
 
 pub returns-in_err-write_whole-clause-front : goal.returns-in_err-write_whole-clause-front
