@@ -15,6 +15,7 @@
   others, and that page says what each of them does. man/mailquota.8 lists the commands, and the
   pages have at most 7,000 words. Each diagnostic of the commands stands in one page, once.
 - Names of code that were given up stand in no source, definition or proof.
+- No lemma or definition of two lines or more stands twice.
 - The program's version is that of CHANGELOG's first release, and of the package.
 - NOTICE lists the kit's libraries in the program.
 
@@ -32,6 +33,7 @@ import tempfile
 sys.dont_write_bytecode = True
 
 import drawing
+import lemmas
 
 TOP = os.path.dirname(os.path.dirname(os.path.dirname(os.path.realpath(__file__))))
 
@@ -39,8 +41,9 @@ SOURCES = ["crates/*/src/**/*.rt"]
 DEFINITIONS = ["crates/*/specs/**/*.antt", "crates/*/proofs/**/*.antt"]
 # The roots of tests say which libraries they call, and crates.txt has them.
 OF_TESTS = ("mq_ends_tests", "mq_store_tests")
-# The crate that only proofs stand on, which front pages needn't name.
+# The crate that only proofs stand on, which front pages needn't name, and what still stands twice, with the crates.
 OF_PROOFS = "mq_lemmas"
+NOT_YET = {"for_order": ["mailquota", "mq_remote"], "ok_not": ["mq_lemmas", "mq_program"], "AreFar": ["mq_nights", "mq_watch"], "latest": ["mq_tables"]}
 
 # Names of code that were given up: what is found, and what is said instead. Of sources and definitions the code alone is read, without
 # comments and texts: a ledger's file has a table `ceiling` and a column `seq`.
@@ -335,6 +338,13 @@ def names(tree):
         yield f"the name {name}", found
 
 
+def standing_twice(tree):
+    """Yields which lemmas and definitions stand in more than one place."""
+    found = lemmas.twice({file: read(tree, file) for file in files(tree, DEFINITIONS)})
+    wrong = [f"{name} stands in {' and '.join(its)}" for name, its in found if NOT_YET.get(name) != sorted({it.split("/")[1] for it in its})]
+    yield "lemmas and definitions", wrong
+
+
 def versions(tree):
     """Yields whether the program, CHANGELOG and the package have one version."""
     places = {VERSION: r'VERSION: &str = "(.*)"', "CHANGELOG": r"\A([^,\n]*),", "debian/changelog": r"\Amailquota \((.*?)\)"}
@@ -349,7 +359,7 @@ def noticed(tree):
     yield "NOTICE", [f"it hasn't {it}" for it in sorted(named - {*re.findall(r"^(\w+) ", read(tree, "NOTICE"), re.MULTILINE)})]
 
 
-CHECKS = [pages, listed, layered, drawn, sent_to, carriers, columns, manual, diagnostics, names, versions, noticed]
+CHECKS = [pages, listed, layered, drawn, sent_to, carriers, columns, manual, diagnostics, names, standing_twice, versions, noticed]
 
 # A tree with nothing wrong, and what each of these changes makes of it: the file, the text there, what takes its place, and the checks that find it.
 TREE = {
@@ -380,6 +390,13 @@ TREE = {
     "crates/mq_high/specs/Done.antt": "-- done\nIsDone n = n ≡ 1\n",
     "crates/mq_lemmas/src/lib.rt": "//! Lemmas. From `mq_lemmas/proofs/Both.antt`:\n//!\n//!     both true = refl\n//!\n//! It stands on no crate of ours. Begin with that.\n",
     "crates/mq_lemmas/proofs/Both.antt": "pub both : (b : Bool) → b ≡ b\nboth true = refl\nboth false = refl\n",
+    # (the same words of other things, and answers to the goals of two functions)
+    "crates/mq_low/proofs/Sound.antt": "use Rattle.mq_low.specs.Low.{Sound}\n\nabbrev Far : Type 0\nFar = Sound\n\nsound : Sound 1\nsound = refl\n\n"
+                                       "far : (x : Far) → x ≡ x\nfar x = refl\n",
+    "crates/mq_high/proofs/Sound.antt": "use Rattle.mq_high.specs.Done.{Sound}\n\nabbrev Far : Type 0\nFar = Sound\n\nsound : Sound 1\nsound = refl\n\n"
+                                        "module _ (n : ℕ) where\n  far : (x : Far) → x ≡ x\n  far x = refl\n",
+    "crates/mq_high/proofs/call/Answers.antt": "use Rattle.mq_high.proofs.call.Goals as goal\n\nreturns : goal.returns\nreturns c = refl\n",
+    "crates/mq_low/proofs/low/Answers.antt": "use Rattle.mq_low.proofs.low.Goals as goal\n\nreturns : goal.returns\nreturns c = refl\n",
 }
 WRONG = [
     ("crates/mq_low/src/lib.rt", "//!     low(1)", "//!     low(2)", pages),
@@ -430,6 +447,10 @@ WRONG = [
     ("crates/mq_high/src/lib.rt", "pub fn call(", "use crate::faults;\npub fn call(", names),
     ("crates/mq_high/specs/Done.antt", "IsDone n", "use Low.{Done as ADone}\nIsDone n", names),
     ("crates/mq_lemmas/src/lib.rt", "both true", "both so", pages),
+    ("crates/mq_low/proofs/Sound.antt", "far : ", "both : (b : Bool) → b ≡ b\nboth true = refl\nboth false =\n    refl\n\nfar : ", standing_twice),
+    ("crates/mq_low/proofs/Sound.antt", "mq_low.specs.Low", "mq_high.specs.Done", standing_twice),
+    ("crates/mq_low/proofs/Sound.antt", "far x = refl", "far x = refl\n\nmodule _ (n : ℕ) where\n  far : (x : Far) → x ≡ x\n  far x = refl", standing_twice),
+    ("crates/mq_low/proofs/low/Answers.antt", "mq_low.proofs.low", "mq_high.proofs.call", standing_twice),
 ]
 
 
