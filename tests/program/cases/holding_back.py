@@ -131,6 +131,9 @@ def closings(world, checks):
     output, heard, log, _ = scripted(world, text, [GRANTED, SILENCE, numbered(SETTLED, 3)], tries=1, timeout=300, pause=30)
     checks.equal("a commit in a pause: the lines", output, answer(PROCEED) + answer(SERVICE, session=BOB))
     checks.equal("a commit in a pause: how many frames, the kind of the last", (len(heard), heard[-1][2]), (3, 2))
+    log = scripted(world, text, [GRANTED, SILENCE, numbered(SETTLED, 3)], tries=1, timeout=300, pause=30, log="info")[2]
+    unanswered = f"[INFO  mq_client::tries] reserve 2 of transaction 2 (host mx1, session {BOB.decode()}, login bob): no answer in 1 tries"
+    checks.equal('a commit in a pause, with log = "info": the lines of requests', [line for line in log if "tries]" in line], [unanswered])
     output, heard, log, _ = scripted(world, text, [GRANTED, SILENCE, b"", b""], tries=1, timeout=300, pause=30)
     checks.equal("a commit in a pause is sent at the end alone: the kinds of the frames", [it[2] for it in heard], [1, 1, 2])
     output, heard, log, _ = scripted(world, INPUT + bob + COMMIT + at(of_session(RCPT, BOB), 1_576_146_011), [GRANTED, SILENCE, SETTLED], tries=1, timeout=300, pause=30)

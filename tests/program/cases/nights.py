@@ -67,6 +67,7 @@ def run(world, checks):
     again_in_an_hour(world, checks)
     on_the_disk_in_order(world, checks)
     beside_a_renewal(world, checks)
+    a_new_file_that_is_removed(world, checks)
     killed_at_a_rename(world, checks)
     killed_at_a_change(world, checks)
     wrong_clocks(world, checks)
@@ -165,13 +166,13 @@ NOTED = ["", "-wal", ".night", ".old"]
 
 
 def a_new_ledger(world, checks):
-    """Its start says how long it took, and what is kept."""
+    """Its start says how long it took, what is kept, and by --endless that it serves any number of connections."""
     path = f"{world.folder}/new"
-    with nightly(world, path, words=["--create"]) as server:
+    with nightly(world, path, words=["--create", "--endless"], connections=0) as server:
         lines = server.log_lines()
         wanted = [
             begun(path, default=DEFAULT), f"[INFO  mq_program::nights] ledger {path}: keeps {KEEP} days before today",
-            f"[INFO  mq_program::nights] listening on {server.listen} for 1000000 connections",
+            f"[INFO  mq_program::nights] listening on {server.listen} for any number of connections",
         ]
         checks.equal("a new ledger: the log, and that it has the time of the start", (without_time(lines), bool(OPENED_IN.search(lines[0]))), (wanted, True))
 
@@ -622,7 +623,8 @@ def beside_a_renewal(world, checks):
 
 
 def notes_of_nights(world, checks):
-    """The note of a night has today's number by the ledger's zone, where that isn't UTC's, and as long a time as the log. One that can't be written is logged."""
+    """The note of a night has today's number by the ledger's zone, where that isn't UTC's, and as long a time as the log. One that can't be written is
+    logged, and so is a log that can't be removed, which would stand beside the former ledger."""
     offset = 720 if int(time.time()) % DAY >= DAY // 2 else -720
     wait_past_midnight(offset)
     wait_past_midnight(offset - 180)
@@ -635,13 +637,15 @@ def notes_of_nights(world, checks):
             assert len(asked(server, frames)) == len(frames)
         if is_folder:
             os.mkdir(f"{path}.night")
+            os.mkdir(f"{path}.old-wal")
         with nightly(world, path, offset=offset) as server:
             good = wait_until(lambda: is_through(server) and os.path.exists(f"{path}.night") and os.path.getsize(f"{path}.night"))
             lines = server.all_log_lines()
             said = next((it for line in lines if (it := re.search(r"the days before (\d+) are forgotten, in (\d+ ms), the last \d+ ms", line))), None)
             checks.holds(f"{what}: the log", good and said and int(said[1]) == first, f"the days before {first}", lines)
             if is_folder:
-                wanted = [f"[WARN  mq_program::last_night] {path}.night: Is a directory (os error 21)"]
+                why = "Is a directory (os error 21)"
+                wanted = [f"[WARN  mq_program::switching] {path}.old-wal: {why}", f"[WARN  mq_program::last_night] {path}.night: {why}"]
                 checks.holds(f"{what}: why", wait_until(lambda: [line for line in server.all_log_lines() if line.startswith("[WARN")] == wanted), wanted, server.all_log_lines()[-2:])
             else:
                 with open(f"{path}.night", encoding="ascii") as file:
@@ -685,6 +689,19 @@ def warns_once_over_a_night(world, checks):
         lines = [line.partition(": login ")[2] for line in server.all_log_lines() if ": login near " in line]
         wanted = f"near has used 800 of its limit of {DEFAULT} on day {day}"
         checks.equal(f"{what}: the log", (good, len(came), lines), (True, 1, [wanted]))
+
+
+def a_new_file_that_is_removed(world, checks):
+    """Somebody removes the new file while it is filled: the server ends, and the ledger is what it was."""
+    what, path = "a new file that was removed", f"{world.folder}/removed"
+    books = filled(world, path, MANY)
+    with nightly(world, path) as server:
+        good = wait_until(lambda: os.path.exists(f"{path}.part-wal"))
+        os.remove(f"{path}.part")
+        ended = server.status(), [line for line in server.log_lines() if not line.startswith("[INFO")]
+    wanted = [of_store(f"{path}.part", "it was removed").rstrip("\n"), f"mailquota: {NOT_OPENED}"]
+    checks.equal(f"{what}: the end", (good, ended), (True, (1, wanted)))
+    checks.equal(f"{what}: audit", audit(world, path, default=DEFAULT), sound(books))
 
 
 class Client(threading.Thread):
