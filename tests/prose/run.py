@@ -43,7 +43,7 @@ DEFINITIONS = ["crates/*/specs/**/*.antt", "crates/*/proofs/**/*.antt"]
 OF_TESTS = ("mq_ends_tests", "mq_store_tests")
 # The crate that only proofs stand on, which front pages needn't name, and what still stands twice, with the crates.
 OF_PROOFS = "mq_lemmas"
-NOT_YET = {"for_order": ["mailquota", "mq_remote"], "ok_not": ["mq_lemmas", "mq_program"], "AreFar": ["mq_nights", "mq_watch"], "latest": ["mq_tables"]}
+NOT_YET = {}
 
 # Names of code that were given up: what is found, and what is said instead. Of sources and definitions the code alone is read, without
 # comments and texts: a ledger's file has a table `ceiling` and a column `seq`.

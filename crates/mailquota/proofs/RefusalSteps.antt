@@ -14,6 +14,7 @@ use Rattle.mq_process.specs.Faults.{process_status}
 use Rattle.mq_process.specs.Refusals.{NamesLogin, OrderRefuses, ProbeRefuses, ReportRefuses, RetireRefuses}
 use Rattle.mq_process.specs.declared.fault.ProcessFault.{ProcessFault}
 use Rattle.mq_process.specs.declared.fault.ProcessFault.TheVariants.{Host, Login, Address}
+use Rattle.mq_remote.proofs.RefusalSteps.{for_order}
 use Rattle.mq_program.specs.Faults.{fault_status}
 use Rattle.mq_program.specs.Refusals.{IsRuleAlone, ReplayRefuses}
 use Rattle.mq_program.specs.declared.fault.ProgramFault.{ProgramFault}
@@ -43,14 +44,6 @@ for_probe : (given : ProbeArguments) (A B : ProcessFault → Type 0) → ((fault
 for_probe given A B step refuses = record {
   bad_host = for_text given.host _ _ refuses.bad_host (λ text ends no. step Host (ends no));
   bad_address = λ host no. step Address (refuses.bad_address host no);
-}
-
--- another way to say how an order about a login ends
-for_order : (host : List ℕ) (login : LoginArgument) (servers : List (List ℕ)) (A B : ProcessFault → Type 0) → ((fault : ProcessFault) → A fault → B fault) → OrderRefuses host login servers A → OrderRefuses host login servers B
-for_order host login servers A B step refuses = record {
-  bad_host = λ no. step Host (refuses.bad_host no);
-  bad_login = λ is no. step Login (refuses.bad_login is no);
-  bad_address = λ is names no. step Address (refuses.bad_address is names no);
 }
 
 -- another way to say how a retire ends

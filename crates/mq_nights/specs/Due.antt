@@ -1,5 +1,5 @@
 -- Which days are due to be forgotten.
-use Rattle.std.specs.Prelude.{◌≡◌, ℕ, Bool, List, Option, Some, None, ◌+◌, ◌-◌, ◌<◌, ◌⊎◌, ◌||◌, min, max, nat_lt, if◌then◌else◌}
+use Rattle.std.specs.Prelude.{◌≡◌, ℕ, Bool, List, Option, Some, None, ◌+◌, ◌-◌, ◌||◌, min, max, nat_lt, if◌then◌else◌}
 use Rattle.mq_request.specs.declared.bounds.TheConstants.{FIRST_MOMENT}
 use Rattle.mq_ledger.specs.Day.{Days, day_of}
 use Rattle.mq_ledger.specs.Legal.{Book}
@@ -13,11 +13,7 @@ use Rattle.mq_nights.specs.declared.due.Due.TheVariants.{Nothing, Differs, Befor
 abbrev pub night_of : Days → ℕ → ℕ
 night_of zone moment = day_of zone (max (moment - 10800) FIRST_MOMENT)
 
--- days with at least one day between them
-abbrev pub AreFar : ℕ → ℕ → Type 0
-AreFar day today = (day + 1 < today) ⊎ (today + 1 < day)
-
--- the same as a test that computes
+-- whether there is at least one day between days
 abbrev pub are_far : ℕ → ℕ → Bool
 are_far day today = nat_lt (day + 1) today || nat_lt (today + 1) day
 

@@ -2,7 +2,8 @@
 ghost use Rattle.std.specs.Prelude.{◌≡◌, ◌+◌, ◌<◌, ◌≤◌, ◌↔◌, ℕ, Some, IsTrue};
 ghost use Rattle.mq_request.specs.Range.{IsMoment};
 ghost use Rattle.mq_store.specs.declared.days.ReservedDays.{ReservedDays as AnyDays};
-ghost use Rattle.mq_nights.specs.Due.{AreFar, due_by, night_of, what_is_due};
+ghost use Rattle.mq_watch.specs.Hours.{AreFar};
+ghost use Rattle.mq_nights.specs.Due.{due_by, night_of, what_is_due};
 
 use mq_ledger::Zone;
 use mq_request::bounds::FIRST_MOMENT;

@@ -1,5 +1,6 @@
 -- The end of a serving, as the program reports it.
 use Rattle.std.proofs.Common.{◌≡◌, ◌∙◌, ℕ, Result, Ok, Err, sym}
+use Rattle.mq_lemmas.proofs.Options.{ok_not}
 use Rattle.mq_connections.specs.declared.fault.RoomFault.{RoomFault}
 use Rattle.mq_connections.specs.declared.fault.RoomFault.TheVariants.{Store}
 use Rattle.mq_connections.specs.Sessions.{EndsServing, Outside}
@@ -17,9 +18,6 @@ ends_as old new store r failed q e to back = record {
   at = e.at;
   offered = e.offered;
 }
-
-ok_not : {A E : Type 0} (x : A) (e : E) → Ok x ≡ Err e → ⊥
-ok_not x e is = cc
 
 listen_not : {A : Type 0} (q : Result A ProgramFault) → q ≡ Err Listen → q ≡ Err (Serve Store) → ⊥
 listen_not q listen is = cc

@@ -11,7 +11,7 @@ use Rattle.mq_process.specs.declared.fault.ProcessFault.{ProcessFault}
 use Rattle.mq_process.specs.declared.fault.ProcessFault.TheVariants.{Host, Login, Address}
 
 -- another way to say how an order ends
-for_order : (host : List ℕ) (login : LoginArgument) (servers : List (List ℕ)) (A B : ProcessFault → Type 0) → ((fault : ProcessFault) → A fault → B fault)
+pub for_order : (host : List ℕ) (login : LoginArgument) (servers : List (List ℕ)) (A B : ProcessFault → Type 0) → ((fault : ProcessFault) → A fault → B fault)
     → OrderRefuses host login servers A → OrderRefuses host login servers B
 for_order host login servers A B step refuses = record {
   bad_host = λ no. step Host (refuses.bad_host no);

@@ -24,7 +24,7 @@ has_contains (y ∷ ys) x (inr more) = let it = has_contains ys x more in (suc i
 abbrev pub latest_text : List ℕ
 latest_text = codes "SELECT day, cap FROM ceiling WHERE login = ?1 AND day <= ?2 ORDER BY day DESC LIMIT 1"
 
-abbrev latest : Sorting
+abbrev pub latest : Sorting
 latest = record { column = field (codes "day") 1; descending = true }
 
 abbrev pub latest_shape : SelectShape

@@ -12,7 +12,7 @@ use Rattle.mq_tables.proofs.SelectShape.{SelectShape, Sorting, IsSelect, filter_
 use Rattle.mq_tables.proofs.Parts.{usage_part}
 use Rattle.mq_tables.proofs.Selected.{Finding, pass, finds_first}
 use Rattle.mq_tables.proofs.TermShape.{field}
-use Rattle.mq_tables.proofs.governing.Governing.{not_later, then_nothing}
+use Rattle.mq_tables.proofs.governing.Governing.{latest, not_later, then_nothing}
 
 abbrev pub oldest_text : List ℕ
 oldest_text = codes "SELECT day FROM usage ORDER BY day LIMIT 1"
@@ -22,9 +22,6 @@ newest_text = codes "SELECT day FROM usage ORDER BY day DESC LIMIT 1"
 
 abbrev earliest : Sorting
 earliest = record { column = field (codes "day") 1; descending = false }
-
-abbrev latest : Sorting
-latest = record { column = field (codes "day") 1; descending = true }
 
 abbrev shape_by : Sorting → SelectShape
 shape_by by = record {
