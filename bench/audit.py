@@ -28,7 +28,9 @@ COMPILER = ["c++", "-O2", "-std=c++17"]
 
 
 class Run(NamedTuple):
-    """Seconds by the clock and of a processor, the most kilobytes, and those once a server listens."""
+    """Seconds by the clock and of a processor, the most kilobytes, and those once a server
+    listens."""
+
     took: float
     worked: float
     most: int = 0
@@ -47,7 +49,10 @@ def alone(place):
 
 def built_twin(folder):
     program = f"{folder}/audit_twin"
-    subprocess.run([*COMPILER, "-o", program, Path(__file__).parent / "audit_twin.cpp", "-lsqlite3"], check=True)
+    subprocess.run(
+        [*COMPILER, "-o", program, Path(__file__).parent / "audit_twin.cpp", "-lsqlite3"],
+        check=True,
+    )
     return program
 
 
@@ -82,7 +87,9 @@ def audited(command, wanted):
 def started(program, config, port):
     """A server until it takes a connection; its work is that of its whole run."""
     began = time.monotonic()
-    process = subprocess.Popen([program, "server", "--config", config, "--connections", "1"], stderr=subprocess.DEVNULL)
+    process = subprocess.Popen(
+        [program, "server", "--config", config, "--connections", "1"], stderr=subprocess.DEVNULL
+    )
     while True:
         try:
             with socket.create_connection(("127.0.0.1", port)):
@@ -116,23 +123,50 @@ def measure(program, twin, windows, folder, answers, what, login_and_day):
     for _ in range(windows):
         for name, way in ways.items():
             runs[name].append(way())
-    print(f"{answers} answers, {what}, {os.path.getsize(path) / 1e6:.0f} MB, load {os.getloadavg()[0]:.1f}:")
+    print(
+        f"{answers} answers, {what}, {os.path.getsize(path) / 1e6:.0f} MB, load"
+        f" {os.getloadavg()[0]:.1f}:"
+    )
     for name, of_name in runs.items():
         run = medians(of_name)
         memory = ", then ".join(f"{it / 1024:.0f} MB" for it in (run.most, run.left) if it)
-        print(f"  {name:16} {run.took:7.2f} s, {run.worked:7.2f} s of a processor, {run.worked / answers * 1e6:5.1f} us an answer  {memory}", flush=True)
+        print(
+            (
+                f"  {name:16} {run.took:7.2f} s, {run.worked:7.2f} s of a processor,"
+                f" {run.worked / answers * 1e6:5.1f} us an answer  {memory}"
+            ),
+            flush=True,
+        )
     os.unlink(path)
 
 
 def main():
-    parser = argparse.ArgumentParser(description=__doc__, formatter_class=argparse.RawDescriptionHelpFormatter)
-    parser.add_argument("--windows", metavar="N", type=int, default=5, help="how often each runs, by default %(default)s times")
+    parser = argparse.ArgumentParser(
+        description=__doc__, formatter_class=argparse.RawDescriptionHelpFormatter
+    )
+    parser.add_argument(
+        "--windows",
+        metavar="N",
+        type=int,
+        default=5,
+        help="how often each runs, by default %(default)s times",
+    )
     parser.add_argument("program", metavar="PROGRAM", type=os.path.abspath)
-    parser.add_argument("answers", metavar="ANSWERS", type=int, nargs="*", default=[10_000, 100_000, 1_000_000], help="how many answers a file has, by default %(default)s")
+    parser.add_argument(
+        "answers",
+        metavar="ANSWERS",
+        type=int,
+        nargs="*",
+        default=[10_000, 100_000, 1_000_000],
+        help="how many answers a file has, by default %(default)s",
+    )
     given = parser.parse_args()
     with tempfile.TemporaryDirectory() as folder:
         twin = built_twin(folder)
-        for what, login_and_day in (("ten of a login and day", shared), ("each of a login of its own", alone)):
+        for what, login_and_day in (
+            ("ten of a login and day", shared),
+            ("each of a login of its own", alone),
+        ):
             for answers in given.answers:
                 measure(given.program, twin, given.windows, folder, answers, what, login_and_day)
 

@@ -48,15 +48,29 @@ def unanswered(work):
 
 
 def main():
-    parser = argparse.ArgumentParser(description=__doc__, formatter_class=argparse.RawDescriptionHelpFormatter)
+    parser = argparse.ArgumentParser(
+        description=__doc__, formatter_class=argparse.RawDescriptionHelpFormatter
+    )
     parser.add_argument("program", metavar="PROGRAM", type=os.path.abspath)
-    parser.add_argument("connections", metavar="CONNECTIONS", type=int, nargs="?", default=3_000_000, help="by default %(default)s")
+    parser.add_argument(
+        "connections",
+        metavar="CONNECTIONS",
+        type=int,
+        nargs="?",
+        default=3_000_000,
+        help="by default %(default)s",
+    )
     asked = parser.parse_args()
     piece = asked.connections // TENTHS
     with tempfile.TemporaryDirectory() as folder, multiprocessing.Pool(CLIENTS) as clients:
         words = ["--create", "--endless"]
-        with Server(World(asked.program, folder), connections=0, words=words, store=f"{folder}/ledger",
-                    default=1_000_000) as server:
+        with Server(
+            World(asked.program, folder),
+            connections=0,
+            words=words,
+            store=f"{folder}/ledger",
+            default=1_000_000,
+        ) as server:
             assert is_answered(server.port, 1), "the first request isn't answered"
             lost, began = 0, time.monotonic()
             print(f"after the first: {kilobytes(server.process, 'VmRSS'):,} KiB", flush=True)
@@ -64,10 +78,15 @@ def main():
                 numbers = range(1 + tenth * piece, 1 + (tenth + 1) * piece)
                 work = [(server.port, numbers[client::CLIENTS]) for client in range(CLIENTS)]
                 lost += sum(clients.map(unanswered, work))
-                print(f"after {numbers[-1]:,}: {kilobytes(server.process, 'VmRSS'):,} KiB, at most "
-                      f"{kilobytes(server.process, 'VmHWM'):,}; without an answer {lost}; "
-                      f"{time.monotonic() - began:.0f} s, of a processor "
-                      f"{processor_time(server.process):.0f} s", flush=True)
+                print(
+                    (
+                        f"after {numbers[-1]:,}: {kilobytes(server.process, 'VmRSS'):,} KiB, at"
+                        f" most {kilobytes(server.process, 'VmHWM'):,}; without an answer {lost};"
+                        f" {time.monotonic() - began:.0f} s, of a processor"
+                        f" {processor_time(server.process):.0f} s"
+                    ),
+                    flush=True,
+                )
             assert server.process.poll() is None, "the server ended"
 
 

@@ -1,11 +1,14 @@
-"""Database files of many answers, as a server leaves them, with the tables and rows that docs/STORE.md has."""
+"""Database files of many answers, as a server leaves them, with the tables and rows that
+docs/STORE.md has."""
 import collections
 import os
 import sqlite3
 import sys
 from typing import NamedTuple
 
-sys.path.insert(0, os.path.join(os.path.dirname(os.path.realpath(__file__)), "..", "tests", "program"))
+sys.path.insert(
+    0, os.path.join(os.path.dirname(os.path.realpath(__file__)), "..", "tests", "program")
+)
 
 import wire
 
@@ -26,7 +29,8 @@ DAY = 86_400
 
 
 def write(path, answers, login_and_day):
-    """A file of so many answers, each a reserve of one recipient in a transaction of its own, of this login and day by its place.
+    """A file of so many answers, each a reserve of one recipient in a transaction of its own, of
+    this login and day by its place.
 
     Gives the number of days of logins.
     """
@@ -38,7 +42,10 @@ def write(path, answers, login_and_day):
         base.executemany("INSERT INTO answer VALUES (?, ?, 1, ?, ?, ?)", rows)
         rows = (trans_row(place, *login_and_day(place)) for place in range(answers))
         base.executemany("INSERT INTO trans VALUES (?, 1, ?, ?, ?, ?, 1, 0, 0)", rows)
-        base.executemany("INSERT INTO usage VALUES (?, ?, 0, ?)", ((*pair, count) for pair, count in used.items()))
+        base.executemany(
+            "INSERT INTO usage VALUES (?, ?, 0, ?)",
+            ((*pair, count) for pair, count in used.items()),
+        )
     base.close()
     return len(used)
 
@@ -56,6 +63,7 @@ def trans_row(place, login, day):
 
 class Message(NamedTuple):
     """A message of one recipient, which is settled or still open."""
+
     host: bytes
     login: bytes
     day: int
@@ -70,8 +78,19 @@ def write_messages(path, messages):
         base.executescript(TABLES)
         rows = rows_of_messages(messages, used, places)
         base.executemany("INSERT INTO answer VALUES (?, ?, 1, ?, ?, ?)", rows)
-        rows = ((it.host, n, it.login, it.day * DAY, it.day, not it.is_settled, it.is_settled,
-                 it.is_settled) for n, it in places)
+        rows = (
+            (
+                it.host,
+                n,
+                it.login,
+                it.day * DAY,
+                it.day,
+                not it.is_settled,
+                it.is_settled,
+                it.is_settled,
+            )
+            for n, it in places
+        )
         base.executemany("INSERT INTO trans VALUES (?, 1, ?, ?, ?, ?, ?, ?, ?)", rows)
         settled = collections.Counter((it.login, it.day) for _, it in places if it.is_settled)
         rows = ((*pair, settled[pair], count - settled[pair]) for pair, count in used.items())
@@ -101,5 +120,7 @@ def settings(folder, path, port):
     """The path of a server's settings for such a file."""
     name = f"{folder}/settings.toml"
     with open(name, "w", encoding="utf-8") as file:
-        file.write(f'listen = "127.0.0.1:{port}"\nstore = "{path}"\ndefault = {DEFAULT}\noffset = 0\n')
+        file.write(
+            f'listen = "127.0.0.1:{port}"\nstore = "{path}"\ndefault = {DEFAULT}\noffset = 0\n'
+        )
     return name

@@ -1,6 +1,6 @@
 #!/usr/bin/env python3
-"""Times `mailquota forget`, which keeps half of a file's answers, and the start of a server over the
-old file and over the new one, with their memory.
+"""Times `mailquota forget`, which keeps half of a file's answers, and the start of a server over
+the old file and over the new one, with their memory.
 
 Each answer is a reserve of one recipient in a transaction of its own; ten of them share a login and
 day, and each login has ten days. The files lie in a folder of TMPDIR. The machine's load stands
@@ -46,16 +46,32 @@ def measure(program, folder, answers):
     # (one name holds settings at a time)
     after = started(program, filled.settings(folder, into, port), port)
     sizes = " and ".join(f"{os.path.getsize(it) / 1e6:.0f} MB" for it in (path, into))
-    print(f"{answers} answers, half of them kept, {sizes}: forget {took:.1f} s, of a processor {worked:.1f} s, {worked / answers * 2e6:.0f} us an answer that is kept, {most} MB; "
-          f"start over the old file {before:.2f} s, over the new one {after.took:.2f} s and {after.most // 1024} MB", flush=True)
+    print(
+        (
+            f"{answers} answers, half of them kept, {sizes}: forget {took:.1f} s, of a processor"
+            f" {worked:.1f} s, {worked / answers * 2e6:.0f} us an answer that is kept, {most} MB;"
+            f" start over the old file {before:.2f} s, over the new one {after.took:.2f} s and"
+            f" {after.most // 1024} MB"
+        ),
+        flush=True,
+    )
     for it in (path, into):
         os.unlink(it)
 
 
 def main():
-    parser = argparse.ArgumentParser(description=__doc__, formatter_class=argparse.RawDescriptionHelpFormatter)
+    parser = argparse.ArgumentParser(
+        description=__doc__, formatter_class=argparse.RawDescriptionHelpFormatter
+    )
     parser.add_argument("program", metavar="PROGRAM", type=os.path.abspath)
-    parser.add_argument("answers", metavar="ANSWERS", type=int, nargs="*", default=[10_000, 100_000, 1_000_000], help="how many answers a file has, by default %(default)s")
+    parser.add_argument(
+        "answers",
+        metavar="ANSWERS",
+        type=int,
+        nargs="*",
+        default=[10_000, 100_000, 1_000_000],
+        help="how many answers a file has, by default %(default)s",
+    )
     asked = parser.parse_args()
     print(f"{os.cpu_count()} processors, load of {os.getloadavg()[0]:.1f}")
     with tempfile.TemporaryDirectory() as folder:

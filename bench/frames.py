@@ -6,7 +6,13 @@ def id_of(sequence):
 
 
 def reserve(sequence, transaction, login, day=1, count=1):
-    fields = f"{transaction:08x}" + f"{86_400 * day:016x}" + f"{len(login):02x}" + login.encode().hex() + f"{count:08x}"
+    fields = (
+        f"{transaction:08x}"
+        + f"{86_400 * day:016x}"
+        + f"{len(login):02x}"
+        + login.encode().hex()
+        + f"{count:08x}"
+    )
     body = "01" + id_of(sequence) + fields
     return f"{len(body) // 2:04x}" + body
 

@@ -1,10 +1,10 @@
 #!/usr/bin/env python3
-"""Resident memory of a filter that is fed lines for a long time, and of a server on one connection of
-many frames.
+"""Resident memory of a filter that is fed lines for a long time, and of a server on one connection
+of many frames.
 
-The filter is fed so many megabytes of lines that ask the server nothing, and the server 9,999 frames
-that its ledger doesn't keep. Of each it prints the resident memory after the first answer and after
-the last one, and its highest.
+The filter is fed so many megabytes of lines that ask the server nothing, and the server 9,999
+frames that its ledger doesn't keep. Of each it prints the resident memory after the first answer
+and after the last one, and its highest.
 """
 import argparse
 import re
@@ -30,21 +30,31 @@ def resident(process):
 
 
 def tell(what, first, last, highest):
-    print(f"{what}: {first:,} KiB after the first answer, {last:,} KiB after the last, {highest:,} KiB at most")
+    print(
+        f"{what}: {first:,} KiB after the first answer, {last:,} KiB after the last,"
+        f" {highest:,} KiB at most"
+    )
 
 
 def lines_of(session):
     """A mail of a session without login: an answer comes without the server."""
     s, stamp = f"{session:016x}", "1795329219.000000"
-    return (f"report|0.7|{stamp}|smtp-in|tx-begin|{s}|{session:08x}\n"
-            + "".join(f"filter|0.7|{stamp}|smtp-in|rcpt-to|{s}|{k:016x}|r{k}@example.test\n" for k in range(20))
-            + f"report|0.7|{stamp}|smtp-in|tx-commit|{s}|{session:08x}|1200\nreport|0.7|{stamp}|smtp-in|link-disconnect|{s}\n").encode()
+    return (
+        f"report|0.7|{stamp}|smtp-in|tx-begin|{s}|{session:08x}\n"
+        + "".join(
+            f"filter|0.7|{stamp}|smtp-in|rcpt-to|{s}|{k:016x}|r{k}@example.test\n"
+            for k in range(20)
+        )
+        + f"report|0.7|{stamp}|smtp-in|tx-commit|{s}|{session:08x}|1200\nreport|0.7|{stamp}|smtp-in|link-disconnect|{s}\n"
+    ).encode()
 
 
 def measure_filter(program, folder, megabytes):
     settings = Path(folder) / "filter.toml"
     settings.write_text('host = "mx1"\nserver = "127.0.0.1:1"\n')
-    filter_ = subprocess.Popen([program, "filter", "--config", settings], stdin=subprocess.PIPE, stdout=subprocess.PIPE)
+    filter_ = subprocess.Popen(
+        [program, "filter", "--config", settings], stdin=subprocess.PIPE, stdout=subprocess.PIPE
+    )
     filter_.stdin.write(b"config|ready\n" + lines_of(1))
     filter_.stdin.flush()
     answers = iter(filter_.stdout.readline, b"")
@@ -71,8 +81,13 @@ def measure_server(program, folder):
         probe.bind(("127.0.0.1", 0))
         port = probe.getsockname()[1]
     settings = Path(folder) / "server.toml"
-    settings.write_text(f'listen = "127.0.0.1:{port}"\nstore = "memory"\ndefault = 3\noffset = 0\ntimeout = 60000\nlog = "info"\n')
-    server = subprocess.Popen([program, "server", "--config", settings, "--connections", "1"], stderr=subprocess.PIPE)
+    settings.write_text(
+        f'listen = "127.0.0.1:{port}"\nstore = "memory"\ndefault = 3\noffset = 0\ntimeout ='
+        ' 60000\nlog = "info"\n'
+    )
+    server = subprocess.Popen(
+        [program, "server", "--config", settings, "--connections", "1"], stderr=subprocess.PIPE
+    )
     server.stderr.readline()
     with socket.create_connection(("127.0.0.1", port)) as peer, peer.makefile("rb") as replies:
         peer.sendall(FRAME)
@@ -89,9 +104,18 @@ def measure_server(program, folder):
 
 
 def main():
-    parser = argparse.ArgumentParser(description=__doc__, formatter_class=argparse.RawDescriptionHelpFormatter)
+    parser = argparse.ArgumentParser(
+        description=__doc__, formatter_class=argparse.RawDescriptionHelpFormatter
+    )
     parser.add_argument("program", metavar="PROGRAM")
-    parser.add_argument("megabytes", metavar="MEGABYTES", type=int, nargs="?", default=1_000, help="by default %(default)s")
+    parser.add_argument(
+        "megabytes",
+        metavar="MEGABYTES",
+        type=int,
+        nargs="?",
+        default=1_000,
+        help="by default %(default)s",
+    )
     asked = parser.parse_args()
     with tempfile.TemporaryDirectory() as folder:
         measure_filter(asked.program, folder, asked.megabytes)

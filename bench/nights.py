@@ -2,8 +2,8 @@
 """Times what a server with `keep` answers while it forgets days: how long any request waits, and
 what it takes of a processor.
 
-Over a file of so many logins, each with a message on one of three days; three tenths are of one host
-and settled. The server keeps these days, by a clock of the tests.
+Over a file of so many logins, each with a message on one of three days; three tenths are of one
+host and settled. The server keeps these days, by a clock of the tests.
 
     requests    the look for days that are due, at a start and at 03:00, and each kind of request
     retire      the run of that host, six tenths of an answer a login, and that of the other one
@@ -74,8 +74,10 @@ class Times:
         order = sorted(self.taken)
         by_clock = [statistics.median(order), order[len(order) * 99 // 100], *order[:-4:-1]]
         worked = [statistics.median(self.worked), max(self.worked)]
-        return (f"{len(order)}, median, 99% and the slowest three {' '.join(map(shown, by_clock))}"
-                f" ms; of a processor, median and slowest, {' '.join(map(shown, worked))} ms")
+        return (
+            f"{len(order)}, median, 99% and the slowest three {' '.join(map(shown, by_clock))}"
+            f" ms; of a processor, median and slowest, {' '.join(map(shown, worked))} ms"
+        )
 
 
 class Peer:
@@ -132,7 +134,7 @@ class Peer:
         body = self.ask(frame)
         taken = time.monotonic() - began
         times.add(taken, seconds_of_processor(self.server.process) - before)
-        assert body[0] not in (0x8d, 0x8e), "a request is refused"
+        assert body[0] not in (0x8D, 0x8E), "a request is refused"
         return taken
 
     def many(self, kind, count=EACH):
@@ -148,8 +150,14 @@ class Night:
     def __init__(self, world, source):
         self.path = copied(source, f"{world.folder}/served")
         ahead, began = int(TODAY * filled.DAY + BEFORE - time.time()), time.monotonic()
-        self.server = Server(world, store=self.path, default=filled.DEFAULT, keep=KEEP, log="info",
-                             limit=clocks.limit(ahead))
+        self.server = Server(
+            world,
+            store=self.path,
+            default=filled.DEFAULT,
+            keep=KEEP,
+            log="info",
+            limit=clocks.limit(ahead),
+        )
         while not self.server.port and self.server.process.poll() is None:
             self.server.port = wait_for_listener(self.server.process)
         self.took = time.monotonic() - began
@@ -201,9 +209,13 @@ def retire(world, source, logins):
         for host, answers in ((HOST, 2 * settled), (OTHER, logins - settled)):
             times = Times()
             peer.timed(wire.retire(1, host=host, run=2), times)
-            print(f"  a retire of {answers:,} answers: {times.taken[0]:.2f} s, of a processor "
-                  f"{times.worked[0]:.2f} s, {times.worked[0] / answers * 1e6:.1f} us an answer",
-                  flush=True)
+            print(
+                (
+                    f"  a retire of {answers:,} answers: {times.taken[0]:.2f} s, of a processor "
+                    f"{times.worked[0]:.2f} s, {times.worked[0] / answers * 1e6:.1f} us an answer"
+                ),
+                flush=True,
+            )
 
 
 def retired(world, source, logins):
@@ -244,11 +256,23 @@ PARTS = {"requests": requests, "retire": retire, "renewal": renewal, "retired": 
 
 
 def main():
-    parser = argparse.ArgumentParser(description=__doc__, formatter_class=argparse.RawDescriptionHelpFormatter)
+    parser = argparse.ArgumentParser(
+        description=__doc__, formatter_class=argparse.RawDescriptionHelpFormatter
+    )
     parser.add_argument("program", metavar="PROGRAM", type=os.path.abspath)
-    parser.add_argument("--logins", metavar="LOGINS", type=int, default=1_000_000, help="by default %(default)s")
-    parser.add_argument("--file", metavar="FILE", help="the file to begin with, which is made where there is none")
-    parser.add_argument("parts", metavar="PART", nargs="*", default=list(PARTS), help="one of those above, by default each")
+    parser.add_argument(
+        "--logins", metavar="LOGINS", type=int, default=1_000_000, help="by default %(default)s"
+    )
+    parser.add_argument(
+        "--file", metavar="FILE", help="the file to begin with, which is made where there is none"
+    )
+    parser.add_argument(
+        "parts",
+        metavar="PART",
+        nargs="*",
+        default=list(PARTS),
+        help="one of those above, by default each",
+    )
     asked = parser.parse_intermixed_args()
     if not {*asked.parts} <= {*PARTS}:
         parser.error(f"a part is one of {', '.join(PARTS)}")

@@ -53,7 +53,15 @@ class Asker:
     def ask(self, number):
         sender = {"host": b"asker", "run": self.run}
         with socket.create_connection(("127.0.0.1", self.port), timeout=SECONDS) as peer:
-            peer.sendall(wire.reserve(number, txn=number, login=b"asker%d.%d" % (self.run, number // 1_000), at=3 * filled.DAY, **sender))
+            peer.sendall(
+                wire.reserve(
+                    number,
+                    txn=number,
+                    login=b"asker%d.%d" % (self.run, number // 1_000),
+                    at=3 * filled.DAY,
+                    **sender,
+                )
+            )
             send_no_more(peer)
             reply = read_all(peer)
         assert reply[2:3] == b"\x81", f"answered {reply.hex()}"
@@ -62,7 +70,9 @@ class Asker:
 def reported(program, port, day):
     """Seconds of a report, how many lines it has, and what it says on standard error."""
     began = time.monotonic()
-    report = subprocess.run([program, "report", "--server", f"127.0.0.1:{port}", "--day", str(day)], capture_output=True)
+    report = subprocess.run(
+        [program, "report", "--server", f"127.0.0.1:{port}", "--day", str(day)], capture_output=True
+    )
     return time.monotonic() - began, report.stdout.count(b"\n"), report.stderr.decode().strip()
 
 
@@ -81,9 +91,15 @@ def measure(program, port, logins):
             usual.append(statistics.median(asker.times[:before]))
             longest.append(max(asker.times[before:]))
         said.discard((lines, ""))
-        print(f"{logins} logins, day {day}: report {shown(alone)}, {statistics.median(alone) / logins * 1e6:.1f} us a login, "
-              f"beside reserves {shown(beside)}; a reserve {shown(usual)}, the longest beside a report {shown(longest)}; "
-              f"otherwise: {sorted(said) or 'nothing'}", flush=True)
+        print(
+            (
+                f"{logins} logins, day {day}: report {shown(alone)},"
+                f" {statistics.median(alone) / logins * 1e6:.1f} us a login, beside reserves"
+                f" {shown(beside)}; a reserve {shown(usual)}, the longest beside a report"
+                f" {shown(longest)}; otherwise: {sorted(said) or 'nothing'}"
+            ),
+            flush=True,
+        )
 
 
 def shown(times):
@@ -91,15 +107,26 @@ def shown(times):
 
 
 def main():
-    parser = argparse.ArgumentParser(description=__doc__, formatter_class=argparse.RawDescriptionHelpFormatter)
+    parser = argparse.ArgumentParser(
+        description=__doc__, formatter_class=argparse.RawDescriptionHelpFormatter
+    )
     parser.add_argument("program", metavar="PROGRAM", type=os.path.abspath)
-    parser.add_argument("logins", metavar="LOGINS", type=int, nargs="*", default=[1_000, 10_000, 100_000], help="by default %(default)s")
+    parser.add_argument(
+        "logins",
+        metavar="LOGINS",
+        type=int,
+        nargs="*",
+        default=[1_000, 10_000, 100_000],
+        help="by default %(default)s",
+    )
     asked = parser.parse_args()
     with tempfile.TemporaryDirectory() as folder:
         for logins in asked.logins:
             path, port = f"{folder}/{logins}", free_port()
             filled.write(path, logins, lambda place: (b"user%d@example.org" % place, 1))
-            server = subprocess.Popen([asked.program, "server", "--config", filled.settings(folder, path, port)])
+            server = subprocess.Popen(
+                [asked.program, "server", "--config", filled.settings(folder, path, port)]
+            )
             try:
                 wait_for_listener(server)
                 measure(asked.program, port, logins)

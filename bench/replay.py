@@ -24,7 +24,10 @@ def main():
         (ours, theirs), (a, b) = medians([[program, "replay"], [twin]], text)
         assert a == b, "the two answer differently"
     count = 10 + CONNECTIONS * FRAMES
-    print(f"input {len(text)} bytes, {count} frames, median of 15 runs by turns, process start counted")
+    print(
+        f"input {len(text)} bytes, {count} frames, median of 15 runs by turns, process start"
+        " counted"
+    )
     print(f"mailquota replay  {ours * 1000:8.1f} ms  {count / ours:12.0f} frames/s")
     print(f"twin.rs           {theirs * 1000:8.1f} ms  {count / theirs:12.0f} frames/s")
     print(f"ratio             {ours / theirs:8.2f}")

@@ -35,7 +35,11 @@ def answers(transactions):
         its = {"txn": txn, "login": login_of(txn), "at": 86_400 * DAY, **SENDER}
         used = txn % MESSAGES_OF_A_LOGIN + 1
         for n, request, reply in (
-            (2 * txn - 1, wire.reserve(2 * txn - 1, **its), wire.granted(2 * txn - 1, used, **SENDER)),
+            (
+                2 * txn - 1,
+                wire.reserve(2 * txn - 1, **its),
+                wire.granted(2 * txn - 1, used, **SENDER),
+            ),
             (2 * txn, wire.settle(2 * txn, **its), wire.settled(2 * txn, 1, **SENDER)),
         ):
             yield n, HOST, RUN, n, request[2:], reply[2:]
@@ -48,11 +52,17 @@ def write_file(path, transactions):
     database.execute("INSERT INTO setting VALUES (1, 1, 0, 1000, ?)", (2 * transactions,))
     database.executemany("INSERT INTO answer VALUES (?, ?, ?, ?, ?, ?)", answers(transactions))
     of_all = range(1, transactions + 1)
-    database.executemany("INSERT INTO trans VALUES (?, ?, ?, ?, ?, ?, 0, 1, 1)", ((HOST, RUN, txn, login_of(txn), 86_400 * DAY, DAY) for txn in of_all))
+    database.executemany(
+        "INSERT INTO trans VALUES (?, ?, ?, ?, ?, ?, 0, 1, 1)",
+        ((HOST, RUN, txn, login_of(txn), 86_400 * DAY, DAY) for txn in of_all),
+    )
     sent = {}
     for txn in of_all:
         sent[login_of(txn)] = sent.get(login_of(txn), 0) + 1
-    database.executemany("INSERT INTO usage VALUES (?, ?, ?, 0)", ((login, DAY, count) for login, count in sorted(sent.items())))
+    database.executemany(
+        "INSERT INTO usage VALUES (?, ?, ?, 0)",
+        ((login, DAY, count) for login, count in sorted(sent.items())),
+    )
     database.commit()
     database.close()
 
@@ -76,22 +86,45 @@ def asked(address, frame):
 def main():
     parser = argparse.ArgumentParser(description=__doc__)
     parser.add_argument("program", metavar="PROGRAM", type=os.path.abspath)
-    parser.add_argument("answers", metavar="ANSWERS", type=int, nargs="?", default=1_000_000, help="by default %(default)s")
+    parser.add_argument(
+        "answers",
+        metavar="ANSWERS",
+        type=int,
+        nargs="?",
+        default=1_000_000,
+        help="by default %(default)s",
+    )
     given = parser.parse_args()
     program, transactions = given.program, given.answers // 2
     with tempfile.TemporaryDirectory() as folder:
         world = World(program, folder)
         for name in ("audited", "served"):
             write_file(f"{folder}/{name}", transactions)
-        audit = [program, "audit", "--config", ledger_settings(world, f"{folder}/audited", default=1_000)]
+        audit = [
+            program,
+            "audit",
+            "--config",
+            ledger_settings(world, f"{folder}/audited", default=1_000),
+        ]
         timed("audit of version 1", lambda: subprocess.run(audit, check=True))
         timed("audit of version 3", lambda: subprocess.run(audit, check=True))
-        print(f"memory of an audit: {resource.getrusage(resource.RUSAGE_CHILDREN).ru_maxrss // 1_000} MB")
-        server = timed("a server's start over version 1", lambda: Server(world, store=f"{folder}/served", default=1_000))
+        print(
+            "memory of an audit:"
+            f" {resource.getrusage(resource.RUSAGE_CHILDREN).ru_maxrss // 1_000} MB"
+        )
+        server = timed(
+            "a server's start over version 1",
+            lambda: Server(world, store=f"{folder}/served", default=1_000),
+        )
         with server:
-            timed("the retire", lambda: asked(server.address, wire.retire(1, host=HOST, run=RUN + 1)))
+            timed(
+                "the retire", lambda: asked(server.address, wire.retire(1, host=HOST, run=RUN + 1))
+            )
             with open(f"/proc/{server.process.pid}/status", encoding="ascii") as status:
-                print("the server then:", *[line.strip() for line in status if line.startswith(("VmHWM", "VmRSS"))])
+                print(
+                    "the server then:",
+                    *[line.strip() for line in status if line.startswith(("VmHWM", "VmRSS"))],
+                )
 
 
 if __name__ == "__main__":

@@ -35,8 +35,9 @@ WEEK = 7
 
 
 class Day(NamedTuple):
-    """Of a day: sizes in bytes, memory in kilobytes, milliseconds of a recipient by the clock and of
-    the server's processor, and seconds."""
+    """Of a day: sizes in bytes, memory in kilobytes, milliseconds of a recipient by the clock and
+    of the server's processor, and seconds."""
+
     file: int
     all_files: int
     memory: int
@@ -51,12 +52,14 @@ class Day(NamedTuple):
     processor: float
 
     def __str__(self):
-        return (f"file {self.file / 1e6:.1f} MB, all files {self.all_files / 1e6:.1f} MB, memory "
-                f"{self.memory:,} KiB; a recipient {self.median:.2f} ms, 99.9% {self.of_999:.1f}, "
-                f"slowest {self.slowest:.1f}, at night {self.slowest_at_night:.1f}; of a processor "
-                f"{self.worked:.2f}, at most {self.most_worked:.1f}, at night "
-                f"{self.most_worked_at_night:.1f}; the night {self.night:.1f} s, of a processor "
-                f"{self.processor:.1f} s the day")
+        return (
+            f"file {self.file / 1e6:.1f} MB, all files {self.all_files / 1e6:.1f} MB, memory "
+            f"{self.memory:,} KiB; a recipient {self.median:.2f} ms, 99.9% {self.of_999:.1f}, "
+            f"slowest {self.slowest:.1f}, at night {self.slowest_at_night:.1f}; of a processor "
+            f"{self.worked:.2f}, at most {self.most_worked:.1f}, at night "
+            f"{self.most_worked_at_night:.1f}; the night {self.night:.1f} s, of a processor "
+            f"{self.processor:.1f} s the day"
+        )
 
 
 class Provider:
@@ -68,8 +71,16 @@ class Provider:
         self.day = int(time.time()) // filled.DAY
         self.first = self.day
         ahead = int(self.day * filled.DAY + MORNING - time.time())
-        self.server = Server(world, connections=0, words=["--create", "--endless"], store=self.path,
-                             default=DEFAULT, keep=KEEP, log="info", limit=clocks.limit(ahead))
+        self.server = Server(
+            world,
+            connections=0,
+            words=["--create", "--endless"],
+            store=self.path,
+            default=DEFAULT,
+            keep=KEEP,
+            log="info",
+            limit=clocks.limit(ahead),
+        )
         self.clock = clocks.Clock(self.server.process.pid, ahead)
         self.hosts = [Smtpd(world, host, self.server.address) for host in HOSTS]
         self.answers, self.chance = collections.Counter(), random.Random(1)
@@ -80,8 +91,8 @@ class Provider:
         return sum("are forgotten" in it for it in self.server.all_log_lines()) > self.nights
 
     def send(self, count):
-        """So many messages of this day; gives the seconds of each recipient, by the clock and of the
-        server's processor."""
+        """So many messages of this day; gives the seconds of each recipient, by the clock and of
+        the server's processor."""
         taken = []
         for _ in range(count):
             self.sent += 1
@@ -127,13 +138,21 @@ class Provider:
         self.day += 1
         order, worked = (sorted(1e3 * it for it in part) for part in zip(*taken))
         slowest_at_night, most_at_night = (
-            1e3 * max(part, default=0) for part in zip(*at_night or [(0, 0)]))
+            1e3 * max(part, default=0) for part in zip(*at_night or [(0, 0)])
+        )
         files = filter(os.path.exists, (self.path + end for end in ("", "-wal", ".old")))
         return Day(
-            os.path.getsize(self.path), sum(map(os.path.getsize, files)),
-            kilobytes(self.server.process, "VmRSS"), statistics.median(order),
-            order[len(order) * 999 // 1_000], order[-1], slowest_at_night,
-            statistics.median(worked), worked[-1], most_at_night, night,
+            os.path.getsize(self.path),
+            sum(map(os.path.getsize, files)),
+            kilobytes(self.server.process, "VmRSS"),
+            statistics.median(order),
+            order[len(order) * 999 // 1_000],
+            order[-1],
+            slowest_at_night,
+            statistics.median(worked),
+            worked[-1],
+            most_at_night,
+            night,
             processor_time(self.server.process) - before,
         )
 
@@ -148,16 +167,29 @@ def compare(days):
     medians of their days."""
     for name in Day._fields:
         first, last = ([getattr(it, name) for it in part] for part in (days[:WEEK], days[-WEEK:]))
-        told = [f"{what} {of(first):,.1f} and {of(last):,.1f}, ratio {of(last) / of(first):.2f}"
-                for what, of in (("at most", max), ("median", statistics.median)) if of(first)]
+        told = [
+            f"{what} {of(first):,.1f} and {of(last):,.1f}, ratio {of(last) / of(first):.2f}"
+            for what, of in (("at most", max), ("median", statistics.median))
+            if of(first)
+        ]
         print(f"{name}: {'; '.join(told)}")
 
 
 def main():
-    parser = argparse.ArgumentParser(description=__doc__, formatter_class=argparse.RawDescriptionHelpFormatter)
+    parser = argparse.ArgumentParser(
+        description=__doc__, formatter_class=argparse.RawDescriptionHelpFormatter
+    )
     parser.add_argument("program", metavar="PROGRAM", type=os.path.abspath)
-    parser.add_argument("--days", metavar="DAYS", type=int, default=365, help="by default %(default)s")
-    parser.add_argument("--recipients", metavar="RECIPIENTS", type=int, default=20_000, help="of each day, by default %(default)s")
+    parser.add_argument(
+        "--days", metavar="DAYS", type=int, default=365, help="by default %(default)s"
+    )
+    parser.add_argument(
+        "--recipients",
+        metavar="RECIPIENTS",
+        type=int,
+        default=20_000,
+        help="of each day, by default %(default)s",
+    )
     asked = parser.parse_args()
     print(f"{os.cpu_count()} processors, load of {os.getloadavg()[0]:.1f}")
     began, days = time.monotonic(), []
@@ -171,9 +203,11 @@ def main():
             statuses = provider.end()
     answers = {name.decode(): count for name, count in provider.answers.items()}
     took = time.monotonic() - began
-    print(f"{asked.days} days of {asked.recipients:,} recipients in {took:.0f} s, "
-          f"{provider.nights} nights; answers {answers}; of them 451: {provider.answers[SERVICE]}; "
-          f"the filters end with {statuses}")
+    print(
+        f"{asked.days} days of {asked.recipients:,} recipients in {took:.0f} s, "
+        f"{provider.nights} nights; answers {answers}; of them 451: {provider.answers[SERVICE]}; "
+        f"the filters end with {statuses}"
+    )
     compare(days)
 
 

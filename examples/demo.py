@@ -40,7 +40,13 @@ class Filter:
     def __init__(self, day, host):
         self.host, self.at = host, int(time.time())
         config = day.file(f"{host}.toml", f'host = "{host}"\nserver = "{day.address}"\n')
-        self.process = subprocess.Popen([day.program, "filter", "--config", config], stdin=subprocess.PIPE, stdout=subprocess.PIPE, stderr=day.log, text=True)
+        self.process = subprocess.Popen(
+            [day.program, "filter", "--config", config],
+            stdin=subprocess.PIPE,
+            stdout=subprocess.PIPE,
+            stderr=day.log,
+            text=True,
+        )
         self.say(CONFIG)
         # (it says what it wants to hear of, up to this line)
         while self.process.stdout.readline() not in ("register|ready\n", ""):
@@ -65,7 +71,11 @@ class Filter:
     def recipient(self, session, address):
         """What smtpd is answered about one more recipient."""
         self.say(f"filter|0.7|{self.at}.000002|smtp-in|rcpt-to|{session}|{TOKEN}|{address}\n")
-        return self.process.stdout.readline().rstrip("\n").removeprefix(f"filter-result|{session}|{TOKEN}|")
+        return (
+            self.process.stdout.readline()
+            .rstrip("\n")
+            .removeprefix(f"filter-result|{session}|{TOKEN}|")
+        )
 
     def end(self):
         self.process.stdin.close()
@@ -81,7 +91,9 @@ class Day:
         with socket.socket() as probe:
             probe.bind(("127.0.0.1", 0))
             self.address = f"127.0.0.1:{probe.getsockname()[1]}"
-        settings = f'listen = "{self.address}"\nstore = "{folder}/ledger"\ndefault = 1000\noffset = 0\n'
+        settings = (
+            f'listen = "{self.address}"\nstore = "{folder}/ledger"\ndefault = 1000\noffset = 0\n'
+        )
         self.config = self.file("server.toml", settings)
         self.server, self.filters = None, []
 
@@ -92,7 +104,14 @@ class Day:
 
     def run(self, *words, text=None):
         """What a command prints."""
-        run = subprocess.run([self.program, *words], input=text, stdout=subprocess.PIPE, stderr=self.log, text=True, timeout=SECONDS)
+        run = subprocess.run(
+            [self.program, *words],
+            input=text,
+            stdout=subprocess.PIPE,
+            stderr=self.log,
+            text=True,
+            timeout=SECONDS,
+        )
         return run.stdout.rstrip("\n")
 
     def ask(self, command, *words):
@@ -100,7 +119,11 @@ class Day:
 
     def start(self):
         """Starts the server, which answers soon."""
-        self.server = subprocess.Popen([self.program, "server", "--config", self.config], stdin=subprocess.DEVNULL, stderr=self.log)
+        self.server = subprocess.Popen(
+            [self.program, "server", "--config", self.config],
+            stdin=subprocess.DEVNULL,
+            stderr=self.log,
+        )
         end = time.monotonic() + SECONDS
         while not self.ask("status"):
             if self.server.poll() is not None or time.monotonic() > end:
@@ -121,7 +144,11 @@ def play(day, frame):
     order = ["--host", "admin", "--login"]
     shown("init", day.run("init", "--config", day.config), f"made {day.folder}/ledger")
     day.start()
-    shown("alice gets a limit of 2", day.ask("limit", *order, "alice", "--from", today, "--cap", "2"), "set")
+    shown(
+        "alice gets a limit of 2",
+        day.ask("limit", *order, "alice", "--from", today, "--cap", "2"),
+        "set",
+    )
     one, two = day.filters = [Filter(day, it) for it in HOSTS]
     for at, login, session in ((one, "alice", "a1"), (two, "alice", "a2"), (two, "bob", "b1")):
         at.login(session, login)
@@ -135,29 +162,58 @@ def play(day, frame):
     one.login("c1", "carol")
     one.begin("c1", "mc1")
     shown("mx1, carol to her first recipient", one.recipient("c1", "r1@example.net"), PROCEED)
-    lines = "      2       0       2 alice\n      0       1    1000 bob\n      0       1    1000 carol"
-    shown("what is sent, under way and allowed", "\n" + day.ask("report", "--day", today), "\n" + lines)
+    lines = (
+        "      2       0       2 alice\n      0       1    1000 bob\n      0       1    1000 carol"
+    )
+    shown(
+        "what is sent, under way and allowed",
+        "\n" + day.ask("report", "--day", today),
+        "\n" + lines,
+    )
     day.server.kill()
     day.server.wait()
-    shown("the server is killed; mx2, bob to his next recipient", two.recipient("b1", "r2@example.net"), AWAY)
+    shown(
+        "the server is killed; mx2, bob to his next recipient",
+        two.recipient("b1", "r2@example.net"),
+        AWAY,
+    )
     day.start()
-    shown("it is started again, with the same counts", "\n" + day.ask("report", "--day", today), "\n" + lines)
+    shown(
+        "it is started again, with the same counts",
+        "\n" + day.ask("report", "--day", today),
+        "\n" + lines,
+    )
     shown("mx2, bob to the same recipient", two.recipient("b1", "r2@example.net"), PROCEED)
-    shown("bob's password is stolen", day.ask("stop", *order, "bob", "--day", today), f"stopped: bob used 2 on day {today}\nlimit before: 1000")
+    shown(
+        "bob's password is stolen",
+        day.ask("stop", *order, "bob", "--day", today),
+        f"stopped: bob used 2 on day {today}\nlimit before: 1000",
+    )
     shown("mx2, bob to one more, in the same message", two.recipient("b1", "r3@example.net"), LIMIT)
     shown("both filters end, with status", " ".join(str(it.end()) for it in day.filters), "0 0")
     with open(frame, encoding="ascii") as file:
         asked = file.read()
-    # host a, run 1, number 1: one recipient for login u on day 1, where it may have 3; granted, and 1 is used
+    # host a, run 1, number 1: one recipient for login u on day 1, where it may have 3; granted, and
+    # 1 is used
     reply = day.run("replay", "--default", "3", text=asked)
-    shown("one request as it goes over the network", "".join(asked.split()), "0021010161000000000000000100000001000000010000000000015180017500000001")
+    shown(
+        "one request as it goes over the network",
+        "".join(asked.split()),
+        "0021010161000000000000000100000001000000010000000000015180017500000001",
+    )
     shown("its reply", reply, "001381016100000000000000010000000100000001")
 
 
 def main():
-    parser = argparse.ArgumentParser(description=__doc__, formatter_class=argparse.RawDescriptionHelpFormatter)
+    parser = argparse.ArgumentParser(
+        description=__doc__, formatter_class=argparse.RawDescriptionHelpFormatter
+    )
     parser.add_argument("program", metavar="PROGRAM", type=os.path.abspath)
-    parser.add_argument("frame", metavar="FRAME", help="a file with one request in hexadecimal, as examples/one-reserve.hex")
+    parser.add_argument(
+        "frame",
+        metavar="FRAME",
+        help="a file with one request in hexadecimal, as examples/one-reserve.hex",
+    )
     asked = parser.parse_args()
     with tempfile.TemporaryDirectory() as folder:
         day = Day(asked.program, folder)

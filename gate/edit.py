@@ -1,10 +1,11 @@
 """A must-fail edit: a small change of a crate's text that the prover must refuse.
 
-A file of lines 'file: PATH' and then pairs 'old: TEXT' and 'new: TEXT', as rt reads them: each old text stands once in the
-file as the pairs before left it. Lines 'function: module::Type::name' say which functions it is to spoil, where the text that
-it changes lies in none, as a constant's does. A line 'case: GROUP: NAME' says which case of tests/program, or which test of a crate, refuses
-the body, where the prover can't tell so. A line 'clause: NAME' says which clause of the function's contract refuses the body, where it is to be tried
-against that alone. Any other line is a remark.
+A file of lines 'file: PATH' and then pairs 'old: TEXT' and 'new: TEXT', as rt reads them: each old
+text stands once in the file as the pairs before left it. Lines 'function: module::Type::name' say
+which functions it is to spoil, where the text that it changes lies in none, as a constant's does. A
+line 'case: GROUP: NAME' says which case of tests/program, or which test of a crate, refuses the
+body, where the prover can't tell so. A line 'clause: NAME' says which clause of the function's
+contract refuses the body, where it is to be tried against that alone. Any other line is a remark.
 """
 import os
 import re
@@ -32,7 +33,9 @@ class Edit:
             for line in lines.read().split("\n"):
                 if line.startswith("file: "):
                     path = line[6:].strip()
-                    if os.path.normpath(path) != path or not path.startswith(("src/", "specs/", "proofs/")):
+                    if os.path.normpath(path) != path or not path.startswith(
+                        ("src/", "specs/", "proofs/")
+                    ):
                         raise BadEdit("a 'file:' line names no file below src/, specs/ or proofs/")
                 elif line.startswith("old: "):
                     old = line[5:]
@@ -52,20 +55,26 @@ class Edit:
         places = []
         self.apply(folder, {}, places)
         changed = set().union(*places)
-        # the functions of which the prover must refuse one, and those that nothing else in its round may change
+        # the functions of which the prover must refuse one, and those that nothing else in its
+        # round may change
         self.wanted = set(said) or changed
         self.touched = self.wanted | changed
         # it changes what lies in no function, as a constant, and so may spoil any
         self.is_outside = not all(places)
         # (a law does nothing when it is called)
         pairs = [it for it in self.pairs if it[0].startswith("src/") and it[0] != "src/laws.rt"]
-        self.adds_a_way = ways_in(*(new for _, _, new in pairs)) > ways_in(*(old for _, old, _ in pairs))
+        self.adds_a_way = ways_in(*(new for _, _, new in pairs)) > ways_in(
+            *(old for _, old, _ in pairs)
+        )
         if not self.wanted:
-            raise BadEdit("what it changes lies in no function: name one by a line 'function: module::Type::name'")
+            raise BadEdit(
+                "what it changes lies in no function: name one by a line 'function:"
+                " module::Type::name'"
+            )
 
     def apply(self, folder, texts, places=None):
-        """Returns these texts by path with the edit's changes, over the files of the crate in the folder, and adds to `places`
-        the functions that each lies in."""
+        """Returns these texts by path with the edit's changes, over the files of the crate in the
+        folder, and adds to `places` the functions that each lies in."""
         texts = dict(texts)
         for path, old, new in self.pairs:
             if path not in texts:
@@ -94,7 +103,8 @@ def ways_in(*texts):
 
 
 def functions_between(path, text, begins, ends):
-    """Returns the names of the functions that hold the first and the last character between two places."""
+    """Returns the names of the functions that hold the first and the last character between two
+    places."""
     if not path.startswith("src/"):
         return set()
     # (an old text may begin with the spaces before a function)
@@ -106,6 +116,8 @@ def edits_in(place):
     """Returns the files of a folder that are edits, and those that have no place there."""
     if not os.path.isdir(place):
         return [], []
-    files = sorted(os.path.relpath(f"{at}/{it}", place) for at, _, names in os.walk(place) for it in names)
+    files = sorted(
+        os.path.relpath(f"{at}/{it}", place) for at, _, names in os.walk(place) for it in names
+    )
     good = [it for it in files if re.fullmatch(r"[A-Za-z0-9_-][A-Za-z0-9_.-]*\.edit", it)]
     return good, [it for it in files if it not in good and not it.endswith(".md")]

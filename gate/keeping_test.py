@@ -1,5 +1,6 @@
-"""The test of what the gate keeps: over a small tree, and a kit that proves nothing and notes what it is asked for, one byte after the other is changed,
-and exactly what reads it is to be tried again."""
+"""The test of what the gate keeps: over a small tree, and a kit that proves nothing and notes what
+it is asked for, one byte after the other is changed, and exactly what reads it is to be tried
+again."""
 import os
 import shutil
 import sys
@@ -13,10 +14,13 @@ TOP = os.path.dirname(os.path.dirname(os.path.realpath(__file__)))
 # So many seconds a run over the small tree takes at most.
 LONGEST = 120
 
-# A function is right where its body has a 1. A library is what its sources and specs say, but for comments.
+# A function is right where its body has a 1. A library is what its sources and specs say, but for
+# comments.
 SOURCE = "pub fn {name}() -> u8 {{ 1 }}\npub fn {name}_witness() -> u8 {{ 1 }}\n"
 EDIT = "file: src/lib.rt\nold: {name}() -> u8 {{ 1 }}\nnew: {name}() -> u8 {{ 2 }}\n"
-CASES = "import os\nopen(os.environ['NOTED'], 'a').write('{name}\\n')\nprint('2 passed, 0 failed')\n"
+CASES = (
+    "import os\nopen(os.environ['NOTED'], 'a').write('{name}\\n')\nprint('2 passed, 0 failed')\n"
+)
 TEST = """\
 import os
 import unittest
@@ -54,8 +58,10 @@ FILES = {
     "gate/keeping_test.py": TEST.format(name="KeepingTest"),
     "kit/KIT-ID": "kit 1\n",
 }
-# `rt ci` builds each crate; of one whose library's text it has built before it says that it is kept, and so of what an earlier run told proved.
-COMMANDS = {"rt": '''\
+# `rt ci` builds each crate; of one whose library's text it has built before it says that it is
+# kept, and so of what an earlier run told proved.
+COMMANDS = {
+    "rt": """\
 import hashlib, os, re, sys
 if sys.argv[1] == "help":
     print("--anew")
@@ -87,7 +93,8 @@ for crate, uses in re.findall(r"^(\\w+):(.*)", open("crates.txt").read(), re.M):
         print(f"fn {crate}::{it}: proved")
     print(f"rt: {crate} proved")
 print("3 passed, 0 failed")
-''', "rattle": '''\
+""",
+    "rattle": """\
 import os, re, resource, sys
 # (the gate lets it write no file)
 resource.setrlimit(resource.RLIMIT_FSIZE, (resource.getrlimit(resource.RLIMIT_FSIZE)[1],) * 2)
@@ -100,7 +107,8 @@ for it in asked or bodies:
 open(os.environ["NOTED"], "a").write("".join(f"{it}\\n" for it in wrong) or f"{crate}, as it stands\\n")
 print(f"only={len(asked)} holes=1")
 sys.exit(1 if wrong and wrong != [missed] else 0)
-'''}
+""",
+}
 
 # The last line of a gate over this tree.
 PASSED = "19 passed, 0 failed"
@@ -112,8 +120,20 @@ OF_KIT = ["low", *EDITS, "near the end", "tests", *OWN]
 # What is changed, the file, its old and its new text, and what is to be tried again.
 CHANGES = [
     ("a source", "crates/high/src/lib.rt", "pub fn high_w", "pub  fn high_w", EDITS),
-    ("a comment of a library", "crates/low/src/lib.rt", "", "// as it is\n", ["low", "near the end", "tests"]),
-    ("a library", "crates/low/src/lib.rt", "pub fn low_w", "pub  fn low_w", ["low", *EDITS, *OTHERS]),
+    (
+        "a comment of a library",
+        "crates/low/src/lib.rt",
+        "",
+        "// as it is\n",
+        ["low", "near the end", "tests"],
+    ),
+    (
+        "a library",
+        "crates/low/src/lib.rt",
+        "pub fn low_w",
+        "pub  fn low_w",
+        ["low", *EDITS, *OTHERS],
+    ),
     ("a spec", "crates/low/specs/Lib.antt", "is_one", "is_two", ["low", *EDITS, *OTHERS]),
     ("a proof", "crates/high/proofs/high.antt", "by one", "by two", EDITS),
     ("an edit", "crates/low/must-fail/low.edit", "{ 2 }", "{ 3 }", ["low"]),
@@ -129,7 +149,13 @@ CHANGES = [
     ("what a case reads", "contrib/smtpd.conf", "listen", "accept", ["cases", "cases"]),
     ("a test near the end", "tests/near_the_end/low/low.rt.in", "near", "nearer", ["near the end"]),
     ("a test in Rattle", "crates/mq_store_tests/src/lib.rt", "test", "tests", ["tests"]),
-    ("the program", "crates/mailquota/src/main.rt", "main", "main()", ["cases", "cases", "refusals"]),
+    (
+        "the program",
+        "crates/mailquota/src/main.rt",
+        "main",
+        "main()",
+        ["cases", "cases", "refusals"],
+    ),
     ("the kit's name", "kit/KIT-ID", "1", "2", OF_KIT),
     ("the prover", "kit/bin/rattle", "import os", "import  os", OF_KIT),
     ("a document", "docs/GATE.md", "gate", "way", []),
@@ -146,10 +172,14 @@ class KeepingTest(unittest.TestCase):
         room = tempfile.TemporaryDirectory(prefix="keeping-")
         self.addCleanup(room.cleanup)
         self.room, self.tree, self.cache = room.name, f"{room.name}/tree", f"{room.name}/cache"
-        shutil.copytree(f"{TOP}/gate", f"{self.tree}/gate", ignore=shutil.ignore_patterns("__pycache__"))
+        shutil.copytree(
+            f"{TOP}/gate", f"{self.tree}/gate", ignore=shutil.ignore_patterns("__pycache__")
+        )
         os.mkdir(f"{self.tree}/scripts")
         shutil.copy(f"{TOP}/scripts/kit.py", f"{self.tree}/scripts")
-        commands = {f"kit/bin/{name}": f"#!{sys.executable}\n{text}" for name, text in COMMANDS.items()}
+        commands = {
+            f"kit/bin/{name}": f"#!{sys.executable}\n{text}" for name, text in COMMANDS.items()
+        }
         for path, text in {**FILES, **commands}.items():
             file = f"{self.room}/{path}" if path.startswith("kit/") else f"{self.tree}/{path}"
             os.makedirs(os.path.dirname(file), exist_ok=True)
@@ -183,8 +213,24 @@ class KeepingTest(unittest.TestCase):
         noted = f"{self.room}/noted"
         with open(noted, "w", encoding="utf-8"):
             pass
-        given = {"XDG_CACHE_HOME": self.cache, "RT": f"{self.room}/kit/bin/rt", "NOTED": noted, "RT_JOBS": "1", **environment}
-        ran = run(["env", *(f"{name}={it}" for name, it in given.items()), sys.executable, f"{self.tree}/gate/run.py", *words], self.room, LONGEST)
+        given = {
+            "XDG_CACHE_HOME": self.cache,
+            "RT": f"{self.room}/kit/bin/rt",
+            "NOTED": noted,
+            "RT_JOBS": "1",
+            **environment,
+        }
+        ran = run(
+            [
+                "env",
+                *(f"{name}={it}" for name, it in given.items()),
+                sys.executable,
+                f"{self.tree}/gate/run.py",
+                *words,
+            ],
+            self.room,
+            LONGEST,
+        )
         KeepingTest.seconds += ran.seconds
         with open(noted, encoding="utf-8") as it:
             return it.read().split("\n")[:-1], ran.said
@@ -193,7 +239,9 @@ class KeepingTest(unittest.TestCase):
         """Looks whether the gate tries this alone, and what its last line is."""
         tried, said = self.gate(*(words or ["gate"]), **environment)
         with self.subTest(of):
-            self.assertEqual((sorted(tried), said.split("\n")[-2:]), (sorted(wanted), [last, ""]), said[-2000:])
+            self.assertEqual(
+                (sorted(tried), said.split("\n")[-2:]), (sorted(wanted), [last, ""]), said[-2000:]
+            )
 
     def elsewhere(self):
         """Another checkout takes what this one kept; `--from-nothing` takes nothing, and keeps."""
@@ -202,12 +250,15 @@ class KeepingTest(unittest.TestCase):
         self.tries("in another checkout", [])
         self.tries("from nothing", ALL, "gate", "--from-nothing")
         self.tries("after that", [])
-        self.tries("where nothing can be kept", ALL, "gate", "--from-nothing", XDG_CACHE_HOME="/dev/null")
+        self.tries(
+            "where nothing can be kept", ALL, "gate", "--from-nothing", XDG_CACHE_HOME="/dev/null"
+        )
         self.tries("the edits alone", [], "must-fail", last="3 passed, 0 failed")
         self.tries("the further edits", ["low_witness"], "further", last="1 passed, 0 failed")
 
     def not_whole(self):
-        """What is cut off, changed or no file counts as none; then rt has proved a crate, and a check has to tell its functions."""
+        """What is cut off, changed or no file counts as none; then rt has proved a crate, and a
+        check has to tell its functions."""
         folder = f"{self.cache}/mailquota"
         for number, it in enumerate(sorted(os.listdir(folder))):
             if number % 3 == 2:
@@ -218,8 +269,12 @@ class KeepingTest(unittest.TestCase):
                     text = file.read()
                     file.seek(0)
                     file.truncate()
-                    file.write(text[:-1] if number % 3 else f"{'0' if text[0] != '0' else '1'}{text[1:]}")
-        self.tries("of kept results that aren't whole", [*ALL, "low, as it stands", "high, as it stands"])
+                    file.write(
+                        text[:-1] if number % 3 else f"{'0' if text[0] != '0' else '1'}{text[1:]}"
+                    )
+        self.tries(
+            "of kept results that aren't whole", [*ALL, "low, as it stands", "high, as it stands"]
+        )
         shutil.rmtree(folder)
         self.tries("of no kept results", [*ALL, "low, as it stands", "high, as it stands"])
 
@@ -231,7 +286,8 @@ class KeepingTest(unittest.TestCase):
         self.tries("an edit that is refused now", ["low"])
 
     def ended(self):
-        """What is long unused goes, and what was being written when its run was killed; what was taken just now stays."""
+        """What is long unused goes, and what was being written when its run was killed; what was
+        taken just now stays."""
         folder = f"{self.cache}/mailquota"
         there = {*os.listdir(folder)}
         for name, days in (("unused", 31), ("used", 29), ("new-killed", 1)):

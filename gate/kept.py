@@ -1,8 +1,10 @@
-"""What passed earlier on this machine: each result in a file whose name is the sum of all that it was made from.
+"""What passed earlier on this machine: each result in a file whose name is the sum of all that it
+was made from.
 
-So none goes stale: where a byte of that changes, the name is another. Only what is as it must be is kept, and no failure. The files lie outside
-the tree, in $XDG_CACHE_HOME/mailquota, for the user alone who runs the gate. Each is written apart and then renamed, and one that isn't whole
-counts as none.
+So none goes stale: where a byte of that changes, the name is another. Only what is as it must be is
+kept, and no failure. The files lie outside the tree, in $XDG_CACHE_HOME/mailquota, for the user
+alone who runs the gate. Each is written apart and then renamed, and one that isn't whole counts as
+none.
 """
 import contextlib
 import functools
@@ -19,7 +21,8 @@ HERE = os.path.dirname(os.path.realpath(__file__))
 # So many seconds a result stays that no run takes, and so many results at most.
 LONGEST_UNUSED = 30 * 24 * 3600
 MOST = 50_000
-# How the name of a file begins that isn't written to its end, and after how many seconds whoever wrote it was killed.
+# How the name of a file begins that isn't written to its end, and after how many seconds whoever
+# wrote it was killed.
 UNFINISHED, LONGEST_UNFINISHED = "new-", 3600
 
 
@@ -35,20 +38,34 @@ def sum_of(*parts):
 
 
 def files_in(root, path):
-    """Returns the files of a folder below the root, or the one file, by their paths from the root, but for what Python made."""
+    """Returns the files of a folder below the root, or the one file, by their paths from the root,
+    but for what Python made."""
     if not os.path.isdir(f"{root}/{path}"):
         return [path] if os.path.lexists(f"{root}/{path}") else []
-    walked = [(at, it) for at, _, names in os.walk(f"{root}/{path}") for it in names if os.path.basename(at) != "__pycache__"]
+    walked = [
+        (at, it)
+        for at, _, names in os.walk(f"{root}/{path}")
+        for it in names
+        if os.path.basename(at) != "__pycache__"
+    ]
     return sorted(os.path.relpath(f"{at}/{it}", root) for at, it in walked)
 
 
 def sum_of_files(root, paths):
-    """Returns a sum of the files at these paths from the root, and of all in the folders there: of the names, of what is in them, and of who may run them."""
+    """Returns a sum of the files at these paths from the root, and of all in the folders there: of
+    the names, of what is in them, and of who may run them."""
     told = []
     for path in sorted({file for it in paths for file in files_in(root, it)}):
         file = f"{root}/{path}"
         with open(file, "rb") as it:
-            told.append((path, os.path.islink(file) and os.readlink(file), os.stat(file).st_mode & 0o111, hashlib.sha256(it.read()).hexdigest()))
+            told.append(
+                (
+                    path,
+                    os.path.islink(file) and os.readlink(file),
+                    os.stat(file).st_mode & 0o111,
+                    hashlib.sha256(it.read()).hexdigest(),
+                )
+            )
     return sum_of(told)
 
 
@@ -61,7 +78,11 @@ def of_kit():
 @functools.lru_cache(maxsize=None)
 def of_gate(with_tests=False):
     """Returns a sum of the scripts of the gate, of which its tests judge nothing else."""
-    scripts = [it for it in files_in(os.path.dirname(HERE), "gate") if it.endswith(".py") and (with_tests or not it.endswith("_test.py"))]
+    scripts = [
+        it
+        for it in files_in(os.path.dirname(HERE), "gate")
+        if it.endswith(".py") and (with_tests or not it.endswith("_test.py"))
+    ]
     return sum_of_files(os.path.dirname(HERE), [*scripts, "scripts/kit.py"])
 
 
@@ -75,12 +96,19 @@ class Sums:
     def of_crate(self, crate):
         """Returns a sum of what a check reads of the crate itself, and of the kit."""
         paths = ["HANDLES", *(f"crates/{crate}/{part}" for part in PARTS)]
-        return self.once(crate, lambda: sum_of(of_kit(), crate, self.rows[crate], sum_of_files(self.root, paths)))
+        return self.once(
+            crate, lambda: sum_of(of_kit(), crate, self.rows[crate], sum_of_files(self.root, paths))
+        )
 
     def of_library(self, crate):
         """Returns a sum of a library as it is built, or none where it isn't."""
         rlib = f"crates/{crate}/out/rlib/{crate}.rlib"
-        return self.once(rlib, lambda: sum_of_files(self.root, [rlib]) if os.path.isdir(f"{self.root}/{rlib}") else None)
+        return self.once(
+            rlib,
+            lambda: (
+                sum_of_files(self.root, [rlib]) if os.path.isdir(f"{self.root}/{rlib}") else None
+            ),
+        )
 
     def once(self, of, call):
         if of not in self.known:
@@ -88,8 +116,8 @@ class Sums:
         return self.known[of]
 
     def names(self, kind, crate, *more):
-        """Returns the names of a result of a crate: by the libraries below it as they are built, and by the files of these, of which a
-        comment may change that no library has."""
+        """Returns the names of a result of a crate: by the libraries below it as they are built,
+        and by the files of these, of which a comment may change that no library has."""
         libraries = below(crate, self.rows)
         ways = [[self.of_crate(it) for it in libraries]]
         if self.is_built and all(self.of_library(it) for it in libraries):
@@ -131,7 +159,9 @@ class Kept:
         for name in names if self.at and self.keeps else ():
             made = None
             try:
-                with tempfile.NamedTemporaryFile("w", prefix=UNFINISHED, dir=self.at, delete=False, encoding="utf-8") as file:
+                with tempfile.NamedTemporaryFile(
+                    "w", prefix=UNFINISHED, dir=self.at, delete=False, encoding="utf-8"
+                ) as file:
                     made = file.name
                     file.write(f"{sum_of(name, text)}\n{text}")
                 os.replace(made, f"{self.at}/{name}")
@@ -140,21 +170,27 @@ class Kept:
                     os.remove(made)
 
     def shrink(self):
-        """Removes what is long unused, what goes beyond the most that may lie here, and what runs left that were killed."""
+        """Removes what is long unused, what goes beyond the most that may lie here, and what runs
+        left that were killed."""
         found = []
         with contextlib.suppress(OSError):
             for it in os.scandir(self.at) if self.at else ():
                 with contextlib.suppress(OSError):
                     found.append((it.stat().st_mtime, it.path))
         for number, (when, path) in enumerate(sorted(found, reverse=True)):
-            longest = LONGEST_UNFINISHED if os.path.basename(path).startswith(UNFINISHED) else LONGEST_UNUSED
+            longest = (
+                LONGEST_UNFINISHED
+                if os.path.basename(path).startswith(UNFINISHED)
+                else LONGEST_UNUSED
+            )
             if number >= MOST or time.time() - when > longest:
                 with contextlib.suppress(OSError):
                     os.remove(path)
 
 
 class Edits:
-    """What is kept of the must-fail edits of one crate that lie in a folder; `groups` are the names of what has cases."""
+    """What is kept of the must-fail edits of one crate that lie in a folder; `groups` are the names
+    of what has cases."""
 
     def __init__(self, kept, sums, crate, place, groups):
         self.kept, self.sums, self.crate, self.place, self.groups = kept, sums, crate, place, groups
@@ -178,8 +214,8 @@ class Edits:
 
 
 class Proved:
-    """Which functions of a crate are proved as they stand: by the lines of rt ci in this run, by those of the run that proved what rt has kept since, or
-    else by those of a check."""
+    """Which functions of a crate are proved as they stand: by the lines of rt ci in this run, by
+    those of the run that proved what rt has kept since, or else by those of a check."""
 
     WHOLE = re.compile(r"rt: (\w+) proved\Z")
 
@@ -187,7 +223,8 @@ class Proved:
         self.kept, self.sums, self.section, self.told = kept, sums, [], {}
 
     def read(self, line):
-        """Reads a line of rt ci, and keeps those of a crate that it told proved, as they come: a run may be killed."""
+        """Reads a line of rt ci, and keeps those of a crate that it told proved, as they come: a
+        run may be killed."""
         if line.startswith("== "):
             self.section.clear()
         elif PROVED.match(line):

@@ -6,7 +6,8 @@ from concurrent.futures import FIRST_COMPLETED, ThreadPoolExecutor, wait
 # The most memory that tasks may take together, in bytes.
 MOST = 20e9
 
-# What a task is of, how long it takes with others, how many bytes it may take, and the call that is its work.
+# What a task is of, how long it takes with others, how many bytes it may take, and the call that is
+# its work.
 Task = namedtuple("Task", "of work memory call")
 
 

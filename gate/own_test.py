@@ -1,4 +1,5 @@
-"""The test of the rounds themselves, over a crate of five functions: what must not pass for refused doesn't."""
+"""The test of the rounds themselves, over a crate of five functions: what must not pass for refused
+doesn't."""
 import os
 import tempfile
 import unittest
@@ -102,54 +103,154 @@ FILES = {
     "crates/counting/proofs/loud/Answers.antt": ANSWERS,
 }
 
-TRIPLES = "old: u16::from(number) + u16\nnew: if number > 2 { return u16::from(number) + 3; } u16::from(number) + u16"
-# Each group of edits is a crate's: the name, its text after the file's line, whether it must count as refused, and words of
-# what must be said of it.
+TRIPLES = (
+    "old: u16::from(number) + u16\nnew: if number > 2 { return u16::from(number) + 3; }"
+    " u16::from(number) + u16"
+)
+# Each group of edits is a crate's: the name, its text after the file's line, whether it must count
+# as refused, and words of what must be said of it.
 GROUPS = [
     [
-        ("adds_one", "old: u16::from(number) + u16\nnew: u16::from(number) + 1 + 0 * u16", True, "refused, as it must be"),
-        ("adds_two", "old: u16::from(number) + u16\nnew: u16::from(number) + 2 + 0 * u16", True, "refused, as it must be"),
+        (
+            "adds_one",
+            "old: u16::from(number) + u16\nnew: u16::from(number) + 1 + 0 * u16",
+            True,
+            "refused, as it must be",
+        ),
+        (
+            "adds_two",
+            "old: u16::from(number) + u16\nnew: u16::from(number) + 2 + 0 * u16",
+            True,
+            "refused, as it must be",
+        ),
         ("is_harmless", "old: number + 1\nnew: 1 + number", False, "NOT REFUSED"),
         ("is_harmless_too", "old: number < LAST\nnew: LAST > number", False, "NOT REFUSED"),
-        ("does_not_compile", "function: most\nold: LAST: u32 = 100\nnew: LAST: u32 = true", False, "BAD EDIT"),
+        (
+            "does_not_compile",
+            "function: most\nold: LAST: u32 = 100\nnew: LAST: u32 = true",
+            False,
+            "BAD EDIT",
+        ),
         ("is_nowhere", "old: number + 9\nnew: 7", False, "BAD EDIT: an 'old:' text"),
-        ("names_no_function", "old: LAST: u32 = 100\nnew: LAST: u32 = 101", False, "BAD EDIT: what it changes lies in no function"),
+        (
+            "names_no_function",
+            "old: LAST: u32 = 100\nnew: LAST: u32 = 101",
+            False,
+            "BAD EDIT: what it changes lies in no function",
+        ),
     ],
     [
         # Over the first edit the second one is right, and alone it is wrong.
-        ("hides_another", "function: most\nold: LAST: u32 = 100\nnew: LAST: u32 = 99", False, "NOT REFUSED"),
+        (
+            "hides_another",
+            "function: most\nold: LAST: u32 = 100\nnew: LAST: u32 = 99",
+            False,
+            "NOT REFUSED",
+        ),
         ("is_hidden", "old: number + 1\nnew: number + 2", True, "refused, as it must be"),
         ("is_not_seen", "old: number + 1\nnew: 7", False, "NOT REFUSED"),
-        ("spoils_an_unedited_function", "function: next\nold: MOST: u32 = 100\nnew: MOST: u32 = 101", False, "NOT REFUSED"),
+        (
+            "spoils_an_unedited_function",
+            "function: next\nold: MOST: u32 = 100\nnew: MOST: u32 = 101",
+            False,
+            "NOT REFUSED",
+        ),
         ("most", None, False, "refused, though no edit of its round changes it"),
     ],
     [
-        # With fewer levels it still says the truth: the goal has another name, and the answer fits it.
-        ("gives_up_above_ten", "old: levels.len() < 100\nnew: levels.len() < 10", False, "is true, and only without an answer"),
-        ("adds_a_wrong_way", "old: if number < LAST\nnew: if number == 7 { return 101; } if number < LAST", True, "one can't hold there"),
+        # With fewer levels it still says the truth: the goal has another name, and the answer fits
+        # it.
+        (
+            "gives_up_above_ten",
+            "old: levels.len() < 100\nnew: levels.len() < 10",
+            False,
+            "is true, and only without an answer",
+        ),
+        (
+            "adds_a_wrong_way",
+            "old: if number < LAST\nnew: if number == 7 { return 101; } if number < LAST",
+            True,
+            "one can't hold there",
+        ),
         # (of 3 it is right)
         ("may_be_wrong", TRIPLES, False, "a case that refuses the body is to be named"),
         ("has_a_case", f"case: rows: a row\n{TRIPLES}", True, "and rows: a row refuses the body"),
-        ("has_a_case_elsewhere", f"case: columns: a column\n{TRIPLES}", False, "BAD EDIT: it names a case of what isn't there"),
+        (
+            "has_a_case_elsewhere",
+            f"case: columns: a column\n{TRIPLES}",
+            False,
+            "BAD EDIT: it names a case of what isn't there",
+        ),
     ],
     [
         # Against the one clause that each names, and where that holds against both.
-        ("is_too_far", "clause: near\nold: u16::from(level) + 1\nnew: u16::from(level) + 2", True, "_copy"),
-        ("is_too_far_for_another_clause", "clause: above\nold: u16::from(level) + 1\nnew: u16::from(level) + 3", True, "fn counting::after: "),
+        (
+            "is_too_far",
+            "clause: near\nold: u16::from(level) + 1\nnew: u16::from(level) + 2",
+            True,
+            "_copy",
+        ),
+        (
+            "is_too_far_for_another_clause",
+            "clause: above\nold: u16::from(level) + 1\nnew: u16::from(level) + 3",
+            True,
+            "fn counting::after: ",
+        ),
         ("is_before", "clause: above\nold: u16::from(level) + 1\nnew: 1", True, "_copy"),
-        ("is_the_number", "clause: near\nold: u16::from(level) + 1\nnew: u16::from(level)", False, "NOT REFUSED"),
+        (
+            "is_the_number",
+            "clause: near\nold: u16::from(level) + 1\nnew: u16::from(level)",
+            False,
+            "NOT REFUSED",
+        ),
         ("is_loud_above_89", "clause: found\nold: *level > 90\nnew: *level > 89", True, "_copy"),
-        ("names_no_clause", "clause: far\nold: u16::from(level) + 1\nnew: u16::from(level) + 2", False, "BAD EDIT: after has no clause far"),
+        (
+            "names_no_clause",
+            "clause: far\nold: u16::from(level) + 1\nnew: u16::from(level) + 2",
+            False,
+            "BAD EDIT: after has no clause far",
+        ),
     ],
-    [("is_of_what_was_not_proved", "function: never\nold: u16::from(number) + u16\nnew: 1 + u16", False, "BAD EDIT: never is none of")],
+    [
+        (
+            "is_of_what_was_not_proved",
+            "function: never\nold: u16::from(number) + u16\nnew: 1 + u16",
+            False,
+            "BAD EDIT: never is none of",
+        )
+    ],
 ]
 # What the prover says of a function, and whether it is refused for itself by that.
 LINES = [
-    ("no proof: expected answers in ./proofs/next/Answers.antt; `search` did not prove `returns`; it calls `counting::most`, which is not proved", True),
-    ("not proved; it stands on `Rattle.counting.proofs.next.Answers.returns`, which antt refuses", True),
+    (
+        (
+            "no proof: expected answers in ./proofs/next/Answers.antt; `search` did not prove"
+            " `returns`; it calls `counting::most`, which is not proved"
+        ),
+        True,
+    ),
+    (
+        (
+            "not proved; it stands on `Rattle.counting.proofs.next.Answers.returns`, which antt"
+            " refuses"
+        ),
+        True,
+    ),
     ("not proved; it calls `counting::most`, which is not proved", False),
-    ("no proof: the borrow checker's part in its proof is not made yet: a call of `counting::most`, which has no proof", False),
-    ("no proof: expected `next_spec` in ./proofs/next/Proof.antt; the borrow checker does not cover this function yet", False),
+    (
+        (
+            "no proof: the borrow checker's part in its proof is not made yet: a call of"
+            " `counting::most`, which has no proof"
+        ),
+        False,
+    ),
+    (
+        (
+            "no proof: expected `next_spec` in ./proofs/next/Proof.antt; the borrow checker does"
+            " not cover this function yet"
+        ),
+        False,
+    ),
     ("depends on a hole in `Rattle.counting.proofs.Taken.taken`", False),
     ("no holes", False),
 ]
@@ -158,7 +259,8 @@ PROVED = ["most", "next", "twice", "after", "loud"]
 
 
 class RoundsTest(unittest.TestCase):
-    """Has the rounds try edits whose end is known, and finds of each whether what they say of it is right."""
+    """Has the rounds try edits whose end is known, and finds of each whether what they say of it is
+    right."""
 
     # the name by which the gate tells of it, and the processor seconds of its checks
     name, seconds = "gate", 0.0
@@ -184,8 +286,15 @@ class RoundsTest(unittest.TestCase):
         """Returns what the rounds say of a group of edits."""
         with tempfile.TemporaryDirectory(prefix="edits-own-") as root:
             place = f"{root}/crates/counting/must-fail"
-            edits = {f"{place}/{name}.edit": f"file: src/lib.rt\n{text}\n" for name, text, _, _ in group if text}
-            for file, text in {**{f"{root}/{path}": text for path, text in FILES.items()}, **edits}.items():
+            edits = {
+                f"{place}/{name}.edit": f"file: src/lib.rt\n{text}\n"
+                for name, text, _, _ in group
+                if text
+            }
+            for file, text in {
+                **{f"{root}/{path}": text for path, text in FILES.items()},
+                **edits,
+            }.items():
                 os.makedirs(os.path.dirname(file), exist_ok=True)
                 with open(file, "w", encoding="utf-8") as it:
                     it.write(text)

@@ -42,9 +42,12 @@ BUILDS = ("", ".by-rattle")
 MOST_OF_A_CHECK = 5e9
 SIGNALS = (signal.SIGTERM, signal.SIGINT, signal.SIGHUP)
 VERBS = {
-    "gate": "tests/prose; rt ci over a copy of the tree without its edits, then the must-fail edits in rounds over the libraries that it built, the tests of the "
-            "gate itself, the cases of tests/program over the program as each compiler built it, and the worked examples with each allocation refused; with "
-            "names, of these crates and those below",
+    "gate": (
+        "tests/prose; rt ci over a copy of the tree without its edits, then the must-fail edits in"
+        " rounds over the libraries that it built, the tests of the gate itself, the cases of"
+        " tests/program over the program as each compiler built it, and the worked examples with"
+        " each allocation refused; with names, of these crates and those below"
+    ),
     "must-fail": "the gate's edits alone, over libraries that `rt lib` builds where they stand",
     "further": "the same for the edits of crates/CRATE/further, which the gate leaves out",
     "look": "the gate's edits, each looked at once more, where the gate does so with a few",
@@ -54,21 +57,31 @@ REFUSED = re.compile(r"rt: (\w+)(: its tests are)? NOT PROVED")
 # The last line of a check of some functions: how many they are, and how many are proved.
 ONLY = re.compile(r"only=(\d+) proved=(\d+)\Z")
 # What no case of tests/program reads: the cases run where there is none of it.
-READ_BY_NO_CASE = re.compile(r"crates/|crates\.txt\Z|HANDLES\Z|bench/|gate/.*\.py\Z|tests/(near_the_end|prose|smtpd|refusals|takeover|bodies)/"
-                             r"|docs/(?!INSTALL\.md\Z|OPERATING\.md\Z)|\.ci/|\.git(/|\Z|ignore\Z)|README\.md\Z|CONTRIBUTING\.md\Z|pyproject\.toml\Z")
-# The crates of tests, which are run without their proofs, and what of each is proved all the same: that there are sources, sinks, links, ledgers and
-# networks of which contracts say all that they carried, and that a caller may know nothing but the trait.
+READ_BY_NO_CASE = re.compile(
+    r"crates/|crates\.txt\Z|HANDLES\Z|bench/|gate/.*\.py\Z|tests/(near_the_end|prose|smtpd|refusals|takeover|bodies)/"
+    r"|docs/(?!INSTALL\.md\Z|OPERATING\.md\Z)|\.ci/|\.git(/|\Z|ignore\Z)|README\.md\Z|CONTRIBUTING\.md\Z|pyproject\.toml\Z"
+)
+# The crates of tests, which are run without their proofs, and what of each is proved all the same:
+# that there are sources, sinks, links, ledgers and networks of which contracts say all that they
+# carried, and that a caller may know nothing but the trait.
 TESTS = {
-    "mq_ends_tests": ["filter_end::client::devices", "filter_end::client::script", "server_end::ledger::callers::apply_all", "server_end::room::network",
-                      "server_end::server::devices"],
+    "mq_ends_tests": [
+        "filter_end::client::devices",
+        "filter_end::client::script",
+        "server_end::ledger::callers::apply_all",
+        "server_end::room::network",
+        "server_end::server::devices",
+    ],
     "mq_store_tests": [],
 }
-# So many lines of what rt ci says of a crate that it refuses are told again, and of the cases that failed.
+# So many lines of what rt ci says of a crate that it refuses are told again, and of the cases that
+# failed.
 SAID = 12
 
 
 class Sum:
-    """What passed and failed so far, how much of it is kept from earlier runs, and the processor seconds by crate and kind of work."""
+    """What passed and failed so far, how much of it is kept from earlier runs, and the processor
+    seconds by crate and kind of work."""
 
     def __init__(self):
         self.passed, self.failed, self.taken = 0, 0, 0
@@ -102,19 +115,42 @@ class Sum:
 
 
 def files_of(tree):
-    """Returns the tree's files but for what git ignores, or where git has nothing to say, what rt and Python made."""
-    words = ["git", "-c", "safe.directory=*", "-C", tree, "ls-files", "-z", "--cached", "--others", "--exclude-standard"]
-    ran = subprocess.run(words, stdout=subprocess.PIPE, stderr=subprocess.DEVNULL) if os.path.lexists(f"{tree}/.git") and shutil.which("git") else None
+    """Returns the tree's files but for what git ignores, or where git has nothing to say, what rt
+    and Python made."""
+    words = [
+        "git",
+        "-c",
+        "safe.directory=*",
+        "-C",
+        tree,
+        "ls-files",
+        "-z",
+        "--cached",
+        "--others",
+        "--exclude-standard",
+    ]
+    ran = (
+        subprocess.run(words, stdout=subprocess.PIPE, stderr=subprocess.DEVNULL)
+        if os.path.lexists(f"{tree}/.git") and shutil.which("git")
+        else None
+    )
     if ran and not ran.returncode:
         listed = ran.stdout.decode(errors="surrogateescape").split("\0")
     else:
-        listed = [os.path.relpath(f"{at}/{it}", tree) for at, _, names in os.walk(tree) for it in names]
-        listed = [it for it in listed if not re.match(r"\.git(/|\Z)|crates/[^/]+/out/|(.*/)?__pycache__/", it)]
+        listed = [
+            os.path.relpath(f"{at}/{it}", tree) for at, _, names in os.walk(tree) for it in names
+        ]
+        listed = [
+            it
+            for it in listed
+            if not re.match(r"\.git(/|\Z)|crates/[^/]+/out/|(.*/)?__pycache__/", it)
+        ]
     return sorted(it for it in {*listed} if it and os.path.lexists(f"{tree}/{it}"))
 
 
 def copy_tree(wanted, tree, edits):
-    """Copies the repository with the wanted crates without their further edits. Their must-fail edits go into a folder of their own."""
+    """Copies the repository with the wanted crates without their further edits. Their must-fail
+    edits go into a folder of their own."""
     rows = rows_of(TOP)
     for file in files_of(TOP):
         parts = file.split("/")
@@ -136,7 +172,8 @@ def copy_tree(wanted, tree, edits):
 
 
 def refusals(lines):
-    """Returns of each crate, or its tests, that rt ci refused the line that says so and the last lines above it."""
+    """Returns of each crate, or its tests, that rt ci refused the line that says so and the last
+    lines above it."""
     section = []
     for line in lines:
         if line.startswith("== "):
@@ -147,13 +184,14 @@ def refusals(lines):
 
 
 def anew():
-    """Returns the words by which rt ci takes nothing for proved that an earlier run kept on this machine: a kit whose rt ci keeps
-    nothing has no word for it."""
+    """Returns the words by which rt ci takes nothing for proved that an earlier run kept on this
+    machine: a kit whose rt ci keeps nothing has no word for it."""
     return ["--anew"] if "--anew" in run([RT, "help"], TOP, LONGEST_CI).said else []
 
 
 def run_ci(tree, words, proved, sum_):
-    """Runs rt ci over the tree, adds what it counts and the time of each crate, hands on its lines, and returns the crates that it refused."""
+    """Runs rt ci over the tree, adds what it counts and the time of each crate, hands on its lines,
+    and returns the crates that it refused."""
     lines = []
 
     def tell(line):
@@ -162,7 +200,8 @@ def run_ci(tree, words, proved, sum_):
         proved.read(line)
         print(f"rt ci: {line}" if COUNTS.match(line) else line, flush=True)
 
-    # One job for each check: copies of a check that share its work load the libraries once more each. (rt then looks at no memory.)
+    # One job for each check: copies of a check that share its work load the libraries once more
+    # each. (rt then looks at no memory.)
     lanes = str(max(1, min(processors(), int(free() // MOST_OF_A_CHECK))))
     with minutes.Watch(tree) as watch:
         ran = run(["env", f"RT_JOBS={lanes}", RT, "ci", *words], tree, LONGEST_CI, tell)
@@ -174,13 +213,18 @@ def run_ci(tree, words, proved, sum_):
         sum_.fail("rt ci", f"it ended with status {ran.status} and {failed} failed", max(failed, 1))
     # (they stand far above, and a log is often read from its end)
     for line, above in refusals(lines):
-        print(f"FAILED {line}, behind these lines:", *(it[:400] for it in above), sep="\n    ", flush=True)
+        print(
+            f"FAILED {line}, behind these lines:",
+            *(it[:400] for it in above),
+            sep="\n    ",
+            flush=True,
+        )
     return {it[1] for it in map(REFUSED.match, lines) if it and not it[2]}
 
 
 def try_edits(every, sum_, others=()):
-    """Tries the edits of each crate in rounds, some crates side by side, and other tasks with them. What was killed is tried
-    once more, alone."""
+    """Tries the edits of each crate in rounds, some crates side by side, and other tasks with them.
+    What was killed is tried once more, alone."""
     tasks = [*others]
     for rounds in every:
         crate = rounds.crate
@@ -188,12 +232,27 @@ def try_edits(every, sum_, others=()):
         if rounds.taken:
             sum_.take(f"{rounds.name}, its edits", rounds.taken)
         if missing and rounds.is_left():
-            sum_.fail(crate.name, f"its edits were not tried, since its library {missing[0]} is not proved")
+            sum_.fail(
+                crate.name,
+                f"its edits were not tried, since its library {missing[0]} is not proved",
+            )
         elif rounds.is_left():
-            tasks.append(Task(rounds, (3 + len(rounds.files)) * lines_in(crate.folder, ""), crate.memory(), rounds.run))
-    killed = [rounds for rounds, ended in in_lanes(tasks) if not is_done(rounds, ended.result, sum_)]
+            tasks.append(
+                Task(
+                    rounds,
+                    (3 + len(rounds.files)) * lines_in(crate.folder, ""),
+                    crate.memory(),
+                    rounds.run,
+                )
+            )
+    killed = [
+        rounds for rounds, ended in in_lanes(tasks) if not is_done(rounds, ended.result, sum_)
+    ]
     for rounds in killed:
-        print(f"== {rounds.name}: a check was killed, most likely for memory: once more, alone", flush=True)
+        print(
+            f"== {rounds.name}: a check was killed, most likely for memory: once more, alone",
+            flush=True,
+        )
         if not is_done(rounds, rounds.run, sum_):
             sum_.fail(rounds.name, "a check of its edits was killed twice, most likely for memory")
 
@@ -215,10 +274,11 @@ def is_done(rounds, call, sum_):
 
 
 def groups():
-    """Returns the names of what has cases: the groups of tests/program, and the crates, of which some have tests."""
+    """Returns the names of what has cases: the groups of tests/program, and the crates, of which
+    some have tests."""
     folder = f"{TOP}/tests/program/cases"
     files = os.listdir(folder) if os.path.isdir(folder) else []
-    return {*rows_of(TOP), *(it[:-len(".py")] for it in files if it.endswith(".py"))}
+    return {*rows_of(TOP), *(it[: -len(".py")] for it in files if it.endswith(".py"))}
 
 
 def gate(names, sum_, takes):
@@ -239,7 +299,11 @@ def gate(names, sum_, takes):
         every, cases = [], groups()
         for it in (it for it in rows_of(tree) if it not in refused):
             place = f"{edits}/{it}"
-            every.append(Rounds(Crate(tree, it), place, proved.of, cases, Edits(kept, sums, it, place, cases)))
+            every.append(
+                Rounds(
+                    Crate(tree, it), place, proved.of, cases, Edits(kept, sums, it, place, cases)
+                )
+            )
         own = [it for it in map(OwnTest, (RoundsTest, KeepingTest)) if not is_kept(it, kept, sum_)]
         try_edits(every, sum_, [Task(it, 0, 1e9, it.run) for it in own])
         for it in own:
@@ -254,12 +318,19 @@ def gate(names, sum_, takes):
     kept.shrink()
     whole = resource.getrusage(resource.RUSAGE_CHILDREN)
     print("\n".join(minutes.table(sum_.seconds, whole.ru_utime + whole.ru_stime)), flush=True)
-    print(f"Of what passed, {sum_.taken} were kept by earlier runs on this machine, and {sum_.passed - sum_.taken} are of this one; how much of its own "
-          "rt ci had kept, its line 'rt: ok' says.", flush=True)
+    print(
+        (
+            f"Of what passed, {sum_.taken} were kept by earlier runs on this machine, and"
+            f" {sum_.passed - sum_.taken} are of this one; how much of its own rt ci had kept, its"
+            " line 'rt: ok' says."
+        ),
+        flush=True,
+    )
 
 
 def name_of(test):
-    """Returns the name of what a test of the gate itself found, which reads the gate's scripts and the kit."""
+    """Returns the name of what a test of the gate itself found, which reads the gate's scripts and
+    the kit."""
     return sum_of(test.name, of_gate(True), of_kit(), sys.version)
 
 
@@ -272,30 +343,47 @@ def is_kept(test, kept, sum_):
 
 
 def run_prose(sum_):
-    """Looks whether the documents agree with the tree: over all of it, whatever crates are wanted, since that takes two seconds."""
-    add_cases("tests/prose", run([sys.executable, f"{TOP}/tests/prose/run.py"], TOP, LONGEST_CASES), sum_)
+    """Looks whether the documents agree with the tree: over all of it, whatever crates are wanted,
+    since that takes two seconds."""
+    add_cases(
+        "tests/prose", run([sys.executable, f"{TOP}/tests/prose/run.py"], TOP, LONGEST_CASES), sum_
+    )
 
 
 def run_cases(tree, place, kept, sum_):
-    """Runs the cases of tests/program over the program as each compiler built it, one after the other, in a place where nothing is but what
-    their results are kept by."""
+    """Runs the cases of tests/program over the program as each compiler built it, one after the
+    other, in a place where nothing is but what their results are kept by."""
     for file in (it for it in files_of(tree) if not READ_BY_NO_CASE.match(it)):
         os.makedirs(os.path.dirname(f"{place}/{file}"), exist_ok=True)
         shutil.copy2(f"{tree}/{file}", f"{place}/{file}", follow_symlinks=False)
     read, counts = sum_of_files(place, os.listdir(place)), set()
     for ending in BUILDS:
         program = f"{tree}/crates/mailquota/out/mailquota{ending}"
-        made = [sum_of("cases", of_gate(), sys.version, read, sum_of_files(tree, [os.path.relpath(program, tree)]))]
+        made = [
+            sum_of(
+                "cases",
+                of_gate(),
+                sys.version,
+                read,
+                sum_of_files(tree, [os.path.relpath(program, tree)]),
+            )
+        ]
         words = [sys.executable, f"{place}/tests/program/run.py", "--gate", program]
-        counts.add(taken_or_run(f"tests/program over mailquota{ending}", made, words, place, kept, sum_))
+        counts.add(
+            taken_or_run(f"tests/program over mailquota{ending}", made, words, place, kept, sum_)
+        )
     if len(counts) > 1:
         sum_.fail("tests/program", "over one build it tried more cases than over the other")
 
 
 def run_refusals(tree, place, kept, sum_):
-    """Has the program go through the worked examples with each of its allocations refused in turn, in a place where nothing is but what the result
-    is kept by."""
-    program, read = "crates/mailquota/out/mailquota", ["tests/refusals", "tests/program", "tests/model"]
+    """Has the program go through the worked examples with each of its allocations refused in turn,
+    in a place where nothing is but what the result is kept by."""
+    program, read = "crates/mailquota/out/mailquota", [
+        "tests/refusals",
+        "tests/program",
+        "tests/model",
+    ]
     for it in read:
         shutil.copytree(f"{tree}/{it}", f"{place}/{it}")
     made = [sum_of("refusals", of_gate(), sys.version, sum_of_files(tree, [program, *read]))]
@@ -309,24 +397,55 @@ def run_near_the_end(tree, sums, kept, sum_):
     names = [it for it in rows_of(tree) if os.path.isdir(f"{place}/{it}")]
     if names:
         read = [sums.of_crate(crate) for it in names for crate in (*below(it, sums.rows), it)]
-        made = [sum_of("near the end", of_gate(), sys.version, names, read, sum_of_files(tree, ["tests/near_the_end"]))]
-        taken_or_run("tests/near_the_end", made, [sys.executable, f"{place}/run.py", *names], tree, kept, sum_)
+        made = [
+            sum_of(
+                "near the end",
+                of_gate(),
+                sys.version,
+                names,
+                read,
+                sum_of_files(tree, ["tests/near_the_end"]),
+            )
+        ]
+        taken_or_run(
+            "tests/near_the_end",
+            made,
+            [sys.executable, f"{place}/run.py", *names],
+            tree,
+            kept,
+            sum_,
+        )
 
 
 def run_tests(names, tree, kept, sum_):
-    """Runs the tests of these crates, which are built without proofs, and proves the modules of them that are to be proved."""
+    """Runs the tests of these crates, which are built without proofs, and proves the modules of
+    them that are to be proved."""
     for it in names:
-        shutil.copytree(f"{TOP}/crates/{it}", f"{tree}/crates/{it}", ignore=shutil.ignore_patterns("out", "must-fail", "further"))
+        shutil.copytree(
+            f"{TOP}/crates/{it}",
+            f"{tree}/crates/{it}",
+            ignore=shutil.ignore_patterns("out", "must-fail", "further"),
+        )
     shutil.copy2(f"{TOP}/crates.txt", f"{tree}/crates.txt")
     sums = Sums(tree)
     for it in names:
-        made = [sum_of("tests", of_gate(), sys.version, it, [sums.of_crate(crate) for crate in (*below(it, sums.rows), it)], sum_of_files(tree, ["scripts"]))]
+        made = [
+            sum_of(
+                "tests",
+                of_gate(),
+                sys.version,
+                it,
+                [sums.of_crate(crate) for crate in (*below(it, sums.rows), it)],
+                sum_of_files(tree, ["scripts"]),
+            )
+        ]
         taken_or_run(it, made, [sys.executable, f"{tree}/scripts/tests.py", it], tree, kept, sum_)
         prove_of_tests(Crate(tree, it), sums, kept, sum_)
 
 
 def prove_of_tests(crate, sums, kept, sum_):
-    """Proves the modules of a crate of tests that are to be proved, over the libraries that rt ci built."""
+    """Proves the modules of a crate of tests that are to be proved, over the libraries that rt ci
+    built."""
     modules, name = TESTS[crate.name], f"{crate.name}, what is proved of it"
     missing = [it for it in crate.below if not os.path.isdir(crate.rlib(it))]
     if not modules:
@@ -352,7 +471,8 @@ def prove_of_tests(crate, sums, kept, sum_):
 
 
 def taken_or_run(name, made, words, folder, kept, sum_):
-    """Adds what these cases came to, in an earlier run or in this one, and returns how many they are."""
+    """Adds what these cases came to, in an earlier run or in this one, and returns how many they
+    are."""
     number = kept.take(made)
     if number:
         sum_.take(name, number)
@@ -365,7 +485,8 @@ def taken_or_run(name, made, words, folder, kept, sum_):
 
 
 def add_cases(name, ran, sum_):
-    """Adds what a run of the cases counted, prints those that failed, and returns how many it tried."""
+    """Adds what a run of the cases counted, prints those that failed, and returns how many it
+    tried."""
     lines = ran.said.rstrip("\n").split("\n")
     counts = COUNTS.match(lines[-1])
     passed, failed = map(int, counts.groups()) if counts else (0, 0)
@@ -373,14 +494,18 @@ def add_cases(name, ran, sum_):
     sum_.seconds[name.partition(" over ")[0], "test"] += ran.seconds
     print(f"== {name}: {passed} passed, {failed} failed, {ran.seconds:.0f} s", flush=True)
     if ran.status != 0 or failed or not passed:
-        print("\n".join([it for it in lines if it.startswith("NOT ")][:SAID]) or "\n".join(lines[-SAID:]), flush=True)
+        print(
+            "\n".join([it for it in lines if it.startswith("NOT ")][:SAID])
+            or "\n".join(lines[-SAID:]),
+            flush=True,
+        )
         sum_.fail(name, f"it ended with status {ran.status} and {failed} failed", max(failed, 1))
     return passed + failed
 
 
 def alone(names, part, sum_, kept=None, cases=None, looks_at_all=False):
-    """Tries the edits in this folder of crates, over the libraries where they stand. `cases` are the names of what has cases, where an edit is to
-    name one."""
+    """Tries the edits in this folder of crates, over the libraries where they stand. `cases` are
+    the names of what has cases, where an edit is to name one."""
     rows, sums = rows_of(TOP), Sums(TOP, is_built=False)
     place_of = lambda it: f"{TOP}/crates/{it}/{part}"
     names = names or sorted(it for it in os.listdir(f"{TOP}/crates") if os.path.isdir(place_of(it)))
@@ -392,7 +517,9 @@ def alone(names, part, sum_, kept=None, cases=None, looks_at_all=False):
     for it in (it for it in names if it in rows and os.path.isdir(place_of(it))):
         edits = Edits(kept, sums, it, place_of(it), cases) if kept else None
         every.append(Rounds(Crate(TOP, it), place_of(it), proved, cases, edits, looks_at_all))
-    for library in dict.fromkeys(it for rounds in every if rounds.is_left() for it in rounds.crate.below):
+    for library in dict.fromkeys(
+        it for rounds in every if rounds.is_left() for it in rounds.crate.below
+    ):
         ran = run([RT, "lib"], f"{TOP}/crates/{library}", LONGEST_CI)
         if ran.status:
             print(ran.said)
@@ -413,7 +540,9 @@ def parsed():
         its = verbs.add_parser(verb, help=what, description=what)
         its.add_argument("crates", metavar="CRATE", nargs="*", help="by default all")
         if verb in ("gate", "must-fail"):
-            its.add_argument("--from-nothing", action="store_true", help="take nothing that earlier runs kept")
+            its.add_argument(
+                "--from-nothing", action="store_true", help="take nothing that earlier runs kept"
+            )
     return parser.parse_args()
 
 
@@ -432,7 +561,9 @@ def main():
         if asked.verb == "gate":
             gate(asked.crates, sum_, not asked.from_nothing)
         elif asked.verb == "must-fail":
-            alone(asked.crates, "must-fail", sum_, Kept(not asked.from_nothing, keeps=False), groups())
+            alone(
+                asked.crates, "must-fail", sum_, Kept(not asked.from_nothing, keeps=False), groups()
+            )
         elif asked.verb == "further":
             alone(asked.crates, "further", sum_)
         else:

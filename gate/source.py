@@ -3,13 +3,16 @@ import os
 import re
 from collections import namedtuple
 
-# A function with a body: its first place, that of its body, the place after its last, its names from the outermost module or type
-# on, whether it stands in an impl without a trait, and whether in a module, and so in no impl, trait or function.
+# A function with a body: its first place, that of its body, the place after its last, its names
+# from the outermost module or type on, whether it stands in an impl without a trait, and whether in
+# a module, and so in no impl, trait or function.
 Function = namedtuple("Function", "begins body ends names is_of_type is_of_module")
 
 # Comments, strings, characters and lifetimes, in which a brace opens nothing.
 TOKEN = re.compile(
-    r"""//[^\n]*|/\*.*?\*/|b?r(#*)".*?"\1|b?"(?:[^"\\]|\\.)*"|b?'(?:[^'\\\n]|\\[^'\n]+|\\')'|'\w+""", re.S)
+    r"""//[^\n]*|/\*.*?\*/|b?r(#*)".*?"\1|b?"(?:[^"\\]|\\.)*"|b?'(?:[^'\\\n]|\\[^'\n]+|\\')'|'\w+""",
+    re.S,
+)
 # An array's type or value, whose semicolon ends nothing.
 ARRAY = re.compile(r"\[[^\[\]{}]*;[^\[\]{}]*\]")
 ENSURES = re.compile(r"\bensures\s+(?:(\w+)\s*)?\{")
@@ -20,7 +23,8 @@ BRANCH = re.compile(r"\b(?:if|match|for|while|loop)\b|[?|]")
 
 
 def blanked(text):
-    """Returns the text with spaces for what TOKEN finds and for the semicolons of arrays, each character in its place."""
+    """Returns the text with spaces for what TOKEN finds and for the semicolons of arrays, each
+    character in its place."""
     text = TOKEN.sub(lambda it: re.sub(r"[^\n]", " ", it[0]), text)
     return ARRAY.sub(lambda it: it[0].replace(";", " "), text)
 
@@ -43,14 +47,15 @@ def argument_name(path):
 
 
 def impl_name(head):
-    """Returns the name of an impl's functions' place: the type, its trait, and the trait's arguments."""
+    """Returns the name of an impl's functions' place: the type, its trait, and the trait's
+    arguments."""
     head = re.split(r"\bwhere\b", head.strip())[0].strip()
     if head.startswith("<"):
         depth = 0
         for at, char in enumerate(head):
             depth += (char == "<") - (char == ">" and head[at - 1] != "-")
             if not depth:
-                head = head[at + 1:].strip()
+                head = head[at + 1 :].strip()
                 break
     last = lambda path: without_brackets(path).strip().lstrip("&").strip().rpartition("::")[2]
     trait, is_of_trait, type_ = head.rpartition(" for ")
@@ -61,7 +66,8 @@ def impl_name(head):
 
 
 def name_of(head):
-    """Returns the name of what a brace opens after such a text, if it is a function, a type's functions or a module."""
+    """Returns the name of what a brace opens after such a text, if it is a function, a type's
+    functions or a module."""
     function, type_ = FUNCTION.search(head), TYPE.search(head)
     module = re.search(r"\bmod\s+(\w+)\s*\Z", head)
     if function:
@@ -91,32 +97,43 @@ def functions(text):
             name, begins, body, said = open_.pop()
             if FUNCTION.search(said):
                 names = (*(it[0] for it in open_ if it[0]), name)
-                is_of_type = bool(open_) and bool(re.match(r"\s*impl\b(?!.*\bfor\b)", open_[-1][3], re.S))
-                is_of_module = all(not FUNCTION.search(it[3]) and not TYPE.search(it[3]) for it in open_ if it)
+                is_of_type = bool(open_) and bool(
+                    re.match(r"\s*impl\b(?!.*\bfor\b)", open_[-1][3], re.S)
+                )
+                is_of_module = all(
+                    not FUNCTION.search(it[3]) and not TYPE.search(it[3]) for it in open_ if it
+                )
                 found.append(Function(begins, body, at + 1, names, is_of_type, is_of_module))
         head = at + 1
     return sorted(found)
 
 
 def overlap(some, others):
-    """Returns whether two sets of functions share one, of which one may be named by its end alone."""
+    """Returns whether two sets of functions share one, of which one may be named by its end
+    alone."""
     return any(a == b or a.endswith("::" + b) or b.endswith("::" + a) for a in some for b in others)
 
 
 def module_of(path):
     """Returns the names of the module that a file of src/ is."""
-    return tuple(it for it in path[len("src/"):-len(".rt")].split("/") if it not in ("lib", "main", "mod"))
+    return tuple(
+        it for it in path[len("src/") : -len(".rt")].split("/") if it not in ("lib", "main", "mod")
+    )
 
 
 def full_name(path, text, function):
     """Returns a function of the file as module::Type::name."""
-    # A type's own functions are named by its module: where that is another file, the end of the name has to do.
-    is_elsewhere = function.is_of_type and not re.search(rf"\b(?:struct|enum)\s+{function.names[-2]}\b", text)
+    # A type's own functions are named by its module: where that is another file, the end of the
+    # name has to do.
+    is_elsewhere = function.is_of_type and not re.search(
+        rf"\b(?:struct|enum)\s+{function.names[-2]}\b", text
+    )
     return "::".join((*(() if is_elsewhere else module_of(path)), *function.names))
 
 
 def function_at(path, text, at):
-    """Returns the innermost function that holds the place of the file, as module::Type::name, or none."""
+    """Returns the innermost function that holds the place of the file, as module::Type::name, or
+    none."""
     around = [it for it in functions(text) if it.begins <= at < it.ends]
     return full_name(path, text, max(around)) if around else None
 
@@ -127,23 +144,25 @@ def function_named(path, text, name):
 
 
 def renamed(text, new):
-    """Returns the text of a function under another name, without what is said of its file above it."""
+    """Returns the text of a function under another name, without what is said of its file above
+    it."""
     text = re.sub(r"\A(?:\s*(?://!|#!\[)[^\n]*\n)+", "", text)
     at = FUNCTION.search(blanked(text))
-    return text[:at.start(1)] + new + text[at.end(1):]
+    return text[: at.start(1)] + new + text[at.end(1) :]
 
 
 def with_clause(text, name):
-    """Returns the text of a function with this clause alone of what its contract says of the result, and without its name, so that a goal is the
-    clause itself; or none where it has no such clause."""
+    """Returns the text of a function with this clause alone of what its contract says of the
+    result, and without its name, so that a goal is the clause itself; or none where it has no such
+    clause."""
     plain, parts, last, is_there = blanked(text), [], 0, False
-    for it in ENSURES.finditer(plain[:functions(text)[0].body]):
+    for it in ENSURES.finditer(plain[: functions(text)[0].body]):
         if it[1] == name:
             is_there = True
-            parts.append(text[last:it.start(1)])
+            parts.append(text[last : it.start(1)])
             last = it.end(1)
         else:
-            parts.append(text[last:it.start()])
+            parts.append(text[last : it.start()])
             last = closed_at(plain, it.end())
     return "".join(parts) + text[last:] if is_there else None
 
@@ -158,12 +177,13 @@ def closed_at(plain, at):
 
 
 def without_bodies(path, text, is_kept):
-    """Returns the text, in which a function whose name isn't kept never ends, whatever its type: it is there to be called alone."""
+    """Returns the text, in which a function whose name isn't kept never ends, whatever its type: it
+    is there to be called alone."""
     parts, last, over = [], 0, 0
     for it in functions(text):
         # (a function in another one goes or stays with it)
         if it.begins >= over and not is_kept(full_name(path, text, it)):
-            parts += [text[last:it.body], "{ loop {} }"]
+            parts += [text[last : it.body], "{ loop {} }"]
             last = it.ends
         over = max(over, it.ends)
     return "".join(parts) + text[last:]
@@ -181,18 +201,31 @@ def texts_in(folder):
 
 
 def generic(folder):
-    """Returns the functions of the crate that are over types, or whose impl is, by the name that the prover prints."""
+    """Returns the functions of the crate that are over types, or whose impl is, by the name that
+    the prover prints."""
     found = set()
     for path, text in texts_in(folder).items():
         plain = blanked(text)
         for it in functions(text):
-            heads = [plain[it.begins:it.body]] + re.findall(r"\b(?:impl|trait)\b[^{};]*", plain[:it.begins])[-1:] * (len(it.names) > 1)
-            if any(re.search(r"\b(?:fn\s+\w+|impl|trait\s+\w+)\s*<(?!\s*'\w+\s*>)", head) for head in heads):
+            heads = [plain[it.begins : it.body]] + re.findall(
+                r"\b(?:impl|trait)\b[^{};]*", plain[: it.begins]
+            )[-1:] * (len(it.names) > 1)
+            if any(
+                re.search(r"\b(?:fn\s+\w+|impl|trait\s+\w+)\s*<(?!\s*'\w+\s*>)", head)
+                for head in heads
+            ):
                 found.add("::".join((*module_of(path), *it.names)))
     return found
 
 
 def costs(folder):
-    """Returns of each function of the crate, by the name that the prover prints, whether it has a branch, a loop or a closure, and how many characters."""
-    return {"::".join((*module_of(path), *it.names)): (bool(BRANCH.search(blanked(text[it.body:it.ends]))), it.ends - it.begins)
-            for path, text in texts_in(folder).items() for it in functions(text)}
+    """Returns of each function of the crate, by the name that the prover prints, whether it has a
+    branch, a loop or a closure, and how many characters."""
+    return {
+        "::".join((*module_of(path), *it.names)): (
+            bool(BRANCH.search(blanked(text[it.body : it.ends]))),
+            it.ends - it.begins,
+        )
+        for path, text in texts_in(folder).items()
+        for it in functions(text)
+    }

@@ -1,4 +1,5 @@
-"""The tests of the gate itself, as tasks of the gate. `python3 -m unittest discover gate '*_test.py'` runs them alone."""
+"""The tests of the gate itself, as tasks of the gate. `python3 -m unittest discover gate
+'*_test.py'` runs them alone."""
 import unittest
 
 from rounds import Killed, Result
@@ -29,7 +30,8 @@ class Outcome(unittest.TestResult):
 
 
 class OwnTest:
-    """A class of tests of the gate itself, which the gate runs as it runs the rounds of a crate's edits."""
+    """A class of tests of the gate itself, which the gate runs as it runs the rounds of a crate's
+    edits."""
 
     def __init__(self, tests):
         self.tests, self.name, self.results, self.seconds = tests, tests.name, [], 0.0

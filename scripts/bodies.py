@@ -1,18 +1,17 @@
 #!/usr/bin/env python3
-"""Runs the planted bodies: wrong bodies of functions that no contract refuses, each with the case or
-the test that is to fail over it.
+"""Runs the planted bodies: wrong bodies of functions that no contract refuses, each with the case
+or the test that is to fail over it.
 
 A body is a file tests/bodies/CRATE/NAME.edit, written as a must-fail edit, or a must-fail edit
-itself, with a line 'case: GROUP: NAME' for a case of tests/program that begins so, or
-'case: CRATE: TEST' for a test of mq_ends_tests or mq_store_tests. With several such lines each is to
-fail.
+itself, with a line 'case: GROUP: NAME' for a case of tests/program that begins so, or 'case: CRATE:
+TEST' for a test of mq_ends_tests or mq_store_tests. With several such lines each is to fail.
 
 All bodies stand in one program, which is built without proofs, each with a number: a function runs
 the body whose number PLANTED in the environment is, and else its own. So one build serves all, and
 each is tried alone. A body that changes more than functions has a build of its own. What is to fail
 has to pass in the same build without a body. RT_JOBS in the environment says how many builds and
-runs there are at once, by default two. The last line is 'N passed, M failed', and the status 1 where
-any failed.
+runs there are at once, by default two. The last line is 'N passed, M failed', and the status 1
+where any failed.
 """
 import argparse
 import collections
@@ -46,7 +45,9 @@ LONGEST = 10 * 60
 # What a run has come to that ends in an exception.
 END = "it comes to its end"
 # A line that says what a case or a test came to.
-CASE, TEST = re.compile(r"(ok  |NOT )(.*)\n?"), re.compile(r"test (?=.* \.\.\. (\w+))(\S+) \.\.\. .*\n?")
+CASE, TEST = re.compile(r"(ok  |NOT )(.*)\n?"), re.compile(
+    r"test (?=.* \.\.\. (\w+))(\S+) \.\.\. .*\n?"
+)
 # The crate that says which body runs.
 SWITCH = "planted"
 SWITCH_TEXT = """//! Which planted body runs.
@@ -75,15 +76,18 @@ int planted_body(void) {
 
 
 class Body:
-    """A wrong body: what it changes, what is to fail over it, its number, and why it can't be built, if it can't."""
+    """A wrong body: what it changes, what is to fail over it, its number, and why it can't be
+    built, if it can't."""
 
     def __init__(self, crate, file):
-        self.crate, self.name = crate, os.path.basename(file)[:-len(".edit")]
+        self.crate, self.name = crate, os.path.basename(file)[: -len(".edit")]
         # (whatever other bodies there are)
         self.number = 1 + (zlib.crc32(f"{self.crate} {self.name}".encode()) >> 1)
         self.cases, self.pairs, self.why = cases_in(file), [], None
         try:
-            self.pairs = [it for it in Edit(file, f"{TOP}/crates/{crate}").pairs if it[0].startswith("src/")]
+            self.pairs = [
+                it for it in Edit(file, f"{TOP}/crates/{crate}").pairs if it[0].startswith("src/")
+            ]
         except BadEdit as bad:
             self.why = str(bad)
         # the functions that it changes, by file, each with its new body; none where it changes more
@@ -95,9 +99,14 @@ class Body:
 
 
 def cases_in(file):
-    """What is to fail: groups of tests/program or crates of tests, each with the beginning of a case or a test."""
+    """What is to fail: groups of tests/program or crates of tests, each with the beginning of a
+    case or a test."""
     with open(file, encoding="utf-8") as lines:
-        said = [line[len("case:"):].strip().partition(": ") for line in lines if line.startswith("case:")]
+        said = [
+            line[len("case:") :].strip().partition(": ")
+            for line in lines
+            if line.startswith("case:")
+        ]
     return [(group, name) for group, _, name in said]
 
 
@@ -108,7 +117,10 @@ def target_of(group):
 def all_bodies():
     found = []
     for crate in rows_of(TOP):
-        for place, is_own in ((f"{TOP}/tests/bodies/{crate}", True), (f"{TOP}/crates/{crate}/must-fail", False)):
+        for place, is_own in (
+            (f"{TOP}/tests/bodies/{crate}", True),
+            (f"{TOP}/crates/{crate}/must-fail", False),
+        ):
             files = [f"{place}/{it}" for it in edits_in(place)[0]]
             found += [(crate, it) for it in files if is_own or cases_in(it)]
     return [Body(crate, file) for crate, file in found]
@@ -125,7 +137,8 @@ def write(file, text):
 
 
 def functions_of(body):
-    """The functions that a body changes, by file, each with the new text between its braces; None where it changes more than these."""
+    """The functions that a body changes, by file, each with the new text between its braces; None
+    where it changes more than these."""
     found = collections.defaultdict(dict)
     for path, old, new in body.pairs:
         text = text_of(f"{TOP}/crates/{body.crate}/{path}")
@@ -134,20 +147,25 @@ def functions_of(body):
         if at < 0 or not around:
             return None
         function = max(around)
-        if re.search(r"\bconst\s+fn\b", text[function.begins:function.body]):
+        if re.search(r"\bconst\s+fn\b", text[function.begins : function.body]):
             return None
-        was = found[path].get(function, text[function.body:function.ends])
+        was = found[path].get(function, text[function.body : function.ends])
         found[path][function] = was.replace(old, new)
     return found
 
 
 def copy_sources(root):
     shutil.copy(f"{TOP}/crates.txt", root)
-    shutil.copytree(f"{TOP}/crates", f"{root}/crates", ignore=shutil.ignore_patterns("out", "must-fail", "further", "proofs", "specs"))
+    shutil.copytree(
+        f"{TOP}/crates",
+        f"{root}/crates",
+        ignore=shutil.ignore_patterns("out", "must-fail", "further", "proofs", "specs"),
+    )
 
 
 def plant(root, planted):
-    """Puts bodies into a copy of the sources, each with its number; returns from which line to which each stands, by file."""
+    """Puts bodies into a copy of the sources, each with its number; returns from which line to
+    which each stands, by file."""
     by_file, places = collections.defaultdict(lambda: collections.defaultdict(list)), []
     for body in planted:
         for path, functions in body.functions.items():
@@ -156,32 +174,47 @@ def plant(root, planted):
     for file, functions in by_file.items():
         text, made, last = text_of(f"{TOP}/{file}"), "", 0
         for function, its in sorted(functions.items(), key=lambda it: it[0]):
-            made += text[last:function.body] + "{ "
+            made += text[last : function.body] + "{ "
             for body, changed in its:
                 first = made.count("\n") + 1
                 made += f"if {SWITCH}::is({body.number}) {changed} else "
                 places.append((file, first, made.count("\n") + 1, body))
-            made += text[function.body:function.ends] + " }"
+            made += text[function.body : function.ends] + " }"
             last = function.ends
         write(f"{root}/{file}", made + text[last:])
     return places
 
 
 def add_switch(root):
-    """Adds the crate that says which body runs, and lets each crate call it; returns its part in C."""
+    """Adds the crate that says which body runs, and lets each crate call it; returns its part in
+    C."""
     rows = rows_of(root)
     os.makedirs(f"{root}/crates/{SWITCH}/src")
     write(f"{root}/crates/{SWITCH}/src/lib.rt", SWITCH_TEXT)
-    write(f"{root}/crates.txt", "".join(f"{name}: {' '.join([SWITCH, *uses])}\n" for name, uses in rows.items()) + f"{SWITCH}:\n")
+    write(
+        f"{root}/crates.txt",
+        "".join(f"{name}: {' '.join([SWITCH, *uses])}\n" for name, uses in rows.items())
+        + f"{SWITCH}:\n",
+    )
     write(f"{root}/switch.c", SWITCH_IN_C)
-    clang = [f"{unproved.TOOLS}/bin/clang", "--target=x86_64-unknown-linux-gnu", "-fPIE", "-O1", "-c"]
+    clang = [
+        f"{unproved.TOOLS}/bin/clang",
+        "--target=x86_64-unknown-linux-gnu",
+        "-fPIE",
+        "-O1",
+        "-c",
+    ]
     subprocess.run([*clang, f"{root}/switch.c", "-o", f"{root}/switch.o"], check=True)
     return f"{root}/switch.o"
 
 
 def sum_of(root):
     """A sum of all that a build below a folder reads."""
-    total = hashlib.sha256(subprocess.run([RT, "version"], stdin=subprocess.DEVNULL, capture_output=True, check=True).stdout)
+    total = hashlib.sha256(
+        subprocess.run(
+            [RT, "version"], stdin=subprocess.DEVNULL, capture_output=True, check=True
+        ).stdout
+    )
     for at, folders, names in os.walk(root):
         folders.sort()
         for it in (it for it in sorted(names) if not it.endswith(".o")):
@@ -191,7 +224,8 @@ def sum_of(root):
 
 
 def built(target, planted):
-    """The program or the tests with these bodies, each with its number. Those that don't compile are left out, and say so. What is built is kept."""
+    """The program or the tests with these bodies, each with its number. Those that don't compile
+    are left out, and say so. What is built is kept."""
     kept = f"{TOP}/crates/{target}/out/bodies/{target}"
     os.makedirs(os.path.dirname(kept), exist_ok=True)
     while True:
@@ -213,19 +247,29 @@ def built(target, planted):
 
 
 def blame(said, places):
-    """Says of the bodies at whose lines a compiler finds errors that they can't be built; returns whether there are any."""
+    """Says of the bodies at whose lines a compiler finds errors that they can't be built; returns
+    whether there are any."""
     errors = re.findall(r"([\w./-]+\.rt):(\d+)", said)
-    found = [body for file, first, last, body in places for at, line in errors if at.endswith(file.partition("/")[2]) and first <= int(line) <= last]
+    found = [
+        body
+        for file, first, last, body in places
+        for at, line in errors
+        if at.endswith(file.partition("/")[2]) and first <= int(line) <= last
+    ]
     for body in found:
         body.why = said.strip()
     return bool(found)
 
 
 def built_alone(target, body, root):
-    """The program or the tests with this body in place of what it changes; where it doesn't compile, it says so."""
+    """The program or the tests with this body in place of what it changes; where it doesn't
+    compile, it says so."""
     copy_sources(root)
     for path, old, new in body.pairs:
-        write(f"{root}/crates/{body.crate}/{path}", text_of(f"{root}/crates/{body.crate}/{path}").replace(old, new))
+        write(
+            f"{root}/crates/{body.crate}/{path}",
+            text_of(f"{root}/crates/{body.crate}/{path}").replace(old, new),
+        )
     body.why = unproved.build(target, root, f"{root}/{target}", optimizes=True)
     return f"{root}/{target}"
 
@@ -244,19 +288,36 @@ Outcome = collections.namedtuple("Outcome", "name is_good function")
 
 
 def outcomes(words, number, is_enough=lambda found: False):
-    """What the cases or tests of a run come to with the body of this number, each with the function of its group, until they are enough."""
+    """What the cases or tests of a run come to with the body of this number, each with the function
+    of its group, until they are enough."""
     found, function, late = [], None, threading.Event()
     environment = {**os.environ, "PLANTED": str(number), "PYTHONUNBUFFERED": "1"}
-    with subprocess.Popen(words, env=environment, stdin=subprocess.DEVNULL, stdout=subprocess.PIPE, stderr=subprocess.STDOUT, text=True,
-                          errors="replace", start_new_session=True) as process:
+    with subprocess.Popen(
+        words,
+        env=environment,
+        stdin=subprocess.DEVNULL,
+        stdout=subprocess.PIPE,
+        stderr=subprocess.STDOUT,
+        text=True,
+        errors="replace",
+        start_new_session=True,
+    ) as process:
         timer = threading.Timer(LONGEST, lambda: (late.set(), end(process)))
         timer.start()
         try:
             for line in process.stdout:
-                begun, told = re.fullmatch(r"-- \w+: (\w+)\n", line), CASE.fullmatch(line) or TEST.fullmatch(line)
+                begun, told = re.fullmatch(r"-- \w+: (\w+)\n", line), CASE.fullmatch(
+                    line
+                ) or TEST.fullmatch(line)
                 function = begun[1] if begun else function
                 if told:
-                    name = END if f": {END}: " in line else told[2].rpartition("::")[2] if line.startswith("test ") else told[2]
+                    name = (
+                        END
+                        if f": {END}: " in line
+                        else told[2].rpartition("::")[2]
+                        if line.startswith("test ")
+                        else told[2]
+                    )
                     found.append(Outcome(name, told[1] in ("ok  ", "ok"), function))
                     if is_enough(found):
                         break
@@ -268,9 +329,17 @@ def outcomes(words, number, is_enough=lambda found: False):
 
 
 def words_of(group, program, name, function=None):
-    """The words that run a group of cases, or of it one function, or a crate's tests with a name."""
+    """The words that run a group of cases, or of it one function, or a crate's tests with a
+    name."""
     if target_of(group) == PROGRAM:
-        return [sys.executable, f"{TOP}/tests/program/run.py", "--group", group, program, *([function] if function else [])]
+        return [
+            sys.executable,
+            f"{TOP}/tests/program/run.py",
+            "--group",
+            group,
+            program,
+            *([function] if function else []),
+        ]
     return [f"{KIT}/bin/rattle-test", "--seconds", str(LONGEST), "--filter", name, program]
 
 
@@ -286,14 +355,24 @@ def unseen(body, programs, without):
     for group, name in body.cases:
         named = [it for it in without[group, name].result() if it.name.startswith(name)]
         if not named or not all(it.is_good for it in named):
-            missed.append(f"{group}: {name} (without the body {'it fails' if named else 'there is no such case'})")
+            missed.append(
+                f"{group}: {name} (without the body"
+                f" {'it fails' if named else 'there is no such case'})"
+            )
             continue
         functions = {it.function for it in named}
-        words = words_of(group, programs[target_of(group)], name, functions.pop() if len(functions) == 1 else None)
+        words = words_of(
+            group,
+            programs[target_of(group)],
+            name,
+            functions.pop() if len(functions) == 1 else None,
+        )
         found = outcomes(words, body.number, lambda found: is_failing(name, found, len(named)))
         if not is_failing(name, found, len(named)):
             others = [it.name[:100] for it in found if not it.is_good][:3]
-            missed.append(f"{group}: {name}" + f" (others fail: {'; '.join(others)})" * bool(others))
+            missed.append(
+                f"{group}: {name}" + f" (others fail: {'; '.join(others)})" * bool(others)
+            )
     return missed
 
 
@@ -304,7 +383,13 @@ def tell(body, missed):
     elif missed:
         print(f"NOT SEEN {body.crate}: {body.name}: {'; '.join(missed)}", flush=True)
     else:
-        print(f"failed as it must: {body.crate}: {body.name}: {'; '.join(': '.join(it) for it in body.cases)}", flush=True)
+        print(
+            (
+                f"failed as it must: {body.crate}: {body.name}:"
+                f" {'; '.join(': '.join(it) for it in body.cases)}"
+            ),
+            flush=True,
+        )
     return not body.why and not missed
 
 
@@ -322,17 +407,35 @@ def tried_alone(body, without):
 
 def runs_without(bodies, programs, pool):
     """Of each case that is to fail the run of its group, or of its tests, without a body."""
-    wanted = {it: (it[0], it[1] if target_of(it[0]) != PROGRAM else None) for body in bodies for it in body.cases}
-    runs = {it: pool.submit(outcomes, words_of(it[0], programs[target_of(it[0])], it[1]), 0) for it in dict.fromkeys(wanted.values())}
+    wanted = {
+        it: (it[0], it[1] if target_of(it[0]) != PROGRAM else None)
+        for body in bodies
+        for it in body.cases
+    }
+    runs = {
+        it: pool.submit(outcomes, words_of(it[0], programs[target_of(it[0])], it[1]), 0)
+        for it in dict.fromkeys(wanted.values())
+    }
     return {case: runs[it] for case, it in wanted.items()}
 
 
 def main():
-    parser = argparse.ArgumentParser(description=__doc__, formatter_class=argparse.RawDescriptionHelpFormatter)
-    parser.add_argument("names", metavar="NAME", nargs="*", help="only the bodies of these names, or of these crates")
+    parser = argparse.ArgumentParser(
+        description=__doc__, formatter_class=argparse.RawDescriptionHelpFormatter
+    )
+    parser.add_argument(
+        "names",
+        metavar="NAME",
+        nargs="*",
+        help="only the bodies of these names, or of these crates",
+    )
     names, everything = parser.parse_args().names, all_bodies()
     asked = [it for it in everything if not names or it.crate in names or it.name in names]
-    unknown = [it for it in names if it not in {name for body in everything for name in (body.crate, body.name)}]
+    unknown = [
+        it
+        for it in names
+        if it not in {name for body in everything for name in (body.crate, body.name)}
+    ]
     if unknown:
         parser.error(f"no crate and no body has this name: {', '.join(unknown)}")
     with ThreadPoolExecutor(int(os.environ.get("RT_JOBS", 2))) as pool:

@@ -35,8 +35,9 @@ PROGRAM = "mailquota"
 BINARY = f"{TOP}/crates/{PROGRAM}/out/{PROGRAM}"
 # the memory that a check is given, in kilobytes
 MEMORY = 4_000_000
-# How many jobs prove a crate, where not one for each processor along the longest chain, and one elsewhere: each job does part of the work of the others
-# again, and while other crates are ready, two or three jobs of each are better than four of one.
+# How many jobs prove a crate, where not one for each processor along the longest chain, and one
+# elsewhere: each job does part of the work of the others again, and while other crates are ready,
+# two or three jobs of each are better than four of one.
 JOBS = {"mq_request": 2, "mq_frame": 2, "mq_ledger": 2, "mq_rows": 2, "mq_tables": 2, "mq_store": 3}
 
 
@@ -63,27 +64,39 @@ def sum_file(name):
 
 
 def stamp(name):
-    """A file that is younger than the sums of the crate and of those below it, once it is built from what they have."""
+    """A file that is younger than the sums of the crate and of those below it, once it is built
+    from what they have."""
     return f"{folder(name)}/out/build/done"
 
 
 def commit():
-    """The commit that this tree is of: by git, or by the file COMMIT of an archive that `make dist` made. None where neither is there, and where a file
-    is changed."""
+    """The commit that this tree is of: by git, or by the file COMMIT of an archive that `make dist`
+    made. None where neither is there, and where a file is changed."""
     if not os.path.exists(f"{TOP}/.git"):
         if not os.path.exists(f"{TOP}/COMMIT"):
             return None
         with open(f"{TOP}/COMMIT", encoding="ascii") as file:
             return file.read().strip()
-    git = lambda *words: subprocess.run(["git", "-C", TOP, *words], stdin=subprocess.DEVNULL, capture_output=True, text=True, check=True).stdout.strip()
+    git = lambda *words: subprocess.run(
+        ["git", "-C", TOP, *words],
+        stdin=subprocess.DEVNULL,
+        capture_output=True,
+        text=True,
+        check=True,
+    ).stdout.strip()
     try:
-        return None if git("status", "--porcelain", "--untracked-files=no") else git("rev-parse", "HEAD")
+        return (
+            None
+            if git("status", "--porcelain", "--untracked-files=no")
+            else git("rev-parse", "HEAD")
+        )
     except (FileNotFoundError, subprocess.CalledProcessError):
         return None
 
 
 def commit_file():
-    """A file with the first twelve digits of the commit of the build that is going on; it is empty where there is none."""
+    """A file with the first twelve digits of the commit of the build that is going on; it is empty
+    where there is none."""
     return f"{folder(PROGRAM)}/out/build/commit"
 
 
@@ -110,7 +123,10 @@ def source_of(name):
 
 def crates(rows):
     """The program and the crates that it stands on, each with those of ours that its line names."""
-    return {name: [it for it in rows[name] if it in rows] for name in [*all_below(PROGRAM, rows), PROGRAM]}
+    return {
+        name: [it for it in rows[name] if it in rows]
+        for name in [*all_below(PROGRAM, rows), PROGRAM]
+    }
 
 
 def files_of(crate):
@@ -122,9 +138,11 @@ def files_of(crate):
 
 
 def write_sums(rows, known):
-    """Writes of each crate the sum of all that its build reads of it, the kit and its line of crates.txt, where that changed. Where what was made of
-    it is gone, it isn't built."""
-    kit = subprocess.run([RT, "version"], stdin=subprocess.DEVNULL, capture_output=True, check=True).stdout
+    """Writes of each crate the sum of all that its build reads of it, the kit and its line of
+    crates.txt, where that changed. Where what was made of it is gone, it isn't built."""
+    kit = subprocess.run(
+        [RT, "version"], stdin=subprocess.DEVNULL, capture_output=True, check=True
+    ).stdout
     of = (commit() or "")[:12]
     os.makedirs(os.path.dirname(commit_file()), exist_ok=True)
     with open(commit_file(), "w", encoding="ascii") as file:
@@ -135,7 +153,10 @@ def write_sums(rows, known):
             total.update(of.encode())
         for path in files_of(name):
             with open(path, "rb") as file:
-                total.update(f"{os.path.relpath(path, TOP)}\n".encode() + hashlib.sha256(file.read()).digest())
+                total.update(
+                    f"{os.path.relpath(path, TOP)}\n".encode()
+                    + hashlib.sha256(file.read()).digest()
+                )
         os.makedirs(os.path.dirname(sum_file(name)), exist_ok=True)
         if not os.path.exists(made(name)) and os.path.exists(stamp(name)):
             os.remove(stamp(name))
@@ -165,14 +186,16 @@ def chain_of(below, lengths):
 
 
 def at_once():
-    """How many crates are proved at once: one for each processor, as far as there is memory for a check of each."""
+    """How many crates are proved at once: one for each processor, as far as there is memory for a
+    check of each."""
     with open("/proc/meminfo", encoding="ascii") as lines:
         free = next(int(it.split()[1]) for it in lines if it.startswith("MemAvailable:"))
     return max(1, min(len(os.sched_getaffinity(0)), free // MEMORY))
 
 
 def makefile_of(rows, below, lanes):
-    """Which crate waits for which. What the chain waits for soonest stands first, and of that what has the most text above it: make begins in this order."""
+    """Which crate waits for which. What the chain waits for soonest stands first, and of that what
+    has the most text above it: make begins in this order."""
     lengths = lengths_above(below)
     chain = chain_of(below, lengths)
     # the place in the chain of the first crate that stands on each
@@ -182,12 +205,23 @@ def makefile_of(rows, below, lanes):
     lines = ["all: " + " ".join(map(stamp, order))]
     for name in order:
         jobs = min(lanes, JOBS.get(name, lanes if name in chain else 1))
-        lines += [f"{stamp(name)}: {sum_file(name)} {' '.join(map(stamp, below[name]))}", f"\t@{sys.executable} {TOP}/scripts/build.py --prove {name} {jobs}"]
+        lines += [
+            f"{stamp(name)}: {sum_file(name)} {' '.join(map(stamp, below[name]))}",
+            f"\t@{sys.executable} {TOP}/scripts/build.py --prove {name} {jobs}",
+        ]
     return "\n".join(lines) + "\n"
 
 
 def words_for(name, rows, jobs):
-    words = [RATTLE, "build", *words_of(name, rows, folder(name), rlib), "--links", f"{name}=", "--jobs", str(jobs)]
+    words = [
+        RATTLE,
+        "build",
+        *words_of(name, rows, folder(name), rlib),
+        "--links",
+        f"{name}=",
+        "--jobs",
+        str(jobs),
+    ]
     if name == PROGRAM:
         return [*words, "--toolchain", f"{KIT}/toolchain", "--backend", "llvm", "-o", f"{BINARY}.o"]
     return [*words, "--statements", "-o", rlib(name)]
@@ -204,18 +238,44 @@ def prove(name, jobs):
     tell(f"{name}: begun")
     at = source_of(name)
     with open(f"{folder(name)}/out/build.log", "wb") as log:
-        run = lambda words: subprocess.run(words, cwd=at, stdin=subprocess.DEVNULL, stdout=log, stderr=log).returncode
+        run = lambda words: subprocess.run(
+            words, cwd=at, stdin=subprocess.DEVNULL, stdout=log, stderr=log
+        ).returncode
         status = run(words_for(name, rows, jobs))
         if status == -signal.SIGKILL and jobs > 1:
             # (most likely for memory)
             status = run(words_for(name, rows, 1))
         if not status and name == PROGRAM:
-            to = ["--target", "x86_64-unknown-linux-gnu", "--toolchain", f"{KIT}/toolchain", "-o", BINARY]
-            status = run([f"{KIT}/bin/rattle-link", *to, f"{BINARY}.o", f"{KIT}/c/libos_c.a", f"{KIT}/c/liblibc_c.a"])
+            to = [
+                "--target",
+                "x86_64-unknown-linux-gnu",
+                "--toolchain",
+                f"{KIT}/toolchain",
+                "-o",
+                BINARY,
+            ]
+            status = run(
+                [
+                    f"{KIT}/bin/rattle-link",
+                    *to,
+                    f"{BINARY}.o",
+                    f"{KIT}/c/libos_c.a",
+                    f"{KIT}/c/liblibc_c.a",
+                ]
+            )
     if status:
         with open(f"{folder(name)}/out/build.log", encoding="utf-8", errors="replace") as log:
             said = log.read().splitlines()[-30:]
-        print(f"{name}: the build ended with status {status}; the end of crates/{name}/out/build.log:", *said, sep="\n", file=sys.stderr, flush=True)
+        print(
+            (
+                f"{name}: the build ended with status {status}; the end of"
+                f" crates/{name}/out/build.log:"
+            ),
+            *said,
+            sep="\n",
+            file=sys.stderr,
+            flush=True,
+        )
         os.killpg(0, signal.SIGKILL)
     with open(stamp(name), "w", encoding="utf-8"):
         tell(f"{name}: done in {time.monotonic() - begun:.0f} s")
@@ -228,17 +288,38 @@ def build(rows, known):
     with open(file, "w", encoding="utf-8") as makefile:
         makefile.write(makefile_of(rows, known, lanes))
     make = ["make", "-rs", "-f", file, f"-j{lanes}"]
-    environment = {key: value for key, value in os.environ.items() if key not in ("MAKEFLAGS", "MFLAGS", "MAKELEVEL")}
-    left = subprocess.run([*make, "-n"], env=environment, stdin=subprocess.DEVNULL, capture_output=True, text=True, check=True).stdout.count(" --prove ")
+    environment = {
+        key: value
+        for key, value in os.environ.items()
+        if key not in ("MAKEFLAGS", "MFLAGS", "MAKELEVEL")
+    }
+    left = subprocess.run(
+        [*make, "-n"],
+        env=environment,
+        stdin=subprocess.DEVNULL,
+        capture_output=True,
+        text=True,
+        check=True,
+    ).stdout.count(" --prove ")
     if not left:
         return 0
-    # (in a process group of its own, so that it can be ended with all that it started, and not in a session, to which Linux gives as much as to all others)
-    with subprocess.Popen(make, env=environment, stdin=subprocess.DEVNULL, stdout=subprocess.PIPE, text=True, preexec_fn=os.setpgrp) as process:
+    # (in a process group of its own, so that it can be ended with all that it started, and not in a
+    # session, to which Linux gives as much as to all others)
+    with subprocess.Popen(
+        make,
+        env=environment,
+        stdin=subprocess.DEVNULL,
+        stdout=subprocess.PIPE,
+        text=True,
+        preexec_fn=os.setpgrp,
+    ) as process:
         try:
             done = 0
             for line in process.stdout:
                 done += ": done in " in line
-                print(line.rstrip("\n") + f", {done} of {left}" * (": done in " in line), flush=True)
+                print(
+                    line.rstrip("\n") + f", {done} of {left}" * (": done in " in line), flush=True
+                )
         finally:
             try:
                 os.killpg(process.pid, signal.SIGKILL)
@@ -253,18 +334,36 @@ def build(rows, known):
 def plan(below):
     """What a build costs by the minutes of gate/minutes.txt, which are those of one job."""
     with open(f"{TOP}/gate/minutes.txt", encoding="utf-8") as file:
-        minutes = {line.split()[0]: float(line.split()[1]) for line in file if not line.startswith("#")}
+        minutes = {
+            line.split()[0]: float(line.split()[1]) for line in file if not line.startswith("#")
+        }
     chain = chain_of(below, lengths_above(below))
-    print(f"{sum(map(minutes.get, chain)):.0f} minutes for the crates that wait for one another: {', '.join(chain)}")
-    print(f"{sum(map(minutes.get, below)):.0f} minutes of processor time for all {len(below)} crates")
+    print(
+        f"{sum(map(minutes.get, chain)):.0f} minutes for the crates that wait for one another:"
+        f" {', '.join(chain)}"
+    )
+    print(
+        f"{sum(map(minutes.get, below)):.0f} minutes of processor time for all {len(below)} crates"
+    )
     return 0
 
 
 def parsed():
-    parser = argparse.ArgumentParser(description=__doc__, formatter_class=argparse.RawDescriptionHelpFormatter)
+    parser = argparse.ArgumentParser(
+        description=__doc__, formatter_class=argparse.RawDescriptionHelpFormatter
+    )
     way = parser.add_mutually_exclusive_group()
-    way.add_argument("--plan", action="store_true", help="run nothing: say what a build costs, by gate/minutes.txt")
-    way.add_argument("--prove", nargs=2, metavar=("CRATE", "JOBS"), help="one crate alone, as the makefile has it")
+    way.add_argument(
+        "--plan",
+        action="store_true",
+        help="run nothing: say what a build costs, by gate/minutes.txt",
+    )
+    way.add_argument(
+        "--prove",
+        nargs=2,
+        metavar=("CRATE", "JOBS"),
+        help="one crate alone, as the makefile has it",
+    )
     return parser.parse_args()
 
 

@@ -1,4 +1,5 @@
-"""The crates of crates.txt, and the words by which the kit's `rattle` is asked to check or build one over its libraries."""
+"""The crates of crates.txt, and the words by which the kit's `rattle` is asked to check or build
+one over its libraries."""
 import os
 import re
 import shutil
@@ -36,13 +37,24 @@ def is_program(folder):
 
 
 def words_of(name, rows, folder, rlib):
-    """Returns the words that name a crate of these rows, its libraries and the kit's logic; `rlib` gives where a library of the repository
-    is built."""
-    words = ["--crate-name", name, f"src/{'main' if is_program(folder) else 'lib'}.rt", "-L", f"dependency={KIT}/rlibs"]
+    """Returns the words that name a crate of these rows, its libraries and the kit's logic; `rlib`
+    gives where a library of the repository is built."""
+    words = [
+        "--crate-name",
+        name,
+        f"src/{'main' if is_program(folder) else 'lib'}.rt",
+        "-L",
+        f"dependency={KIT}/rlibs",
+    ]
     for it in ["std", *(it for it in rows[name] if it not in rows)]:
         words += ["--extern", f"{it}={KIT}/rlibs/{it}.rlib"]
     for it in (it for it in rows[name] if it in rows):
         words += ["--extern", f"{it}={rlib(it)}"]
     for it in below(name, rows):
         words += ["-L", f"dependency={os.path.dirname(rlib(it))}"]
-    return words + ["--antt-project", f"{KIT}/rattle/logic/antt-project.json", "--logic-built", f"{KIT}/logic_built"]
+    return words + [
+        "--antt-project",
+        f"{KIT}/rattle/logic/antt-project.json",
+        "--logic-built",
+        f"{KIT}/logic_built",
+    ]

@@ -36,15 +36,33 @@ def version():
 
 def run(*words, **environment):
     """What a command prints; where it fails, what it says is why."""
-    come = subprocess.run(words, cwd=TOP, env={**os.environ, **environment}, stdin=subprocess.DEVNULL, capture_output=True)
+    come = subprocess.run(
+        words,
+        cwd=TOP,
+        env={**os.environ, **environment},
+        stdin=subprocess.DEVNULL,
+        capture_output=True,
+    )
     if come.returncode:
-        raise Wrong(f"{' '.join(words)} ended with status {come.returncode}:\n{come.stdout.decode(errors='replace')}{come.stderr.decode(errors='replace')}")
+        raise Wrong(
+            f"{' '.join(words)} ended with status"
+            f" {come.returncode}:\n{come.stdout.decode(errors='replace')}{come.stderr.decode(errors='replace')}"
+        )
     return come.stdout
 
 
 def make_package():
-    """Has debhelper make the package in dist/. In the environment there is nothing that this run of make was given."""
-    given = {"LC_ALL": "C.UTF-8", "TZ": "UTC", "DEB_RULES_REQUIRES_ROOT": "no", "MAKEFLAGS": "", "MFLAGS": "", "MAKELEVEL": "", "DH_VERBOSE": ""}
+    """Has debhelper make the package in dist/. In the environment there is nothing that this run of
+    make was given."""
+    given = {
+        "LC_ALL": "C.UTF-8",
+        "TZ": "UTC",
+        "DEB_RULES_REQUIRES_ROOT": "no",
+        "MAKEFLAGS": "",
+        "MFLAGS": "",
+        "MAKELEVEL": "",
+        "DH_VERBOSE": "",
+    }
     os.umask(0o022)
     run("dh_clean", **given)
     run("make", "-f", "debian/rules", "binary", f"PROGRAM={PROVED}", f"DIST={DIST}", **given)
@@ -60,10 +78,18 @@ def make_archive():
     if of is None:
         raise Wrong("files are changed, or git gives no commit: an archive is made of a commit")
     # (whatever the settings of this user's git are)
-    archive = io.BytesIO(run("git", "-c", "tar.umask=0022", "archive", "--format=tar", f"--prefix={name}/", of))
+    archive = io.BytesIO(
+        run("git", "-c", "tar.umask=0022", "archive", "--format=tar", f"--prefix={name}/", of)
+    )
     with tarfile.open(fileobj=archive, mode="a", format=tarfile.PAX_FORMAT) as tar:
         file = tarfile.TarInfo(f"{name}/COMMIT")
-        file.size, file.mode, file.mtime, file.uname, file.gname = len(of) + 1, 0o644, int(run("git", "show", "--no-patch", "--format=%ct", of)), "root", "root"
+        file.size, file.mode, file.mtime, file.uname, file.gname = (
+            len(of) + 1,
+            0o644,
+            int(run("git", "show", "--no-patch", "--format=%ct", of)),
+            "root",
+            "root",
+        )
         tar.addfile(file, io.BytesIO(f"{of}\n".encode()))
     with open(f"{DIST}/{name}.tar.xz", "wb") as file:
         file.write(lzma.compress(archive.getvalue(), preset=9))
@@ -79,10 +105,16 @@ def write_sums():
 
 
 def main():
-    parser = argparse.ArgumentParser(description=__doc__, formatter_class=argparse.RawDescriptionHelpFormatter)
+    parser = argparse.ArgumentParser(
+        description=__doc__, formatter_class=argparse.RawDescriptionHelpFormatter
+    )
     kinds = parser.add_subparsers(required=True, metavar="deb|dist")
-    kinds.add_parser("deb", help="the Debian package of the program that `make build` proved").set_defaults(make=make_package)
-    kinds.add_parser("dist", help="an archive of the source of this commit").set_defaults(make=make_archive)
+    kinds.add_parser(
+        "deb", help="the Debian package of the program that `make build` proved"
+    ).set_defaults(make=make_package)
+    kinds.add_parser("dist", help="an archive of the source of this commit").set_defaults(
+        make=make_archive
+    )
     make = parser.parse_args().make
     os.makedirs(DIST, exist_ok=True)
     try:

@@ -1,6 +1,6 @@
 #!/usr/bin/env python3
-"""Builds the tests of crates without their proofs, and runs them: minutes, where to prove them takes a
-quarter of an hour for each crate.
+"""Builds the tests of crates without their proofs, and runs them: minutes, where to prove them
+takes a quarter of an hour for each crate.
 
 What a test shows it shows as it runs; `rt test` in the crate's folder proves it too. The kit runs
 each in a process of its own. The last line is 'N passed, M failed', and the status is 1 where any
@@ -35,7 +35,16 @@ def run(crate, folder):
         print(said, f"NOT {crate}: its tests aren't built", sep="\n")
         return 0, 1
     words = [f"{KIT}/bin/rattle-test", "--seconds", str(LONGEST), program]
-    ran = subprocess.run(words, cwd=folder, env={}, stdin=subprocess.DEVNULL, stdout=subprocess.PIPE, stderr=subprocess.STDOUT, text=True, errors="replace")
+    ran = subprocess.run(
+        words,
+        cwd=folder,
+        env={},
+        stdin=subprocess.DEVNULL,
+        stdout=subprocess.PIPE,
+        stderr=subprocess.STDOUT,
+        text=True,
+        errors="replace",
+    )
     counts = RESULT.search(ran.stdout)
     passed, failed = map(int, counts.groups()) if counts else (0, 0)
     print(f"-- {crate}", ran.stdout, sep="\n", end="", flush=True)
@@ -46,8 +55,12 @@ def run(crate, folder):
 
 
 def main():
-    parser = argparse.ArgumentParser(description=__doc__, formatter_class=argparse.RawDescriptionHelpFormatter)
-    parser.add_argument("crates", metavar="CRATE", nargs="+", choices=rows_of(TOP), help="a crate of crates.txt")
+    parser = argparse.ArgumentParser(
+        description=__doc__, formatter_class=argparse.RawDescriptionHelpFormatter
+    )
+    parser.add_argument(
+        "crates", metavar="CRATE", nargs="+", choices=rows_of(TOP), help="a crate of crates.txt"
+    )
     crates = parser.parse_args().crates
     # (a failed assertion ends the test's process, which is to leave no core file)
     resource.setrlimit(resource.RLIMIT_CORE, (0, 0))

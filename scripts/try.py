@@ -15,7 +15,10 @@ TOP = os.path.dirname(os.path.dirname(os.path.realpath(__file__)))
 PROGRAM = "mailquota"
 # (never where `make build` puts the proved one, and `make install` takes it from)
 BINARY = f"{TOP}/crates/{PROGRAM}/out/try/{PROGRAM}"
-NOTHING = f"Nothing is proved of this program: 'make build' proves it. It is for trying alone, and is not installed."
+NOTHING = (
+    f"Nothing is proved of this program: 'make build' proves it. It is for trying alone, and is not"
+    f" installed."
+)
 
 
 def is_built():
@@ -24,7 +27,9 @@ def is_built():
         return False
     sources = [f"{TOP}/crates.txt"]
     for name in [*below(PROGRAM, rows_of(TOP)), PROGRAM]:
-        sources += [f"{at}/{it}" for at, _, names in os.walk(f"{TOP}/crates/{name}/src") for it in names]
+        sources += [
+            f"{at}/{it}" for at, _, names in os.walk(f"{TOP}/crates/{name}/src") for it in names
+        ]
     return os.path.getmtime(BINARY) > max(map(os.path.getmtime, sources))
 
 
@@ -48,7 +53,9 @@ def main():
     print(NOTHING, flush=True)
     status = 0 if is_built() or build() else 1
     if not status and not asked.build:
-        status = subprocess.run([sys.executable, f"{TOP}/examples/demo.py", BINARY, f"{TOP}/examples/one-reserve.hex"]).returncode
+        status = subprocess.run(
+            [sys.executable, f"{TOP}/examples/demo.py", BINARY, f"{TOP}/examples/one-reserve.hex"]
+        ).returncode
     print(NOTHING)
     return status
 

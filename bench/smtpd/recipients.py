@@ -1,4 +1,5 @@
-"""Time of 1,000 recipients of one session of a real smtpd, with mailquota over memory and over a file, and with a filter that says yes to all.
+"""Time of 1,000 recipients of one session of a real smtpd, with mailquota over memory and over a
+file, and with a filter that says yes to all.
 
 Run it by bench/smtpd/run.sh.
 """
@@ -25,7 +26,9 @@ listen on 127.0.0.1 port 2503 tls pki quota.test auth-optional <credentials>
 action "sink" mda "cat >/dev/null" virtual { "@" = nobody }
 match from any for any action "sink"
 """
-SERVER = 'listen = "127.0.0.1:7025"\nstore = "{store}"\ndefault = 1000000\noffset = 0\ntimeout = 500\n'
+SERVER = (
+    'listen = "127.0.0.1:7025"\nstore = "{store}"\ndefault = 1000000\noffset = 0\ntimeout = 500\n'
+)
 STORE = "/var/tmp/mailquota-bench.db"
 
 
@@ -52,7 +55,12 @@ def start_server(store):
 
 def main():
     (ROOT / "etc/mailquota/bench.conf").write_text(SMTPD)
-    kinds = [("mailquota, memory", 2501, "memory"), ("mailquota, file", 2501, STORE), ("says yes", 2502, "memory"), ("no filter", 2503, "memory")]
+    kinds = [
+        ("mailquota, memory", 2501, "memory"),
+        ("mailquota, file", 2501, STORE),
+        ("says yes", 2502, "memory"),
+        ("no filter", 2503, "memory"),
+    ]
     times = {name: [] for name, _, _ in kinds}
     for _ in range(ROUNDS):
         for name, port, store in kinds:
@@ -65,8 +73,10 @@ def main():
                 stop(server)
     medians = {name: statistics.median(taken) for name, taken in times.items()}
     for name, median in medians.items():
-        print(f"{name:17} {median:6.3f} s for {RECIPIENTS} recipients of one session, median of {ROUNDS};"
-              f" {median / medians['says yes']:.2f} times a filter that says yes")
+        print(
+            f"{name:17} {median:6.3f} s for {RECIPIENTS} recipients of one session, median of"
+            f" {ROUNDS}; {median / medians['says yes']:.2f} times a filter that says yes"
+        )
 
 
 main()

@@ -8,7 +8,8 @@ from pathlib import Path
 
 
 class Ledger:
-    """Its frames go in by its input; `path` is ":memory:" or a file, which `create` gives its tables."""
+    """Its frames go in by its input; `path` is ":memory:" or a file, which `create` gives its
+    tables."""
 
     def __init__(self, program, path=":memory:", create=True, wrapper=()):
         self.path = path
@@ -49,8 +50,9 @@ class Ledger:
 
 
 def by_turns(ledgers, batches, same=True):
-    """The median seconds of each ledger on its batches of the same windows, and the median over the windows of the first's by the
-    second's. Ledgers that got the same batches have to reply the same."""
+    """The median seconds of each ledger on its batches of the same windows, and the median over the
+    windows of the first's by the second's. Ledgers that got the same batches have to reply the
+    same."""
     times = [[] for _ in ledgers]
     for place, window in enumerate(batches):
         turns = list(enumerate(zip(ledgers, window)))

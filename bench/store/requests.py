@@ -11,10 +11,15 @@ DAY = 86_400
 
 
 def mails(logins=50, recipients=3, a_day=5_000):
-    """Mails of some recipients each, nine of ten settled and one released, and now and then a limit: numbered, none twice."""
+    """Mails of some recipients each, nine of ten settled and one released, and now and then a
+    limit: numbered, none twice."""
     sequence = itertools.count(1)
     for mail in itertools.count(1):
-        sender = {"txn": mail, "login": b"u%05d" % (mail * 7_919 % logins), "at": DAY * (1 + mail // a_day)}
+        sender = {
+            "txn": mail,
+            "login": b"u%05d" % (mail * 7_919 % logins),
+            "at": DAY * (1 + mail // a_day),
+        }
         for _ in range(recipients):
             yield wire.reserve(next(sequence), **sender)
         if mail % 10 == 0:
@@ -29,7 +34,9 @@ def reserves(logins=50, recipients=3):
     """Reserves of one day, in transactions that stay open."""
     for sequence in itertools.count(1):
         transaction = 1 + (sequence - 1) // recipients
-        yield wire.reserve(sequence, txn=transaction, login=b"u%05d" % (transaction * 7_919 % logins))
+        yield wire.reserve(
+            sequence, txn=transaction, login=b"u%05d" % (transaction * 7_919 % logins)
+        )
 
 
 def reserves_of_one():

@@ -29,7 +29,9 @@ def copied(place):
     """A copy of what the cases read."""
     for it in READ:
         os.makedirs(os.path.dirname(f"{place}/{it}"), exist_ok=True)
-        (shutil.copytree if os.path.isdir(f"{TOP}/{it}") else shutil.copy2)(f"{TOP}/{it}", f"{place}/{it}")
+        (shutil.copytree if os.path.isdir(f"{TOP}/{it}") else shutil.copy2)(
+            f"{TOP}/{it}", f"{place}/{it}"
+        )
     return place
 
 
@@ -46,13 +48,22 @@ def change(place, folder, file):
             elif key in ("new", "new:"):
                 with open(path, encoding="utf-8") as it:
                     was = it.read()
-                assert was.count(old) == 1, f"{file}: an 'old:' text is there {was.count(old)} times"
+                assert (
+                    was.count(old) == 1
+                ), f"{file}: an 'old:' text is there {was.count(old)} times"
                 with open(path, "w", encoding="utf-8") as it:
                     it.write(was.replace(old, text))
 
 
 def words_of(place, group, program, function=None):
-    return [sys.executable, f"{place}/tests/program/run.py", "--group", group, program, *([function] if function else [])]
+    return [
+        sys.executable,
+        f"{place}/tests/program/run.py",
+        "--group",
+        group,
+        program,
+        *([function] if function else []),
+    ]
 
 
 def unseen(place, program, cases, without):
@@ -60,25 +71,46 @@ def unseen(place, program, cases, without):
     for group, name in cases:
         named = [it for it in without[group] if it.name.startswith(name)]
         if not named or not all(it.is_good for it in named):
-            yield f"{group}: {name} (without the text {'it fails' if named else 'there is no such case'})"
+            yield (
+                f"{group}: {name} (without the text"
+                f" {'it fails' if named else 'there is no such case'})"
+            )
             continue
         functions = {it.function for it in named}
         words = words_of(place, group, program, functions.pop() if len(functions) == 1 else None)
-        if not is_failing(name, outcomes(words, 0, lambda found, name=name, count=len(named): is_failing(name, found, count)), len(named)):
+        if not is_failing(
+            name,
+            outcomes(
+                words, 0, lambda found, name=name, count=len(named): is_failing(name, found, count)
+            ),
+            len(named),
+        ):
             yield f"{group}: {name}"
 
 
 def parsed():
     """The program, and the texts that are asked for, each with the folder that it changes."""
-    parser = argparse.ArgumentParser(description=__doc__, formatter_class=argparse.RawDescriptionHelpFormatter)
+    parser = argparse.ArgumentParser(
+        description=__doc__, formatter_class=argparse.RawDescriptionHelpFormatter
+    )
     parser.add_argument("program", metavar="PROGRAM", type=os.path.abspath)
-    parser.add_argument("names", metavar="NAME", nargs="*", default=[], help="only the texts of these names")
+    parser.add_argument(
+        "names", metavar="NAME", nargs="*", default=[], help="only the texts of these names"
+    )
     asked = parser.parse_args()
-    found = [(folder, it[:-len(".edit")]) for folder in FOLDERS for it in edits_in(f"{HERE}/{folder}")[0]]
+    found = [
+        (folder, it[: -len(".edit")])
+        for folder in FOLDERS
+        for it in edits_in(f"{HERE}/{folder}")[0]
+    ]
     unknown = {*asked.names} - {name for _, name in found}
     if unknown:
         parser.error(f"no text has this name: {', '.join(sorted(unknown))}")
-    return asked.program, [(folder, f"{HERE}/{folder}/{it}.edit") for folder, it in found if not asked.names or it in asked.names]
+    return asked.program, [
+        (folder, f"{HERE}/{folder}/{it}.edit")
+        for folder, it in found
+        if not asked.names or it in asked.names
+    ]
 
 
 def main():
@@ -95,7 +127,13 @@ def main():
             shutil.rmtree(place)
             good += not missed
             cases = "; ".join(missed or (": ".join(it) for it in cases_in(file)))
-            print(f"{'NOT SEEN' if missed else 'failed as it must:'} {folder}: {os.path.basename(file)[:-len('.edit')]}: {cases}", flush=True)
+            print(
+                (
+                    f"{'NOT SEEN' if missed else 'failed as it must:'} {folder}:"
+                    f" {os.path.basename(file)[:-len('.edit')]}: {cases}"
+                ),
+                flush=True,
+            )
     print(f"{good} passed, {len(files) - good} failed")
     return 0 if files and good == len(files) else 1
 

@@ -1,7 +1,8 @@
-"""The quota ledger as tables: each request changes a few sums, so that 100,000 of them take a second or two.
+"""The quota ledger as tables: each request changes a few sums, so that 100,000 of them take a
+second or two.
 
-It is written from docs/LEDGER.md and docs/STORE.md, and `oracles` of tests/program holds it against the ledger of ledger.py, which reads every number off
-the whole list.
+It is written from docs/LEDGER.md and docs/STORE.md, and `oracles` of tests/program holds it against
+the ledger of ledger.py, which reads every number off the whole list.
 """
 from ledger import NotInGrammar, decode, frame, id_bytes, number, text
 from zones import day_of, minutes_in
@@ -35,13 +36,21 @@ class Books:
 
     def cap(self, login, day):
         """That of the latest limit up to this day."""
-        return max(((start, cap) for start, cap in self.limits.get(login, {}).items() if start <= day), default=(0, self.default))[1]
+        return max(
+            ((start, cap) for start, cap in self.limits.get(login, {}).items() if start <= day),
+            default=(0, self.default),
+        )[1]
 
     def apply(self, body):
         """The body of the reply to this one, which spells a request."""
         request = decode(body)
         if request["kind"] == USAGE:
-            return b"\x8b" + text(request["login"]) + number(request["day"]) + self.row(request["login"], request["day"])
+            return (
+                b"\x8b"
+                + text(request["login"])
+                + number(request["day"])
+                + self.row(request["login"], request["day"])
+            )
         if request["kind"] == LIST:
             return self.page(request["day"], request["after"])
         if self.is_retired(request["id"]):
@@ -76,11 +85,15 @@ class Books:
                 if held:
                     self.add((state[0], state[2]), held, -held)
                 state[3:] = [0, held, 1]
-        return 0x8f, []
+        return 0x8F, []
 
     def limit(self, request):
         login, start, cap = request["login"], request["from_day"], request["cap"]
-        over = [day for of, day in self.usage if of == login and day >= start and self.used(login, day) > cap]
+        over = [
+            day
+            for of, day in self.usage
+            if of == login and day >= start and self.used(login, day) > cap
+        ]
         if over:
             return 0x86, [min(over), self.used(login, min(over))]
         self.limits.setdefault(login, {})[start] = cap
@@ -90,7 +103,9 @@ class Books:
         """The answer to a reserve, a settle or a release."""
         host, run, _ = request["id"]
         login, at = request["login"], request["at"]
-        state = self.transactions.setdefault((host, run, request["txn"]), [login, at, self.day(at), 0, 0, 0])
+        state = self.transactions.setdefault(
+            (host, run, request["txn"]), [login, at, self.day(at), 0, 0, 0]
+        )
         if (login, at) != (state[0], state[1]):
             return 0x88, []
         if state[5]:
@@ -146,8 +161,8 @@ class Books:
         """What is written on a connection for these bytes."""
         written, place, answered = [], 0, 0
         while answered < MOST_FRAMES and len(stream) >= place + 2:
-            length = int.from_bytes(stream[place:place + 2], "big")
-            body = stream[place + 2:place + 2 + length]
+            length = int.from_bytes(stream[place : place + 2], "big")
+            body = stream[place + 2 : place + 2 + length]
             if not 0 < length <= LONGEST_REQUEST:
                 return b"".join([*written, frame(b"\x8e")])
             if len(body) < length:
@@ -170,7 +185,11 @@ class Books:
             ],
             "trans": sorted((*name, *state) for name, state in self.transactions.items()),
             "usage": sorted((*key, *sums) for key, sums in self.usage.items()),
-            "ceiling": sorted((login, start, cap) for login, caps in self.limits.items() for start, cap in caps.items()),
+            "ceiling": sorted(
+                (login, start, cap)
+                for login, caps in self.limits.items()
+                for start, cap in caps.items()
+            ),
             "rule": [] if isinstance(self.zone, int) else [(1, self.zone.encode())],
             "retired": sorted(self.floors.items()),
         }

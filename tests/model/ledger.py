@@ -1,7 +1,7 @@
 """The quota ledger once more, written from docs/LEDGER.md and docs/FRAMES.md alone.
 
-It keeps the list of entries and reads every number off the whole list, so that it shares neither code nor
-shortcuts with the program.
+It keeps the list of entries and reads every number off the whole list, so that it shares neither
+code nor shortcuts with the program.
 """
 
 from zones import day_of
@@ -104,14 +104,19 @@ class Ledger:
 
     def floor(self, host):
         """Runs of the host below this one are retired."""
-        return max((r["id"][1] for r, _, _ in self.entries if r["kind"] == RETIRE and r["id"][0] == host), default=0)
+        return max(
+            (r["id"][1] for r, _, _ in self.entries if r["kind"] == RETIRE and r["id"][0] == host),
+            default=0,
+        )
 
     def is_retired(self, id):
         host, run, _ = id
         return run < self.floor(host)
 
     def of(self, transaction):
-        return [e for e in self.entries if e[0]["kind"] <= 3 and self.transaction(e[0]) == transaction]
+        return [
+            e for e in self.entries if e[0]["kind"] <= 3 and self.transaction(e[0]) == transaction
+        ]
 
     def is_ended(self, transaction):
         """Whether a settle or a release closed it."""
@@ -126,7 +131,8 @@ class Ledger:
         return sum(r["count"] for r, kind, _ in self.of(transaction) if kind == 0x81)
 
     def counts_as_settled(self, request, kind):
-        """A settle's count does, and that of a granted reserve whose transaction a retire alone closed."""
+        """A settle's count does, and that of a granted reserve whose transaction a retire alone
+        closed."""
         if kind == 0x81:
             transaction = self.transaction(request)
             return self.is_retired(transaction) and not self.is_ended(transaction)
@@ -136,7 +142,10 @@ class Ledger:
         return sum(
             r["count"]
             for r, kind, _ in self.entries
-            if kind in (0x81, 0x83) and r["login"] == login and self.day(r["at"]) == day and self.counts_as_settled(r, kind)
+            if kind in (0x81, 0x83)
+            and r["login"] == login
+            and self.day(r["at"]) == day
+            and self.counts_as_settled(r, kind)
         )
 
     def reserved(self, login, day):
@@ -166,7 +175,7 @@ class Ledger:
     def answer(self, r):
         """The kind and the fields after the id of the answer to a numbered request."""
         if r["kind"] == RETIRE:
-            return 0x8f, b""
+            return 0x8F, b""
         if r["kind"] == 4:
             days = {self.day(e["at"]) for e, _, _ in self.entries if e["kind"] <= 3}
             for day in sorted(days):
@@ -194,7 +203,11 @@ class Ledger:
         return 0x84, number(held)
 
     def row(self, login, day):
-        return number(self.settled(login, day)) + number(self.reserved(login, day)) + number(self.cap(login, day))
+        return (
+            number(self.settled(login, day))
+            + number(self.reserved(login, day))
+            + number(self.cap(login, day))
+        )
 
     def naming_day(self, transaction):
         """The day of a transaction's first entry."""

@@ -9,8 +9,8 @@ server over a database file, which is ended by SIGKILL and started again between
 then.
 
 Inputs repeat numbers with the same and with other content, come in another order, are cut, and hold
-bytes that are no request. The last line counts the inputs; a difference prints its seed and ends the
-run.
+bytes that are no request. The last line counts the inputs; a difference prints its seed and ends
+the run.
 """
 import argparse
 import os
@@ -32,7 +32,9 @@ ANY_USAGE = frame(b"\x05" + text(b"u") + number(1))
 
 
 def id_of(dice, runs=(1, 2)):
-    return text(dice.choice([b"a", b"b", b"mx1.example.org"])) + dice.choice(runs).to_bytes(8, "big")
+    return text(dice.choice([b"a", b"b", b"mx1.example.org"])) + dice.choice(runs).to_bytes(
+        8, "big"
+    )
 
 
 class Times:
@@ -74,7 +76,14 @@ def body(dice, sequence, times):
         return bytes([kind]) + id_of(dice) + seq + txn + at + text(login) + count
     if kind == 4:
         day = number(dice.choice(times.days))
-        return b"\x04" + id_of(dice) + seq + day + number(dice.choice([0, 1, 2, 5, 9, 1_000_000])) + text(login)
+        return (
+            b"\x04"
+            + id_of(dice)
+            + seq
+            + day
+            + number(dice.choice([0, 1, 2, 5, 9, 1_000_000]))
+            + text(login)
+        )
     if kind == 5:
         return b"\x05" + text(login) + number(dice.choice(times.days))
     if kind == 6:
@@ -92,7 +101,9 @@ def spoil(dice, stream):
         return stream[:place] + bytes([dice.randrange(256)]) + stream[place + 1 :]
     if way == 2:
         return stream[:place] + bytes([dice.randrange(256)]) + stream[place:]
-    return stream + dice.choice([b"\x00", b"\x00\x00", b"\x02\x01", b"\x00\x01\x07", b"\x00\x01\x08"])
+    return stream + dice.choice(
+        [b"\x00", b"\x00\x00", b"\x02\x01", b"\x00\x01\x07", b"\x00\x01\x08"]
+    )
 
 
 def connections_of(dice, times=None):
@@ -128,12 +139,19 @@ def text_of(dice, connections):
 def by_replay(program, dice, connections, default, zone, options):
     """What `replay` prints and its status, and what it should."""
     words = ["replay", "--default", str(default), *zone.words, *options]
-    run = subprocess.run([program, *words], input=text_of(dice, connections), capture_output=True, text=True, timeout=60)
+    run = subprocess.run(
+        [program, *words],
+        input=text_of(dice, connections),
+        capture_output=True,
+        text=True,
+        timeout=60,
+    )
     return (run.stdout, run.stderr, run.returncode), replay(connections, zone.zone, default)
 
 
 def by_server(world, dice, connections, default, zone):
-    """The replies of a server over a new file and how it logs the ends of connections, and what both should be."""
+    """The replies of a server over a new file and how it logs the ends of connections, and what
+    both should be."""
     path = f"{world.folder}/ledger"
     for name in (path, f"{path}-wal"):
         if os.path.exists(name):
@@ -142,7 +160,9 @@ def by_server(world, dice, connections, default, zone):
     rest = list(connections)
     while rest:
         count = dice.randint(1, len(rest)) if dice.random() < 0.5 else len(rest)
-        with Server(world, words=options, store=path, default=default, timeout=20_000, **zone.settings) as server:
+        with Server(
+            world, words=options, store=path, default=default, timeout=20_000, **zone.settings
+        ) as server:
             came += [server.ask(stream) for stream in rest[:count]]
             # after its reply the ends of all before are logged
             server.ask(ANY_USAGE)
@@ -156,15 +176,20 @@ def by_server(world, dice, connections, default, zone):
 
 
 class Zone:
-    """What the days go by: the words of `replay` and the settings for it, and the moments that are tried."""
+    """What the days go by: the words of `replay` and the settings for it, and the moments that are
+    tried."""
 
     def __init__(self, dice):
         if dice.random() < 0.5:
             east, west = dice.choice([0, 60, 1439]), dice.choice([0, 90, 1439])
             self.zone, self.times = east - west, Times()
-            self.words, self.settings = ["--east", str(east), "--west", str(west)], {"offset": self.zone}
+            self.words, self.settings = ["--east", str(east), "--west", str(west)], {
+                "offset": self.zone
+            }
         else:
-            self.zone = zones.random_rule_of_ends(dice) if dice.random() < 0.2 else zones.random_rule(dice)
+            self.zone = (
+                zones.random_rule_of_ends(dice) if dice.random() < 0.2 else zones.random_rule(dice)
+            )
             self.times = TimesOfRule(dice, self.zone)
             self.words, self.settings = ["--rule", self.zone], {"offset": None, "rule": self.zone}
 
@@ -183,11 +208,33 @@ def differs(world, way, seed):
 
 
 def main():
-    parser = argparse.ArgumentParser(description=__doc__, formatter_class=argparse.RawDescriptionHelpFormatter)
+    parser = argparse.ArgumentParser(
+        description=__doc__, formatter_class=argparse.RawDescriptionHelpFormatter
+    )
     parser.add_argument("program", metavar="PROGRAM", type=os.path.abspath)
-    parser.add_argument("way", nargs="?", choices=["list", "tables", "file"], default="list", help="what ledger, by default a %(default)s")
-    parser.add_argument("how_many", metavar="HOW_MANY", nargs="?", type=int, default=1000, help="inputs, by default %(default)s")
-    parser.add_argument("first_seed", metavar="FIRST_SEED", nargs="?", type=int, default=1, help="by default %(default)s")
+    parser.add_argument(
+        "way",
+        nargs="?",
+        choices=["list", "tables", "file"],
+        default="list",
+        help="what ledger, by default a %(default)s",
+    )
+    parser.add_argument(
+        "how_many",
+        metavar="HOW_MANY",
+        nargs="?",
+        type=int,
+        default=1000,
+        help="inputs, by default %(default)s",
+    )
+    parser.add_argument(
+        "first_seed",
+        metavar="FIRST_SEED",
+        nargs="?",
+        type=int,
+        default=1,
+        help="by default %(default)s",
+    )
     asked = parser.parse_args()
     with tempfile.TemporaryDirectory() as folder:
         world = World(asked.program, folder)

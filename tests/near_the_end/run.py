@@ -1,6 +1,6 @@
 #!/usr/bin/env python3
-"""Tests of what no run of a program and no public call comes to: a client and a tracker near the ends
-of their numbers.
+"""Tests of what no run of a program and no public call comes to: a client and a tracker near the
+ends of their numbers.
 
 Each file CRATE/MODULE.rt.in is put into a copy of the crate, below its private module, whose fields
 it sets. The copy isn't proved, so that the crate is proved once, and without tests: `rt try --test`
@@ -26,29 +26,48 @@ MODULE = "near_the_end"
 
 
 def crates():
-    return sorted(it for it in os.listdir(HERE) if os.path.isdir(f"{HERE}/{it}") and it != "__pycache__")
+    return sorted(
+        it for it in os.listdir(HERE) if os.path.isdir(f"{HERE}/{it}") and it != "__pycache__"
+    )
 
 
 def tried(crate):
-    """What rt try says of the tests of a copy of the crate with the further modules, and its status."""
+    """What rt try says of the tests of a copy of the crate with the further modules, and its
+    status."""
     with tempfile.TemporaryDirectory(prefix="near-") as root:
         os.mkdir(f"{root}/.git")
         shutil.copy(f"{TOP}/crates.txt", root)
-        shutil.copytree(f"{TOP}/crates", f"{root}/crates", ignore=shutil.ignore_patterns("out", "must-fail", "further", "proofs"))
+        shutil.copytree(
+            f"{TOP}/crates",
+            f"{root}/crates",
+            ignore=shutil.ignore_patterns("out", "must-fail", "further", "proofs"),
+        )
         for file in os.listdir(f"{HERE}/{crate}"):
             module = f"{root}/crates/{crate}/src/{file[:-len('.rt.in')]}"
             os.makedirs(module, exist_ok=True)
             shutil.copy(f"{HERE}/{crate}/{file}", f"{module}/{MODULE}.rt")
             with open(f"{module}.rt", "a", encoding="utf-8") as it:
                 it.write(f"\n#[cfg(test)]\nmod {MODULE};\n")
-        ran = subprocess.run([RT, "try", "--test"], cwd=f"{root}/crates/{crate}", stdin=subprocess.DEVNULL, stdout=subprocess.PIPE,
-                             stderr=subprocess.STDOUT, timeout=LONGEST, text=True, errors="replace")
+        ran = subprocess.run(
+            [RT, "try", "--test"],
+            cwd=f"{root}/crates/{crate}",
+            stdin=subprocess.DEVNULL,
+            stdout=subprocess.PIPE,
+            stderr=subprocess.STDOUT,
+            timeout=LONGEST,
+            text=True,
+            errors="replace",
+        )
     return ran.stdout, ran.returncode
 
 
 def parsed():
-    parser = argparse.ArgumentParser(description=__doc__, formatter_class=argparse.RawDescriptionHelpFormatter)
-    parser.add_argument("crates", metavar="CRATE", nargs="*", help=f"{' or '.join(crates())}, by default each")
+    parser = argparse.ArgumentParser(
+        description=__doc__, formatter_class=argparse.RawDescriptionHelpFormatter
+    )
+    parser.add_argument(
+        "crates", metavar="CRATE", nargs="*", help=f"{' or '.join(crates())}, by default each"
+    )
     asked = parser.parse_args()
     if not {*asked.crates} <= {*crates()}:
         parser.error(f"there are tests of {' and '.join(crates())}")

@@ -1,5 +1,5 @@
-"""From nothing to the first 550, an upgrade, a removal and what follows, by the words of INSTALL: what
-is typed there is run as it stands. run.sh starts it, in namespaces of its own.
+"""From nothing to the first 550, an upgrade, a removal and what follows, by the words of INSTALL:
+what is typed there is run as it stands. run.sh starts it, in namespaces of its own.
 """
 import argparse
 import os
@@ -32,7 +32,9 @@ match auth from any for any action "outbound"
 LISTEN = "listen on {address} port 587 tls-require pki mx1.example.org auth <credentials>"
 LOGINS = [f"u{number:02}" for number in range(1, 9)]
 # A server as `make install` of 0.1.0 made one.
-OLD_SETTINGS = 'listen = "192.0.2.8:7025"\nstore = "/var/lib/mailquota/ledger"\ndefault = 1000\noffset = 0\n'
+OLD_SETTINGS = (
+    'listen = "192.0.2.8:7025"\nstore = "/var/lib/mailquota/ledger"\ndefault = 1000\noffset = 0\n'
+)
 OLD_UNIT = """[Service]
 ExecStart=/usr/local/sbin/mailquota server --config /etc/mailquota.toml
 Restart=always
@@ -59,7 +61,9 @@ def note(what, came, wanted):
     """Prints what came; it has to be what is wanted."""
     global failed
     failed += came != wanted
-    print(f"{what}: {came}" if came == wanted else f"NOT {what}: {came}, and not {wanted}", flush=True)
+    print(
+        f"{what}: {came}" if came == wanted else f"NOT {what}: {came}, and not {wanted}", flush=True
+    )
 
 
 def steps(block):
@@ -76,7 +80,8 @@ def steps(block):
 
 
 def play(machine, block, changes=()):
-    """Types a block of INSTALL at a machine: each command goes well, and prints what the page shows."""
+    """Types a block of INSTALL at a machine: each command goes well, and prints what the page
+    shows."""
     for command, shown in steps(block):
         for old, new in changes:
             shown = [line.replace(old, new) for line in shown]
@@ -97,20 +102,46 @@ def install(machine, package):
 
 def installed(machine, version):
     """The package is there, and runs nothing."""
-    note(f"{machine.name}: its version", machine.shown("dpkg-query", "--show", "--showformat=${Version}", "mailquota"), version)
+    note(
+        f"{machine.name}: its version",
+        machine.shown("dpkg-query", "--show", "--showformat=${Version}", "mailquota"),
+        version,
+    )
     note(f"{machine.name}: /etc/mailquota", machine.shown("ls", "-A", "/etc/mailquota"), "")
     for unit in machine.shown("sh", "-c", "cd /usr/lib/systemd/system && ls mailquota*").split():
-        note(f"{machine.name}: {unit}", [machine.run("systemctl", it, unit)[1].strip() for it in ("is-enabled", "is-active")], ["disabled", "inactive"])
+        note(
+            f"{machine.name}: {unit}",
+            [machine.run("systemctl", it, unit)[1].strip() for it in ("is-enabled", "is-active")],
+            ["disabled", "inactive"],
+        )
     pages = machine.root / "usr/share/doc/mailquota"
-    links = [(page.name, to) for page in pages.glob("*.md") for to in re.findall(r"\]\(([^):#]+)[#)]", page.read_text())]
-    note(f"{machine.name}: of {len(links)} links in pages those that lead nowhere", [it for it in links if not (pages / it[1]).exists()], [])
+    links = [
+        (page.name, to)
+        for page in pages.glob("*.md")
+        for to in re.findall(r"\]\(([^):#]+)[#)]", page.read_text())
+    ]
+    note(
+        f"{machine.name}: of {len(links)} links in pages those that lead nowhere",
+        [it for it in links if not (pages / it[1]).exists()],
+        [],
+    )
 
 
 def set_up_server(quota):
-    settings, addresses, makes, starts, filters = [it for it in blocks_of("INSTALL.md", "The quota server") if not any("useradd" in line for line in it)]
+    settings, addresses, makes, starts, filters = [
+        it
+        for it in blocks_of("INSTALL.md", "The quota server")
+        if not any("useradd" in line for line in it)
+    ]
     for block in (settings, addresses, makes, starts, filters):
         play(quota, block)
-    note("quota: whom the packet filter lets through", re.findall(r"192\.0\.2\.\d+", quota.shown("nft", "list", "set", "inet", "mailquota", "mailhosts")), ["192.0.2.1", "192.0.2.2", "192.0.2.9"])
+    note(
+        "quota: whom the packet filter lets through",
+        re.findall(
+            r"192\.0\.2\.\d+", quota.shown("nft", "list", "set", "inet", "mailquota", "mailhosts")
+        ),
+        ["192.0.2.1", "192.0.2.2", "192.0.2.9"],
+    )
 
 
 def make_mail_host(machine):
@@ -118,7 +149,19 @@ def make_mail_host(machine):
     folder = WORK / "certificate"
     folder.mkdir(exist_ok=True)
     if not (folder / "key").exists():
-        words = ["-newkey", "rsa:2048", "-nodes", "-days", "30", "-subj", "/CN=mx1.example.org", "-keyout", folder / "key", "-out", folder / "certificate"]
+        words = [
+            "-newkey",
+            "rsa:2048",
+            "-nodes",
+            "-days",
+            "30",
+            "-subj",
+            "/CN=mx1.example.org",
+            "-keyout",
+            folder / "key",
+            "-out",
+            folder / "certificate",
+        ]
         call("openssl", "req", "-x509", *words)
     secret = call("openssl", "passwd", "-6", "secret").stdout.strip()
     machine.write("/etc/mail/credentials", "".join(f"{it} {secret}\n" for it in ["alice", *LOGINS]))
@@ -135,7 +178,9 @@ def set_up_mail_host(machine, host):
         machine.edit("/etc/mailquota/filter.toml", "mx1.example.org", host)
     play(machine, tests, [("mx1.example.org", host)])
     listen = LISTEN.format(address=machine.address)
-    machine.edit("/etc/smtpd.conf", listen, "\n".join(lines).replace("192.0.2.1 ", f"{machine.address} "))
+    machine.edit(
+        "/etc/smtpd.conf", listen, "\n".join(lines).replace("192.0.2.1 ", f"{machine.address} ")
+    )
     play(machine, restarts)
     return again
 
@@ -155,16 +200,29 @@ def recipients(machine, login, count):
 def report(quota):
     """Of each login what is settled, what is reserved, and its limit."""
     today = quota.shown("mailquota", "day", "--config", "/etc/mailquota/server.toml").strip()
-    rows = [line.split() for line in quota.shown("mailquota", "report", "--server", SERVER, "--day", today).splitlines()]
-    return {login: (int(settled), int(reserved), int(limit)) for settled, reserved, limit, login in rows}
+    rows = [
+        line.split()
+        for line in quota.shown(
+            "mailquota", "report", "--server", SERVER, "--day", today
+        ).splitlines()
+    ]
+    return {
+        login: (int(settled), int(reserved), int(limit)) for settled, reserved, limit, login in rows
+    }
 
 
 def first_550(quota, hosts):
     [block] = blocks_of("INSTALL.md", "The first 550")
     play(quota, block)
     one, two = hosts
-    note("mx1: alice to three recipients", recipients(one, "alice", 3), ["250", "250", "550 daily recipient limit reached"])
-    note("mx2: alice to another", recipients(two, "alice", 1), ["550 daily recipient limit reached"])
+    note(
+        "mx1: alice to three recipients",
+        recipients(one, "alice", 3),
+        ["250", "250", "550 daily recipient limit reached"],
+    )
+    note(
+        "mx2: alice to another", recipients(two, "alice", 1), ["550 daily recipient limit reached"]
+    )
     note("the report of alice", report(quota).get("alice"), (2, 0, 2))
 
 
@@ -173,7 +231,9 @@ def changed(package, name, version, change=lambda folder: None):
     folder = WORK / name
     call("dpkg-deb", "--raw-extract", package, folder)
     control = folder / "DEBIAN/control"
-    control.write_text(re.sub(r"^Version: .*$", f"Version: {version}", control.read_text(), flags=re.MULTILINE))
+    control.write_text(
+        re.sub(r"^Version: .*$", f"Version: {version}", control.read_text(), flags=re.MULTILINE)
+    )
     change(folder)
     made = WORK / f"{name}.deb"
     call("dpkg-deb", "--root-owner-group", "--build", folder, made)
@@ -194,84 +254,190 @@ def run_timer(quota, package):
     quota.edit("/etc/mailquota/server.toml", "\nkeep = 2\n", "\n")
     quota.shown("systemctl", "enable", "--now", FORGETS)
     # (what takes the place of systemctl may make no link)
-    quota.shown("sh", "-c", f"mkdir -p {WANTS} && ln -sf /usr/lib/systemd/system/{FORGETS} {WANTS}/")
-    note("quota, with the package of before: its timer", quota.run("systemctl", "is-active", FORGETS)[1].strip(), "active")
+    quota.shown(
+        "sh", "-c", f"mkdir -p {WANTS} && ln -sf /usr/lib/systemd/system/{FORGETS} {WANTS}/"
+    )
+    note(
+        "quota, with the package of before: its timer",
+        quota.run("systemctl", "is-active", FORGETS)[1].strip(),
+        "active",
+    )
 
 
 def filter_of(machine):
     """The process that the filter is."""
-    return machine.shown("sh", "-c", "grep -lsa ^/usr/sbin/mailquota.filter /proc/[0-9]*/cmdline || :").split()
+    return machine.shown(
+        "sh", "-c", "grep -lsa ^/usr/sbin/mailquota.filter /proc/[0-9]*/cmdline || :"
+    ).split()
 
 
 def upgrade(quota, hosts, package):
-    """Under load the server is restarted, and no smtpd; each recipient is answered, and each that was accepted counts."""
-    senders = [Sender(it.address, login, seed, pace=0.05) for seed, login in enumerate(LOGINS) for it in hosts]
+    """Under load the server is restarted, and no smtpd; each recipient is answered, and each that
+    was accepted counts."""
+    senders = [
+        Sender(it.address, login, seed, pace=0.05)
+        for seed, login in enumerate(LOGINS)
+        for it in hosts
+    ]
     for sender in senders:
         sender.start()
     wait_until(lambda: sum(it.accepted for it in senders) > 100)
     settings, before = quota.read("/etc/mailquota/server.toml"), quota.main_pid("mailquota")
     said = " ".join(install(quota, package))
-    note("quota, upgraded under load: it says what takes the timer's place", f"{FORGETS} is gone" in said and "keep = 2" in said, True)
-    timer = quota.run("systemctl", "is-active", FORGETS)[1].strip(), quota.run("ls", f"{WANTS}/{FORGETS}")[0] == 0
+    note(
+        "quota, upgraded under load: it says what takes the timer's place",
+        f"{FORGETS} is gone" in said and "keep = 2" in said,
+        True,
+    )
+    timer = (
+        quota.run("systemctl", "is-active", FORGETS)[1].strip(),
+        quota.run("ls", f"{WANTS}/{FORGETS}")[0] == 0,
+    )
     note("quota, upgraded: the timer, and its link", timer, ("inactive", False))
-    note("quota, upgraded: another server runs", quota.main_pid("mailquota") not in (0, before), True)
-    note("quota, upgraded: the settings are the same", quota.read("/etc/mailquota/server.toml") == settings, True)
+    note(
+        "quota, upgraded: another server runs", quota.main_pid("mailquota") not in (0, before), True
+    )
+    note(
+        "quota, upgraded: the settings are the same",
+        quota.read("/etc/mailquota/server.toml") == settings,
+        True,
+    )
     sent = sum(it.accepted for it in senders)
-    note("quota, upgraded: mail goes on", wait_until(lambda: sum(it.accepted for it in senders) > sent + 100), True)
+    note(
+        "quota, upgraded: mail goes on",
+        wait_until(lambda: sum(it.accepted for it in senders) > sent + 100),
+        True,
+    )
     for host in hosts:
         runs = (host.main_pid("opensmtpd"), filter_of(host))
         said = " ".join(install(host, package))
-        note(f"{host.name}, upgraded under load: it says when to restart smtpd", "Once the quota server is upgraded too" in said and "systemctl restart opensmtpd" in said, True)
-        note(f"{host.name}, upgraded: smtpd and its filter run on", (host.main_pid("opensmtpd"), filter_of(host)), runs)
+        note(
+            f"{host.name}, upgraded under load: it says when to restart smtpd",
+            "Once the quota server is upgraded too" in said
+            and "systemctl restart opensmtpd" in said,
+            True,
+        )
+        note(
+            f"{host.name}, upgraded: smtpd and its filter run on",
+            (host.main_pid("opensmtpd"), filter_of(host)),
+            runs,
+        )
     end_all(senders)
     codes = [code for it in senders for _, _, code in it.answers]
-    note("the upgrade: recipients without an answer", [why for it in senders for why in it.unanswered], [])
-    print(f"the upgrade: of {len(codes)} recipients {codes.count(250)} were let through, {codes.count(451)} answered 451, after {max(end - begun for it in senders for begun, end, _ in it.answers):.1f} s at most")
+    note(
+        "the upgrade: recipients without an answer",
+        [why for it in senders for why in it.unanswered],
+        [],
+    )
+    print(
+        f"the upgrade: of {len(codes)} recipients {codes.count(250)} were let through,"
+        f" {codes.count(451)} answered 451, after"
+        f" {max(end - begun for it in senders for begun, end, _ in it.answers):.1f} s at most"
+    )
     accepted = {login: sum(it.accepted for it in senders if it.login == login) for login in LOGINS}
-    wait_until(lambda: {login: report(quota)[login][:2] for login in LOGINS} == {login: (count, 0) for login, count in accepted.items()}, 10)
-    note("the upgrade: what counts of each login", {login: report(quota)[login][:2] for login in LOGINS}, {login: (count, 0) for login, count in accepted.items()})
+    wait_until(
+        lambda: {login: report(quota)[login][:2] for login in LOGINS}
+        == {login: (count, 0) for login, count in accepted.items()},
+        10,
+    )
+    note(
+        "the upgrade: what counts of each login",
+        {login: report(quota)[login][:2] for login in LOGINS},
+        {login: (count, 0) for login, count in accepted.items()},
+    )
     for host in hosts:
         host.shown("systemctl", "restart", "opensmtpd")
-        note(f"{host.name}, smtpd restarted: alice", recipients(host, "alice", 1), ["550 daily recipient limit reached"])
+        note(
+            f"{host.name}, smtpd restarted: alice",
+            recipients(host, "alice", 1),
+            ["550 daily recipient limit reached"],
+        )
 
 
 def remove_and_install_again(quota, host, package):
     counted = report(quota)
     status, said = quota.run("apt", "remove", "-y", "mailquota")
-    note("quota, removed: status, and whether the server runs", (status, quota.run("systemctl", "is-active", "mailquota")[1].strip()), (0, "inactive"))
-    note("quota, removed: what stays", quota.run("ls", "/etc/mailquota/server.toml", "/var/lib/mailquota/ledger")[0], 0)
-    note("mx1, without a server: u01", recipients(host, "u01", 1), ["451 quota service unavailable"])
+    note(
+        "quota, removed: status, and whether the server runs",
+        (status, quota.run("systemctl", "is-active", "mailquota")[1].strip()),
+        (0, "inactive"),
+    )
+    note(
+        "quota, removed: what stays",
+        quota.run("ls", "/etc/mailquota/server.toml", "/var/lib/mailquota/ledger")[0],
+        0,
+    )
+    note(
+        "mx1, without a server: u01", recipients(host, "u01", 1), ["451 quota service unavailable"]
+    )
     status, said = quota.run("apt", "purge", "-y", "mailquota")
     told = [line for line in said.splitlines() if line.startswith("mailquota: ")]
-    note("quota, purged: status, and what it says", (status, told), (0, [
-        f"mailquota: the ledger, with all counts and limits, stays in {quota.shown('readlink', '-f', '/var/lib/mailquota').strip()}: remove it yourself if nobody wants it back"]))
-    note("quota, purged: what stays", [quota.run("ls", it)[0] == 0 for it in ("/etc/mailquota", "/var/lib/mailquota/ledger")], [False, True])
+    note(
+        "quota, purged: status, and what it says",
+        (status, told),
+        (
+            0,
+            [
+                "mailquota: the ledger, with all counts and limits, stays in"
+                f" {quota.shown('readlink', '-f', '/var/lib/mailquota').strip()}: remove it"
+                " yourself if nobody wants it back"
+            ],
+        ),
+    )
+    note(
+        "quota, purged: what stays",
+        [quota.run("ls", it)[0] == 0 for it in ("/etc/mailquota", "/var/lib/mailquota/ledger")],
+        [False, True],
+    )
     install(quota, package)
     settings, addresses, makes, starts, _, _ = blocks_of("INSTALL.md", "The quota server")
     play(quota, settings)
     play(quota, addresses)
     [(init, _)] = steps(makes)
     status, said = quota.by_shell([init])
-    note("quota, installed again: init", (status, said.splitlines()[-1]), (1, "mailquota: store is not this ledger"))
+    note(
+        "quota, installed again: init",
+        (status, said.splitlines()[-1]),
+        (1, "mailquota: store is not this ledger"),
+    )
     play(quota, starts)
     note("quota, installed again: the report is as before", report(quota) == counted, True)
-    note("mx1, with the old ledger: alice", recipients(host, "alice", 1), ["550 daily recipient limit reached"])
+    note(
+        "mx1, with the old ledger: alice",
+        recipients(host, "alice", 1),
+        ["550 daily recipient limit reached"],
+    )
 
 
 def remove_from_mail_host(host):
     status, said = host.run("apt", "remove", "-y", "mailquota")
     told = " ".join(line for line in said.splitlines() if line.startswith("mailquota: "))
-    note(f"{host.name}, removed: status, and that smtpd.conf has to be edited", (status, "take their lines out" in told), (0, True))
-    note(f"{host.name}, removed: smtpd runs on", (host.run("systemctl", "is-active", "opensmtpd")[1].strip(), recipients(host, "alice", 1)),
-         ("active", ["550 daily recipient limit reached"]))
+    note(
+        f"{host.name}, removed: status, and that smtpd.conf has to be edited",
+        (status, "take their lines out" in told),
+        (0, True),
+    )
+    note(
+        f"{host.name}, removed: smtpd runs on",
+        (host.run("systemctl", "is-active", "opensmtpd")[1].strip(), recipients(host, "alice", 1)),
+        ("active", ["550 daily recipient limit reached"]),
+    )
     status, said = host.run("apt", "purge", "-y", "mailquota")
-    left = [it for it in ("/etc/mailquota", "/var/lib/mailquota") if host.run("ls", "-d", it)[0] == 0]
-    note(f"{host.name}, purged: status, what it says, and what stays", (status, [it for it in said.splitlines() if it.startswith("mailquota: ")], left), (0, [], []))
+    left = [
+        it for it in ("/etc/mailquota", "/var/lib/mailquota") if host.run("ls", "-d", it)[0] == 0
+    ]
+    note(
+        f"{host.name}, purged: status, what it says, and what stays",
+        (status, [it for it in said.splitlines() if it.startswith("mailquota: ")], left),
+        (0, [], []),
+    )
 
 
 def from_usr_local(old, package):
     """A server that `make install` of 0.1.0 made, and its ledger, by INSTALL's lines."""
-    (old.root / "usr/local/sbin/mailquota").write_bytes((WORK / "later/usr/sbin/mailquota").read_bytes())
+    (old.root / "usr/local/sbin/mailquota").write_bytes(
+        (WORK / "later/usr/sbin/mailquota").read_bytes()
+    )
     (old.root / "usr/local/sbin/mailquota").chmod(0o755)
     for folder in ("libexec/mailquota", "share/doc/mailquota", "share/examples/mailquota"):
         old.write(f"/usr/local/{folder}/file", "")
@@ -279,11 +445,44 @@ def from_usr_local(old, package):
     old.write("/etc/mailquota.toml", OLD_SETTINGS)
     for name, text in (("mailquota.service", OLD_UNIT), *TIMER.items()):
         old.write(f"/etc/systemd/system/{name}", text)
-    old.shown("systemd-run", "--quiet", "--wait", "--pipe", "-p", "DynamicUser=yes", "-p", "User=mailquota", "-p", "StateDirectory=mailquota", "/usr/local/sbin/mailquota", "init",
-              "--config", "/etc/mailquota.toml")
+    old.shown(
+        "systemd-run",
+        "--quiet",
+        "--wait",
+        "--pipe",
+        "-p",
+        "DynamicUser=yes",
+        "-p",
+        "User=mailquota",
+        "-p",
+        "StateDirectory=mailquota",
+        "/usr/local/sbin/mailquota",
+        "init",
+        "--config",
+        "/etc/mailquota.toml",
+    )
     old.shown("systemctl", "enable", "--now", "mailquota", FORGETS)
     ask = ["--server", "192.0.2.8:7025"]
-    note("old: a limit", wait_until(lambda: old.run("/usr/local/sbin/mailquota", "limit", *ask, "--host", "admin", "--login", "bob", "--from", "1", "--cap", "7") == (0, "set\n")), True)
+    note(
+        "old: a limit",
+        wait_until(
+            lambda: old.run(
+                "/usr/local/sbin/mailquota",
+                "limit",
+                *ask,
+                "--host",
+                "admin",
+                "--login",
+                "bob",
+                "--from",
+                "1",
+                "--cap",
+                "7",
+            )
+            == (0, "set\n")
+        ),
+        True,
+    )
     old.shown("systemctl", "disable", "--now", "mailquota", FORGETS)
     play(old, block_with("INSTALL.md", "Upgrading", "/usr/local"))
     left = old.shown("find", "/usr/local", "-name", "mailquota*").splitlines()
@@ -292,13 +491,21 @@ def from_usr_local(old, package):
     settings, addresses, makes, starts, *_ = blocks_of("INSTALL.md", "The quota server")
     play(old, addresses)
     play(old, [it.replace("192.0.2.7", "192.0.2.8") for it in starts])
-    note("old, with the package: its limits", old.shown("mailquota", "report", *ask, "--day", "1", "--login", "bob").split(), ["0", "0", "7", "bob"])
+    note(
+        "old, with the package: its limits",
+        old.shown("mailquota", "report", *ask, "--day", "1", "--login", "bob").split(),
+        ["0", "0", "7", "bob"],
+    )
 
 
 def start_over(quota):
     """A ledger that root makes in the folder that is the server's by then."""
     quota.shown("systemctl", "stop", "mailquota")
-    quota.shown("sh", "-c", "cd /var/lib/mailquota && mv ledger ledger.before && mv ledger-wal ledger.before-wal")
+    quota.shown(
+        "sh",
+        "-c",
+        "cd /var/lib/mailquota && mv ledger ledger.before && mv ledger-wal ledger.before-wal",
+    )
     _, _, makes, starts, _, _ = blocks_of("INSTALL.md", "The quota server")
     play(quota, makes)
     play(quota, starts)
@@ -312,7 +519,10 @@ def kind_of_machine():
     try:
         Machine("tried", "192.0.2.99", "plain").end()
     except NoBoot as why:
-        print(f"systemd doesn't boot in a container here, so maintainer scripts and the units' own commands are tried:\n{why}")
+        print(
+            "systemd doesn't boot in a container here, so maintainer scripts and the units' own"
+            f" commands are tried:\n{why}"
+        )
         return PlainMachine
     return Machine
 
@@ -325,7 +535,12 @@ def main():
     make_switch()
     machines, kind = [], kind_of_machine()
     try:
-        for name, address, base in (("quota", "192.0.2.7", "plain"), ("mx1", "192.0.2.1", "mail"), ("mx2", "192.0.2.2", "mail"), ("old", "192.0.2.8", "plain")):
+        for name, address, base in (
+            ("quota", "192.0.2.7", "plain"),
+            ("mx1", "192.0.2.1", "mail"),
+            ("mx2", "192.0.2.2", "mail"),
+            ("old", "192.0.2.8", "plain"),
+        ):
             machines.append(kind(name, address, base))
         quota, *hosts, old = machines
         for host in hosts:
@@ -338,8 +553,16 @@ def main():
         first_550(quota, hosts)
         for host, block in zip(hosts, again):
             play(host, block)
-            log = "journalctl -u opensmtpd -o cat" if kind.has_systemd else "cat /var/log/opensmtpd.service.log"
-            note(f"{host.name}: it retires its runs before smtpd starts", host.shown("sh", "-c", f"{log} | grep -x retired | sort -u").strip(), "retired")
+            log = (
+                "journalctl -u opensmtpd -o cat"
+                if kind.has_systemd
+                else "cat /var/log/opensmtpd.service.log"
+            )
+            note(
+                f"{host.name}: it retires its runs before smtpd starts",
+                host.shown("sh", "-c", f"{log} | grep -x retired | sort -u").strip(),
+                "retired",
+            )
         run_timer(quota, changed(package, "former", f"{version}+former", add_timer))
         upgraded = changed(package, "later", f"{version}+later")
         upgrade(quota, hosts, upgraded)

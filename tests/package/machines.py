@@ -1,4 +1,5 @@
-"""Machines with Debian 13 on one switch, each in a folder of its own: booted by systemd-nspawn, or, where systemd doesn't boot there, without it."""
+"""Machines with Debian 13 on one switch, each in a folder of its own: booted by systemd-nspawn, or,
+where systemd doesn't boot there, without it."""
 import os
 import signal
 import subprocess
@@ -18,6 +19,7 @@ class NoBoot(Exception):
 
 class Machine(OnSwitch):
     """A machine that systemd boots."""
+
     has_systemd = True
     # the signal at which it shuts down
     ends_at = signal.SIGTERM
@@ -37,16 +39,36 @@ class Machine(OnSwitch):
             raise
 
     def boot(self):
-        words = ["systemd-nspawn", "--quiet", "--register=no", "--keep-unit", f"--machine=mailquota-{self.name}", f"--directory={self.root}",
-                 "--network-bridge=switch", "--resolv-conf=off", "--console=pipe", "--boot"]
+        words = [
+            "systemd-nspawn",
+            "--quiet",
+            "--register=no",
+            "--keep-unit",
+            f"--machine=mailquota-{self.name}",
+            f"--directory={self.root}",
+            "--network-bridge=switch",
+            "--resolv-conf=off",
+            "--console=pipe",
+            "--boot",
+        ]
         environment = {**os.environ, "SYSTEMD_NSPAWN_UNIFIED_HIERARCHY": "1"}
         try:
-            self.process = subprocess.Popen(words, env=environment, stdin=subprocess.DEVNULL, stdout=self.log, stderr=self.log, preexec_fn=self.join_group)
+            self.process = subprocess.Popen(
+                words,
+                env=environment,
+                stdin=subprocess.DEVNULL,
+                stdout=self.log,
+                stderr=self.log,
+                preexec_fn=self.join_group,
+            )
         except (OSError, subprocess.SubprocessError) as error:
             raise NoBoot(str(error)) from error
         if not wait_until(self.is_up):
             raise NoBoot((WORK / f"{self.name}.log").read_text(errors="replace")[-2000:])
-        for words in (["address", "add", f"{self.address}/24", "dev", "host0"], ["link", "set", "host0", "up"]):
+        for words in (
+            ["address", "add", f"{self.address}/24", "dev", "host0"],
+            ["link", "set", "host0", "up"],
+        ):
             self.shown("ip", *words)
 
     def join_group(self):
@@ -60,24 +82,51 @@ class Machine(OnSwitch):
 
     def leader(self):
         """The process that systemd is on this machine."""
-        with open(f"/proc/{self.process.pid}/task/{self.process.pid}/children", encoding="ascii") as file:
+        with open(
+            f"/proc/{self.process.pid}/task/{self.process.pid}/children", encoding="ascii"
+        ) as file:
             return next(iter(file.read().split()), None)
 
     def is_up(self):
         if self.process.poll() is not None:
             raise NoBoot((WORK / f"{self.name}.log").read_text(errors="replace")[-2000:])
-        return self.leader() and self.run("systemctl", "is-system-running")[1] in ("running\n", "degraded\n")
+        return self.leader() and self.run("systemctl", "is-system-running")[1] in (
+            "running\n",
+            "degraded\n",
+        )
 
     def words(self, *words):
-        return ["nsenter", "--target", self.leader(), *self.spaces, "env", "-i", "--chdir=/root", "HOME=/root",
-                "PATH=/usr/local/sbin:/usr/local/bin:/usr/sbin:/usr/bin", "LC_ALL=C.UTF-8", "DEBIAN_FRONTEND=noninteractive", *words]
+        return [
+            "nsenter",
+            "--target",
+            self.leader(),
+            *self.spaces,
+            "env",
+            "-i",
+            "--chdir=/root",
+            "HOME=/root",
+            "PATH=/usr/local/sbin:/usr/local/bin:/usr/sbin:/usr/bin",
+            "LC_ALL=C.UTF-8",
+            "DEBIAN_FRONTEND=noninteractive",
+            *words,
+        ]
 
     def run(self, *words):
         """The status, and what is printed and said, in the order in which it is."""
         try:
-            run = subprocess.run(self.words(*words), stdin=subprocess.DEVNULL, stdout=subprocess.PIPE, stderr=subprocess.STDOUT, text=True, timeout=LONGEST)
+            run = subprocess.run(
+                self.words(*words),
+                stdin=subprocess.DEVNULL,
+                stdout=subprocess.PIPE,
+                stderr=subprocess.STDOUT,
+                text=True,
+                timeout=LONGEST,
+            )
         except subprocess.TimeoutExpired as late:
-            raise SystemExit(f"{self.name}: {' '.join(words)} hasn't ended in {LONGEST} s:\n{(late.stdout or b'').decode(errors='replace')}") from late
+            raise SystemExit(
+                f"{self.name}: {' '.join(words)} hasn't ended in"
+                f" {LONGEST} s:\n{(late.stdout or b'').decode(errors='replace')}"
+            ) from late
         return run.returncode, run.stdout
 
     def shown(self, *words):
@@ -121,7 +170,8 @@ class Machine(OnSwitch):
         self.log.close()
 
 
-# What a machine without systemd does for itself, at its start: its own processes, devices and network. Its first process takes in those that ended.
+# What a machine without systemd does for itself, at its start: its own processes, devices and
+# network. Its first process takes in those that ended.
 HOLDER = """mount -t proc proc "$1/proc"
 mount --rbind /dev "$1/dev"
 mount -t tmpfs tmpfs "$1/run"
@@ -131,7 +181,9 @@ exec chroot "$1" sh -c 'while :; do sleep 1 & wait; done'
 
 
 class PlainMachine(Machine):
-    """A machine without systemd: maintainer scripts and pages find the script `systemctl` in its place, which starts what the units say."""
+    """A machine without systemd: maintainer scripts and pages find the script `systemctl` in its
+    place, which starts what the units say."""
+
     has_systemd = False
     # (unshare, which is its first process's parent, heeds no other, and all of it ends with that)
     ends_at = signal.SIGKILL
@@ -140,8 +192,31 @@ class PlainMachine(Machine):
     def boot(self):
         self.write("/usr/bin/systemctl", (HERE / "systemctl").read_text(), 0o755)
         self.connect("host0")
-        words = ["nsenter", f"--net=/run/netns/{self.name}", "unshare", "--mount", "--uts", "--ipc", "--pid", "--fork", "--kill-child", "sh", "-e", "-c", HOLDER, "holder", self.root]
-        self.process = subprocess.Popen(words, stdin=subprocess.DEVNULL, stdout=self.log, stderr=self.log)
+        words = [
+            "nsenter",
+            f"--net=/run/netns/{self.name}",
+            "unshare",
+            "--mount",
+            "--uts",
+            "--ipc",
+            "--pid",
+            "--fork",
+            "--kill-child",
+            "sh",
+            "-e",
+            "-c",
+            HOLDER,
+            "holder",
+            self.root,
+        ]
+        self.process = subprocess.Popen(
+            words, stdin=subprocess.DEVNULL, stdout=self.log, stderr=self.log
+        )
         # (until then its first process has the root of this system)
-        if not wait_until(lambda: self.leader() and self.run("cat", "/etc/hostname") == (0, f"{self.name}\n")):
-            raise SystemExit(f"{self.name} doesn't start:\n{(WORK / f'{self.name}.log').read_text(errors='replace')[-2000:]}")
+        if not wait_until(
+            lambda: self.leader() and self.run("cat", "/etc/hostname") == (0, f"{self.name}\n")
+        ):
+            raise SystemExit(
+                f"{self.name} doesn't"
+                f" start:\n{(WORK / f'{self.name}.log').read_text(errors='replace')[-2000:]}"
+            )

@@ -5,7 +5,11 @@ def short(value):
     if isinstance(value, bytes):
         value = value.hex()
     if isinstance(value, (list, tuple)):
-        value = "[" + ", ".join(short(one) for one in value[:4]) + (f", .. {len(value)} in all]" if len(value) > 4 else "]")
+        value = (
+            "["
+            + ", ".join(short(one) for one in value[:4])
+            + (f", .. {len(value)} in all]" if len(value) > 4 else "]")
+        )
     value = str(value).replace("\n", "\\n")
     return value if len(value) <= 150 else f"{value[:100]}..{value[-40:]}"
 

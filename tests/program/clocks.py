@@ -56,15 +56,15 @@ def place_in(process):
 
 def function_in(library, wanted):
     """Where a function begins in an ELF library of 64 bits."""
-    table, = struct.unpack_from("<Q", library, 0x28)
-    size, count = struct.unpack_from("<HH", library, 0x3a)
+    (table,) = struct.unpack_from("<Q", library, 0x28)
+    size, count = struct.unpack_from("<HH", library, 0x3A)
     places = range(table, table + size * count, size)
     sections = [struct.unpack_from("<IIQQQQIIQQ", library, it) for it in places]
     symbols = next(it for it in sections if it[1] == 11)
     names = sections[symbols[6]][4]
     for at in range(symbols[4], symbols[4] + symbols[5], 24):
         name, _, _, _, value, length = struct.unpack_from("<IBBHQQ", library, at)
-        if library[names + name:].partition(b"\0")[0] == wanted and length >= len(CODE) + 16:
+        if library[names + name :].partition(b"\0")[0] == wanted and length >= len(CODE) + 16:
             return value
     raise ValueError(f"there is no function {wanted.decode()} that can be replaced")
 

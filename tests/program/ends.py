@@ -21,14 +21,16 @@ TOP = os.path.dirname(os.path.dirname(os.path.dirname(os.path.abspath(__file__))
 SECONDS = 150
 # Milliseconds of the same, where a timeout is a setting.
 LONG = 60_000
-# Runs a program under a limit of the system: its name, its number, and the words. A write beyond a file's size then fails.
+# Runs a program under a limit of the system: its name, its number, and the words. A write beyond a
+# file's size then fails.
 LIMITED = """import os, resource, signal, sys
 signal.signal(signal.SIGXFSZ, signal.SIG_IGN)
 resource.setrlimit(getattr(resource, sys.argv[1]), (int(sys.argv[2]), int(sys.argv[2])))
 os.execv(sys.argv[3], sys.argv[3:])"""
 # The numbers of calls of the system: accept(2) and accept4(2), and fchown(2).
 CALLS = {"accept": (43, 288), "fchown": (93, 93)}
-# Runs a program of x86-64 whose calls of these fail, by a filter of seccomp(2): their name, the error's number, and the words.
+# Runs a program of x86-64 whose calls of these fail, by a filter of seccomp(2): their name, the
+# error's number, and the words.
 WITHOUT_CALLS = f"""import ctypes, os, struct, sys
 ALLOWED, FAILS, CALLS = 0x7fff0000, 0x50000 | int(sys.argv[2]), {CALLS}[sys.argv[1]]
 lines = [(0x20, 0, 0, 0), (0x15, 1, 0, CALLS[0]), (0x15, 0, 1, CALLS[1]), (6, 0, 0, FAILS), (6, 0, 0, ALLOWED)]
@@ -39,10 +41,12 @@ assert libc.prctl(38, 1, 0, 0, 0) == 0 and libc.prctl(22, 2, ctypes.byref(it), 0
 os.execv(sys.argv[3], sys.argv[3:])"""
 
 
-# Runs a program of x86-64, and a child of that traces it by ptrace(2). "noted", the file of the notes, and the words: of each call of the system it notes
-# the number, the first argument, the third, and the result, before the program goes on, and "end" once that has ended. "failing", a call's number, the
-# error and how many such calls are made before, as "17,5,0", and the words: that call isn't made, and fails so. "killed", the numbers of some calls and how
-# many of all these are made before, as "18,82,0", and the words: the program is killed at the next one, which isn't made.
+# Runs a program of x86-64, and a child of that traces it by ptrace(2). "noted", the file of the
+# notes, and the words: of each call of the system it notes the number, the first argument, the
+# third, and the result, before the program goes on, and "end" once that has ended. "failing", a
+# call's number, the error and how many such calls are made before, as "17,5,0", and the words: that
+# call isn't made, and fails so. "killed", the numbers of some calls and how many of all these are
+# made before, as "18,82,0", and the words: the program is killed at the next one, which isn't made.
 TRACED = f"""import ctypes, os, struct, sys
 sys.path.insert(0, {os.path.dirname(os.path.abspath(__file__))!r})
 from tracing import let_begin, libc, ptrace, seize
@@ -94,12 +98,16 @@ while True:
     ptrace(traced, goes_on, 0, handed)
 if notes:
     print("end", file=notes)"""
-SCRIPTS = {**dict.fromkeys(CALLS, WITHOUT_CALLS), **dict.fromkeys(("noted", "failing", "killed"), TRACED), "clock": clocks.TICKING}
+SCRIPTS = {
+    **dict.fromkeys(CALLS, WITHOUT_CALLS),
+    **dict.fromkeys(("noted", "failing", "killed"), TRACED),
+    "clock": clocks.TICKING,
+}
 
 
 def under(limit):
-    """The words before a program's that run it under this limit, where there is one: one of LIMITED, of WITHOUT_CALLS, of TRACED, of clocks.py, or what
-    strace(1) injects."""
+    """The words before a program's that run it under this limit, where there is one: one of
+    LIMITED, of WITHOUT_CALLS, of TRACED, of clocks.py, or what strace(1) injects."""
     if not limit:
         return []
     if limit[0] == "strace":
@@ -108,7 +116,8 @@ def under(limit):
 
 
 def free_port():
-    """A port that was free just now; another process may take it before long, so a server had better choose its own (0)."""
+    """A port that was free just now; another process may take it before long, so a server had
+    better choose its own (0)."""
     with socket.socket() as probe:
         probe.bind(("127.0.0.1", 0))
         return probe.getsockname()[1]
@@ -124,7 +133,8 @@ def nobody_there():
 
 @contextlib.contextmanager
 def crowded_port():
-    """An address whose queue is full, so that a connect waits for ever: nobody accepts, and Linux queues one more than it is told."""
+    """An address whose queue is full, so that a connect waits for ever: nobody accepts, and Linux
+    queues one more than it is told."""
     with socket.socket() as listening, contextlib.ExitStack() as crowd:
         listening.bind(("127.0.0.1", 0))
         listening.listen(0)
@@ -152,7 +162,9 @@ def sockets_of(process):
     with contextlib.suppress(OSError):
         for name in os.listdir(folder):
             with contextlib.suppress(OSError):
-                found.add(os.readlink(f"{folder}/{name}").removeprefix("socket:[").removesuffix("]"))
+                found.add(
+                    os.readlink(f"{folder}/{name}").removeprefix("socket:[").removesuffix("]")
+                )
     return found
 
 
@@ -172,9 +184,12 @@ def listening_port(process):
 
 
 def wait_for_listener(process):
-    """Waits until a process listens, without a connection, which would be counted; gives the port, and 0 where it ended before."""
+    """Waits until a process listens, without a connection, which would be counted; gives the port,
+    and 0 where it ended before."""
     found = []
-    wait_until(lambda: found.append(listening_port(process)) or found[-1] or process.poll() is not None)
+    wait_until(
+        lambda: found.append(listening_port(process)) or found[-1] or process.poll() is not None
+    )
     return found[-1]
 
 
@@ -195,7 +210,8 @@ def wait_past_midnight(offset=0):
 
 
 def soon(what, enough):
-    """What one of several goes brings, and how long it took: the first that takes less than so many seconds, or the tenth, or the third of long ones.
+    """What one of several goes brings, and how long it took: the first that takes less than so many
+    seconds, or the tenth, or the third of long ones.
 
     A machine that has much else to do may hold one up, and hardly ten.
     """
@@ -217,12 +233,16 @@ def apart(errors):
 
 
 def fault(text, output=b"", log=""):
-    """What a run ends with, has printed and says where it isn't done, after these lines of its log."""
+    """What a run ends with, has printed and says where it isn't done, after these lines of its
+    log."""
     return 1, output, f"{log}mailquota: {text}\n"
 
 
 # What the system says.
-NOBODY_LISTENS, NO_FILE = "Connection refused (os error 111)", "No such file or directory (os error 2)"
+NOBODY_LISTENS, NO_FILE = (
+    "Connection refused (os error 111)",
+    "No such file or directory (os error 2)",
+)
 # What the store says of a file that another process has open, and of one that is no database.
 LOCKED, NO_DATABASE = "database is locked", "file is not a database that obeys its schema"
 
@@ -254,7 +274,11 @@ NO_NUMERIC_ADDRESS = "no numeric address before the port; an IPv6 address stands
 
 def bad_address(address, lacks):
     """What a command of the administrator ends with where it is given this address."""
-    return 2, b"", f"[ERROR mq_process::asking] address {address}: {lacks}\nmailquota: bad address\n"
+    return (
+        2,
+        b"",
+        f"[ERROR mq_process::asking] address {address}: {lacks}\nmailquota: bad address\n",
+    )
 
 
 # Why no ledger is made in a file.
@@ -268,7 +292,10 @@ def refusal(path, cause):
 
 def begun(place, zone="offset 0", default=3, answers=0, days=0, limits=0):
     """The first line of a server, as `without_time` leaves it."""
-    return f"[INFO  mq_program::serving] ledger {place}: version 3, default {default}, {zone}, answers={answers} days={days} limits={limits}"
+    return (
+        f"[INFO  mq_program::serving] ledger {place}: version 3, default {default}, {zone},"
+        f" answers={answers} days={days} limits={limits}"
+    )
 
 
 # How the first line of a server ends.
@@ -281,22 +308,28 @@ def without_time(lines):
 
 
 def time_of_start(lines):
-    """How many milliseconds a server's start took by its lines; 0 where the first one doesn't say so."""
+    """How many milliseconds a server's start took by its lines; 0 where the first one doesn't say
+    so."""
     found = OPENED_IN.search(lines[0])
     return int(found[1]) if found else 0
 
 
 def toml(settings):
     """The text of settings, without those that are None."""
+
     def spelled(value):
         return f'"{value}"' if isinstance(value, str) else str(value)
 
-    return "".join(f"{key} = {spelled(value)}\n" for key, value in settings.items() if value is not None)
+    return "".join(
+        f"{key} = {spelled(value)}\n" for key, value in settings.items() if value is not None
+    )
 
 
 def ledger_settings(world, path, **more):
     """A file of settings of a server that nobody reaches, over the ledger's file at this path."""
-    return world.new_file(toml({"listen": "127.0.0.1:1", "store": path, "default": 3, "offset": 0, **more}))
+    return world.new_file(
+        toml({"listen": "127.0.0.1:1", "store": path, "default": 3, "offset": 0, **more})
+    )
 
 
 def copied(source, path):
@@ -332,23 +365,41 @@ OF_REQUESTS = " mq_watch::watched] "
 
 
 def but_of_requests(lines):
-    """A log's lines but for those of requests: most cases have moments of years long past, and logins that near their limits."""
+    """A log's lines but for those of requests: most cases have moments of years long past, and
+    logins that near their limits."""
     return [line for line in lines if OF_REQUESTS not in line]
 
 
 def shown(login):
-    """A login as a report prints it: its bytes, and those that are no visible ASCII, and a backslash, by their numbers."""
-    return "".join(chr(byte) if 0x21 <= byte < 0x7f and byte != 0x5c else f"\\x{byte:02x}" for byte in login)
+    """A login as a report prints it: its bytes, and those that are no visible ASCII, and a
+    backslash, by their numbers."""
+    return "".join(
+        chr(byte) if 0x21 <= byte < 0x7F and byte != 0x5C else f"\\x{byte:02x}" for byte in login
+    )
 
 
 class Server:
     """The real server in a process of its own, at a port that the system chooses."""
 
-    def __init__(self, world, connections=1_000_000, host="127.0.0.1", words=(), limit=(), **settings):
+    def __init__(
+        self, world, connections=1_000_000, host="127.0.0.1", words=(), limit=(), **settings
+    ):
         listen = f"[{host}]:0" if ":" in host else f"{host}:0"
-        whole = {"listen": listen, "store": "memory", "default": 3, "offset": 0, "timeout": LONG, **settings}
+        whole = {
+            "listen": listen,
+            "store": "memory",
+            "default": 3,
+            "offset": 0,
+            "timeout": LONG,
+            **settings,
+        }
         many = ["--connections", str(connections)] if connections else []
-        self.begin(world, ["--config", world.new_file(toml(whole)), *many, *words], listen=listen, limit=limit)
+        self.begin(
+            world,
+            ["--config", world.new_file(toml(whole)), *many, *words],
+            listen=listen,
+            limit=limit,
+        )
 
     @classmethod
     def of_words(cls, world, *words, folder):
@@ -361,7 +412,11 @@ class Server:
         self.listen = listen
         self.log = open(world.new_file(""), "w+b")
         self.process = subprocess.Popen(
-            [*under(limit), world.program, "server", *words], stdin=subprocess.DEVNULL, stdout=self.log, stderr=self.log, cwd=folder
+            [*under(limit), world.program, "server", *words],
+            stdin=subprocess.DEVNULL,
+            stdout=self.log,
+            stderr=self.log,
+            cwd=folder,
         )
         self.port = wait_for_listener(self.process)
         self.host = listen.rpartition(":")[0].strip("[]")
@@ -378,7 +433,8 @@ class Server:
 
     @contextlib.contextmanager
     def stopped(self):
-        """The system stops it meanwhile, so that what peers send is all there before it looks at any."""
+        """The system stops it meanwhile, so that what peers send is all there before it looks at
+        any."""
         self.process.send_signal(signal.SIGSTOP)
         # (one that is traced is in another state)
         wait_until(lambda: state_of(self.process)[0] in "Tt")
@@ -388,7 +444,8 @@ class Server:
             self.process.send_signal(signal.SIGCONT)
 
     def connect(self, room=None, source=None):
-        """A connection, with so many bytes of room for what comes back, and from this address of the host."""
+        """A connection, with so many bytes of room for what comes back, and from this address of
+        the host."""
         peer = socket.socket(socket.AF_INET6 if ":" in self.host else socket.AF_INET)
         peer.settimeout(SECONDS)
         peer.setsockopt(socket.IPPROTO_TCP, socket.TCP_NODELAY, 1)
@@ -455,10 +512,13 @@ DRIP = object()
 
 
 class Listening:
-    """Listens on a loopback and answers in a thread of its own, from the begin of a case to its end."""
+    """Listens on a loopback and answers in a thread of its own, from the begin of a case to its
+    end."""
 
     def __init__(self, host="127.0.0.1"):
-        self.listener = socket.create_server((host, 0), backlog=128, family=socket.AF_INET6 if ":" in host else socket.AF_INET)
+        self.listener = socket.create_server(
+            (host, 0), backlog=128, family=socket.AF_INET6 if ":" in host else socket.AF_INET
+        )
         self.port = self.listener.getsockname()[1]
         self.address = f"[{host}]:{self.port}" if ":" in host else f"{host}:{self.port}"
         self.is_over = False
@@ -477,7 +537,8 @@ class Listening:
         raise NotImplementedError
 
     def next_peer(self):
-        """The next connection, or None once the case is over and all that came before were heard."""
+        """The next connection, or None once the case is over and all that came before were
+        heard."""
         while True:
             is_over = self.is_over
             if select.select([self.listener], [], [], 0.05)[0]:
@@ -489,11 +550,11 @@ class Listening:
 
 
 class Script(Listening):
-    """A server that answers its connections by a list: bytes, SILENCE until the peer gives up, DRIP, a byte now and
-    then for as long, or RESET.
+    """A server that answers its connections by a list: bytes, SILENCE until the peer gives up,
+    DRIP, a byte now and then for as long, or RESET.
 
-    A function in the list is given what came and makes one of these. After the list nobody listens, or each further
-    question is answered by `otherwise`.
+    A function in the list is given what came and makes one of these. After the list nobody listens,
+    or each further question is answered by `otherwise`.
     """
 
     def __init__(self, answers, host="127.0.0.1", otherwise=None):
@@ -552,7 +613,8 @@ class Script(Listening):
 
 
 class Relay(Listening):
-    """Stands between a command and a real server, and notes what went each way: a connection at a time."""
+    """Stands between a command and a real server, and notes what went each way: a connection at a
+    time."""
 
     def __init__(self, server):
         super().__init__()
@@ -583,24 +645,35 @@ class World:
         return path
 
     def run(self, *words, text=b"", output=None, folder=None, limit=()):
-        """Runs the program, in this folder where one is given, under this limit where one is; gives its status, its output and
-        its errors as text."""
+        """Runs the program, in this folder where one is given, under this limit where one is; gives
+        its status, its output and its errors as text."""
         run = subprocess.run(
-            [*under(limit), self.program, *words], input=text, stdout=output or subprocess.PIPE, stderr=subprocess.PIPE, timeout=SECONDS * 2,
+            [*under(limit), self.program, *words],
+            input=text,
+            stdout=output or subprocess.PIPE,
+            stderr=subprocess.PIPE,
+            timeout=SECONDS * 2,
             cwd=folder,
         )
         return run.returncode, run.stdout or b"", run.stderr.decode(errors="replace")
 
     def run_with_room(self, room, *words, text=b""):
-        """Runs the program over an output that takes so many bytes; gives its status, what the output took, and its errors."""
+        """Runs the program over an output that takes so many bytes; gives its status, what the
+        output took, and its errors."""
         path = self.new_file("")
         with open(path, "r+b") as output:
-            status, _, errors = self.run(*words, text=text, output=output, limit=("RLIMIT_FSIZE", room))
+            status, _, errors = self.run(
+                *words, text=text, output=output, limit=("RLIMIT_FSIZE", room)
+            )
             output.seek(0)
             return status, output.read(), errors
 
     def filter_file(self, address, **settings):
-        return self.new_file(toml({"host": "mx1", "server": address, "tries": 3, "timeout": LONG, **settings}))
+        return self.new_file(
+            toml({"host": "mx1", "server": address, "tries": 3, "timeout": LONG, **settings})
+        )
 
     def filter(self, address, text, **settings):
-        return self.run("filter", "--config", self.filter_file(address, **settings), "--run", "1", text=text)
+        return self.run(
+            "filter", "--config", self.filter_file(address, **settings), "--run", "1", text=text
+        )

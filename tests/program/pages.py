@@ -2,7 +2,9 @@
 import os
 import re
 
-DOCS = os.path.join(os.path.dirname(os.path.dirname(os.path.dirname(os.path.realpath(__file__)))), "docs")
+DOCS = os.path.join(
+    os.path.dirname(os.path.dirname(os.path.dirname(os.path.realpath(__file__)))), "docs"
+)
 
 
 def section_of(page, heading):
@@ -12,7 +14,10 @@ def section_of(page, heading):
 
 def blocks_of(page, heading):
     """The blocks of a section of a page, each as its lines."""
-    return [[line[4:] for line in block.splitlines()] for block in re.findall(r"(?:^    .*\n)+", section_of(page, heading), re.MULTILINE)]
+    return [
+        [line[4:] for line in block.splitlines()]
+        for block in re.findall(r"(?:^    .*\n)+", section_of(page, heading), re.MULTILINE)
+    ]
 
 
 def block_with(page, heading, word):

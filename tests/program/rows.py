@@ -14,13 +14,22 @@ COLUMNS = {
     "retired": "host, run",
 }
 KEYS = {
-    "setting": "id", "answer": "n", "trans": "host, run, txn", "usage": "login, day", "ceiling": "login, day", "rule": "id", "retired": "host",
+    "setting": "id",
+    "answer": "n",
+    "trans": "host, run, txn",
+    "usage": "login, day",
+    "ceiling": "login, day",
+    "rule": "id",
+    "retired": "host",
 }
 
 
 def rows_in(path, tables=("setting", "answer", "trans", "usage", "ceiling")):
     """The rows of these tables, each table's in the order of its key."""
-    return answers_of(path, {table: f"SELECT {COLUMNS[table]} FROM {table} ORDER BY {KEYS[table]}" for table in tables})
+    return answers_of(
+        path,
+        {table: f"SELECT {COLUMNS[table]} FROM {table} ORDER BY {KEYS[table]}" for table in tables},
+    )
 
 
 def answers_of(path, queries):

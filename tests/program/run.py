@@ -28,7 +28,27 @@ from ends import World
 
 CASES = Path(__file__).parent / "cases"
 # those of them that take longest, and so begin first
-FIRST_GROUPS = ["many_answers", "causes", "retiring", "storms", "full_pages", "forgetting", "nights", "stopping", "edges", "figures", "contrib", "zones", "failing_calls", "bodies", "full_disks", "lengths", "crowds", "many_sessions", "many_numbers"]
+FIRST_GROUPS = [
+    "many_answers",
+    "causes",
+    "retiring",
+    "storms",
+    "full_pages",
+    "forgetting",
+    "nights",
+    "stopping",
+    "edges",
+    "figures",
+    "contrib",
+    "zones",
+    "failing_calls",
+    "bodies",
+    "full_disks",
+    "lengths",
+    "crowds",
+    "many_sessions",
+    "many_numbers",
+]
 # what these do to a server, its files and the machine takes longer, and some of it wants root
 OTHER_GROUPS = ["kills", "failures", "many_limits", "memory_limits"]
 # these run only where they are named
@@ -43,7 +63,8 @@ COUNTS = re.compile(r"(\d+) passed, (\d+) failed\n\Z")
 
 
 def main():
-    # (what runs in the background may ignore these, and the program would inherit it; one that is caught it doesn't)
+    # (what runs in the background may ignore these, and the program would inherit it; one that is
+    # caught it doesn't)
     for it in (signal.SIGINT, signal.SIGHUP, signal.SIGTERM):
         signal.signal(it, lambda number, _: sys.exit(128 + number))
     asked = parsed()
@@ -53,12 +74,24 @@ def main():
 
 
 def parsed():
-    parser = argparse.ArgumentParser(description=__doc__, formatter_class=argparse.RawDescriptionHelpFormatter)
+    parser = argparse.ArgumentParser(
+        description=__doc__, formatter_class=argparse.RawDescriptionHelpFormatter
+    )
     parser.add_argument("program", metavar="PROGRAM")
-    parser.add_argument("words", metavar="WORD", nargs="*", default=[], help="only the groups whose names have one of these words")
+    parser.add_argument(
+        "words",
+        metavar="WORD",
+        nargs="*",
+        default=[],
+        help="only the groups whose names have one of these words",
+    )
     alone = parser.add_mutually_exclusive_group()
     alone.add_argument("--gate", action="store_true", help="the groups that the gate runs")
-    alone.add_argument("--group", metavar="GROUP", help="this group, in this process; a WORD is one function of it, and all others do nothing")
+    alone.add_argument(
+        "--group",
+        metavar="GROUP",
+        help="this group, in this process; a WORD is one function of it, and all others do nothing",
+    )
     asked = parser.parse_args()
     if asked.gate and asked.words or asked.group and len(asked.words) > 1:
         parser.error(f"too many words: {' '.join(asked.words)}")
@@ -68,12 +101,18 @@ def parsed():
 def gate_groups():
     """Each file of cases is a group of the gate, but for those named above."""
     found = sorted(it.stem for it in CASES.glob("*.py"))
-    return FIRST_GROUPS + [it for it in found if it not in FIRST_GROUPS + OTHER_GROUPS + LONG_GROUPS + NO_GROUPS]
+    return FIRST_GROUPS + [
+        it for it in found if it not in FIRST_GROUPS + OTHER_GROUPS + LONG_GROUPS + NO_GROUPS
+    ]
 
 
 def groups_of(words):
     groups = gate_groups() + OTHER_GROUPS
-    return [it for it in groups + LONG_GROUPS if any(word in it for word in words)] if words else groups
+    return (
+        [it for it in groups + LONG_GROUPS if any(word in it for word in words)]
+        if words
+        else groups
+    )
 
 
 def run_groups(program, groups):
@@ -81,7 +120,9 @@ def run_groups(program, groups):
     passed, failed, running = 0, 0, []
     pool = ThreadPoolExecutor(AT_ONCE)
     try:
-        for group, (told, status) in zip(groups, pool.map(lambda group: told_by(group, program, running), groups)):
+        for group, (told, status) in zip(
+            groups, pool.map(lambda group: told_by(group, program, running), groups)
+        ):
             good, bad = counted(group, told, status)
             passed += good
             failed += bad
@@ -94,10 +135,11 @@ def run_groups(program, groups):
 
 
 def counted(group, told, status):
-    """Prints what a group told, and returns how many of its cases passed and failed: one that ends in another way has failed."""
+    """Prints what a group told, and returns how many of its cases passed and failed: one that ends
+    in another way has failed."""
     counts = COUNTS.search(told)
     passed, failed = map(int, counts.groups()) if counts else (0, 0)
-    print(told[:counts.start()] if counts else told, end="", flush=True)
+    print(told[: counts.start()] if counts else told, end="", flush=True)
     if failed == 0 and (status or not passed):
         print(f"NOT {group}: it ended with status {status} and {passed} passed", flush=True)
         failed = 1
@@ -107,7 +149,9 @@ def counted(group, told, status):
 def told_by(group, program, running):
     """What a group prints that runs in a process of its own, and its status."""
     words = [sys.executable, os.path.abspath(__file__), "--group", group, program]
-    with subprocess.Popen(words, stdin=subprocess.DEVNULL, stdout=subprocess.PIPE, stderr=subprocess.STDOUT) as process:
+    with subprocess.Popen(
+        words, stdin=subprocess.DEVNULL, stdout=subprocess.PIPE, stderr=subprocess.STDOUT
+    ) as process:
         running.append(process)
         try:
             told = process.communicate(timeout=None if group in LONG_GROUPS else LONGEST)[0]
@@ -118,7 +162,8 @@ def told_by(group, program, running):
 
 
 def watched(group, only):
-    """The group, whose functions say that they begin where `run` calls them; all but one do nothing, where that is named."""
+    """The group, whose functions say that they begin where `run` calls them; all but one do
+    nothing, where that is named."""
     module, inside = importlib.import_module(f"cases.{group}"), []
 
     def watch(name, function):
@@ -137,7 +182,11 @@ def watched(group, only):
         return call
 
     for name, function in list(vars(module).items()):
-        if inspect.isfunction(function) and function.__module__ == module.__name__ and list(inspect.signature(function).parameters)[:2] == ["world", "checks"]:
+        if (
+            inspect.isfunction(function)
+            and function.__module__ == module.__name__
+            and list(inspect.signature(function).parameters)[:2] == ["world", "checks"]
+        ):
             if name != "run":
                 setattr(module, name, watch(name, function))
     return module
@@ -152,7 +201,9 @@ def run_group(group, program, only=None):
         try:
             watched(group, only).run(World(f"{folder}/mailquota", folder), checks)
         except Exception:
-            checks.tell(f"{group}: it comes to its end", False, "no exception", traceback.format_exc())
+            checks.tell(
+                f"{group}: it comes to its end", False, "no exception", traceback.format_exc()
+            )
             traceback.print_exc()
     print(f"-- {group}: {time.monotonic() - start:.1f} s")
     print(f"{checks.passed} passed, {checks.failed} failed", flush=True)

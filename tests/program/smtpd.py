@@ -17,10 +17,16 @@ class Smtpd:
         self.log = open(world.new_file(""), "w+b")
         before = clock()
         self.process = subprocess.Popen(
-            [world.program, "filter", "--config", file, *words], stdin=subprocess.PIPE, stdout=subprocess.PIPE, stderr=self.log, bufsize=0
+            [world.program, "filter", "--config", file, *words],
+            stdin=subprocess.PIPE,
+            stdout=subprocess.PIPE,
+            stderr=self.log,
+            bufsize=0,
         )
         self.say(CONFIG)
-        self.registration = b"".join(self.process.stdout.readline() for _ in REGISTRATION.splitlines())
+        self.registration = b"".join(
+            self.process.stdout.readline() for _ in REGISTRATION.splitlines()
+        )
         # the clock was read at some moment of these
         self.runs = range(before, clock() + 1)
 
@@ -31,7 +37,8 @@ class Smtpd:
         self.say(b"report|0.7|%d.000001|smtp-in|%s|%s|%s\n" % (at, event, session, rest))
 
     def is_done(self):
-        """Whether it answers what needs no server, and so has done with all lines before, their exchanges too."""
+        """Whether it answers what needs no server, and so has done with all lines before, their
+        exchanges too."""
         self.say(b"filter|0.7|1.000002|smtp-in|mail-from|done|%s|alice@example.org\n" % TOKEN)
         return self.process.stdout.readline() == result(b"proceed", b"done")
 
@@ -46,7 +53,9 @@ class Smtpd:
 
     def recipient(self, at, session):
         """What is answered to one more recipient."""
-        self.say(b"filter|0.7|%d.000002|smtp-in|rcpt-to|%s|%s|bob@example.org\n" % (at, session, TOKEN))
+        self.say(
+            b"filter|0.7|%d.000002|smtp-in|rcpt-to|%s|%s|bob@example.org\n" % (at, session, TOKEN)
+        )
         return self.process.stdout.readline()
 
     def end(self):

@@ -28,16 +28,19 @@ def has_sums(content):
 def pages_of(content):
     (size,) = struct.unpack(">H", content[16:18])
     size = 65_536 if size == 1 else size
-    return [content[place:place + size] for place in range(0, len(content), size)]
+    return [content[place : place + size] for place in range(0, len(content), size)]
 
 
 def wrong_pages(content):
     """The pages whose sums aren't theirs, counted from 1."""
-    return [number for number, page in enumerate(pages_of(content), 1) if page[-LENGTH:] != sum_of(page)]
+    return [
+        number for number, page in enumerate(pages_of(content), 1) if page[-LENGTH:] != sum_of(page)
+    ]
 
 
 def renew(path):
-    """Gives each page of a file with sums its sum: SQLite without the extension leaves that of the page as it was."""
+    """Gives each page of a file with sums its sum: SQLite without the extension leaves that of the
+    page as it was."""
     content = content_of(path)
     if has_sums(content):
         with open(path, "wb") as file:

@@ -8,7 +8,9 @@ libc = ctypes.CDLL(None)
 
 
 def ptrace(traced, what, argument, data):
-    return libc.ptrace(ctypes.c_long(what), ctypes.c_long(traced), ctypes.c_void_p(argument), ctypes.c_void_p(data))
+    return libc.ptrace(
+        ctypes.c_long(what), ctypes.c_long(traced), ctypes.c_void_p(argument), ctypes.c_void_p(data)
+    )
 
 
 def seize(traced, options):

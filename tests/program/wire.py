@@ -22,11 +22,15 @@ def transaction(number_of, login, at):
 
 
 def reserve(sequence, txn=1, login=b"u", count=1, at=86_400, **sender):
-    return frame(b"\x01" + identity(sequence, **sender) + transaction(txn, login, at) + number(count))
+    return frame(
+        b"\x01" + identity(sequence, **sender) + transaction(txn, login, at) + number(count)
+    )
 
 
 def settle(sequence, txn=1, login=b"u", count=1, at=86_400, **sender):
-    return frame(b"\x02" + identity(sequence, **sender) + transaction(txn, login, at) + number(count))
+    return frame(
+        b"\x02" + identity(sequence, **sender) + transaction(txn, login, at) + number(count)
+    )
 
 
 def release(sequence, txn=1, login=b"u", at=86_400, **sender):
@@ -34,7 +38,9 @@ def release(sequence, txn=1, login=b"u", at=86_400, **sender):
 
 
 def limit(sequence, from_day, cap, login=b"u", **sender):
-    return frame(b"\x04" + identity(sequence, **sender) + number(from_day) + number(cap) + text(login))
+    return frame(
+        b"\x04" + identity(sequence, **sender) + number(from_day) + number(cap) + text(login)
+    )
 
 
 def retire(sequence, **sender):

@@ -1,7 +1,8 @@
 """Finds the lemmas and definitions that stand twice with the same text.
 
-A name of a crate of ours counts as what the file imports under it, and in a statement or a definition a name of the file's own as its text: where
-that is another, so is the statement. Hence no two answers to goals are the same, since each function has goals of its own.
+A name of a crate of ours counts as what the file imports under it, and in a statement or a
+definition a name of the file's own as its text: where that is another, so is the statement. Hence
+no two answers to goals are the same, since each function has goals of its own.
 """
 import collections
 import re
@@ -18,12 +19,17 @@ def imports_of(lines):
     for path, names, alias in (it.groups() for it in map(IMPORT.match, lines) if it):
         if path.startswith(OF_OURS):
             pairs = [it.strip().partition(" as ") for it in (names or "").split(",")]
-            found.update({alias: path} if alias else {other or name: f"{path}.{name}" for name, _, other in pairs})
+            found.update(
+                {alias: path}
+                if alias
+                else {other or name: f"{path}.{name}" for name, _, other in pairs}
+            )
     return found
 
 
 def definitions_in(lines):
-    """Yields each lemma and definition of a file, or of a module in it: its name, and its lines, the first of which is what it states."""
+    """Yields each lemma and definition of a file, or of a module in it: its name, and its lines,
+    the first of which is what it states."""
     name, found = None, []
     for line in [*lines, "end"]:
         if not line.strip() or line.lstrip().startswith("--"):
@@ -36,7 +42,9 @@ def definitions_in(lines):
             found.append(line)
             continue
         if name == "module":
-            body = next((at for at, it in enumerate(found) if it.endswith(" where")), len(found)) + 1
+            body = (
+                next((at for at, it in enumerate(found) if it.endswith(" where")), len(found)) + 1
+            )
             yield from definitions_in([it[2:] for it in found[body:]])
         elif found:
             yield name, found
@@ -64,15 +72,23 @@ def meant(word, imports, own, within):
 
 
 def said(lines, imports, own, within):
-    """The text of a definition or a lemma with its words as they are meant, but in a proof for the file's own."""
-    stated = next((at for at, it in enumerate(lines) if at and it[0] != " "), len(lines)) if is_lemma(lines) else len(lines)
+    """The text of a definition or a lemma with its words as they are meant, but in a proof for the
+    file's own."""
+    stated = (
+        next((at for at, it in enumerate(lines) if at and it[0] != " "), len(lines))
+        if is_lemma(lines)
+        else len(lines)
+    )
     statement = WORD.sub(lambda it: meant(it[0], imports, own, within), plain(lines[:stated]))
-    proof = WORD.sub(lambda it: imports.get(it[0], it[0]), " ".join(" ".join(lines[stated:]).split()))
+    proof = WORD.sub(
+        lambda it: imports.get(it[0], it[0]), " ".join(" ".join(lines[stated:]).split())
+    )
     return f"{statement} {proof}"
 
 
 def twice(texts):
-    """Yields each name with the files that have the same lemma or definition of two lines or more under it, given texts by file."""
+    """Yields each name with the files that have the same lemma or definition of two lines or more
+    under it, given texts by file."""
     alike, of_file = collections.defaultdict(list), {}
     for file, text in texts.items():
         lines = text.split("\n")

@@ -4,8 +4,8 @@
 - Each crate has a front page at the head of its root: its example stands in the file that it names,
   and it names the crates of ours that it stands on as crates.txt has them. Each other file of its
   source begins with a line of what it is.
-- docs/ARCHITECTURE.md lists each crate of crates.txt once, and no other, in layers: a crate stands on
-  none of a higher one. docs/crates.svg draws them so.
+- docs/ARCHITECTURE.md lists each crate of crates.txt once, and no other, in layers: a crate stands
+  on none of a higher one. docs/crates.svg draws them so.
 - Each place that CONTRIBUTING.md sends a reader to is there, with the words that it says of it.
 - What docs/PROOFS.md names under a crate stands in that crate, and the clauses in brackets after a
   function stand in a contract of such a function.
@@ -41,12 +41,14 @@ SOURCES = ["crates/*/src/**/*.rt"]
 DEFINITIONS = ["crates/*/specs/**/*.antt", "crates/*/proofs/**/*.antt"]
 # The roots of tests say which libraries they call, and crates.txt has them.
 OF_TESTS = ("mq_ends_tests", "mq_store_tests")
-# The crate that only proofs stand on, which front pages needn't name, and what still stands twice, with the crates.
+# The crate that only proofs stand on, which front pages needn't name, and what still stands twice,
+# with the crates.
 OF_PROOFS = "mq_lemmas"
 NOT_YET = {}
 
-# Names of code that were given up: what is found, and what is said instead. Of sources and definitions the code alone is read, without
-# comments and texts: a ledger's file has a table `ceiling` and a column `seq`.
+# Names of code that were given up: what is found, and what is said instead. Of sources and
+# definitions the code alone is read, without comments and texts: a ledger's file has a table
+# `ceiling` and a column `seq`.
 NAMES = {
     r"seq'?": "number",
     r"at: (?:&\s*)?(?:u64|Option<u64>)": "moment",
@@ -59,20 +61,44 @@ NAMES = {
 }
 
 # The pages whose prose is wrapped, and how far.
-WRAPPED = ["README.md", "CONTRIBUTING.md", "SECURITY.md"] + [f"docs/{it}.md" for it in (
-    "ARCHITECTURE", "CLIENT", "DECISIONS", "FRAMES", "GATE", "INSTALL", "LEDGER", "LINES", "OPERATING", "PROOFS", "STABLE", "STORE")]
+WRAPPED = ["README.md", "CONTRIBUTING.md", "SECURITY.md"] + [
+    f"docs/{it}.md"
+    for it in (
+        "ARCHITECTURE",
+        "CLIENT",
+        "DECISIONS",
+        "FRAMES",
+        "GATE",
+        "INSTALL",
+        "LEDGER",
+        "LINES",
+        "OPERATING",
+        "PROOFS",
+        "STABLE",
+        "STORE",
+    )
+]
 COLUMNS = 100
 
-# The table of the program's commands and their options, the options that clap adds, and how many words the manual has at most, as `wc -w` counts them.
+# The table of the program's commands and their options, the options that clap adds, and how many
+# words the manual has at most, as `wc -w` counts them.
 SUBCOMMANDS = "crates/mq_words/src/subcommands.rt"
 OF_CLAP = {"help", "version"}
-# The crates whose errors end a command, and those of their texts that stand behind another alone, as why an address is bad.
+# The crates whose errors end a command, and those of their texts that stand behind another alone,
+# as why an address is bad.
 OF_COMMANDS = ["mq_settings", "mq_command", "mq_process", "mq_remote", "mq_program"]
-BEHIND = {"no port", "port above 65535", "no numeric address before the port; an IPv6 address stands in brackets"}
+BEHIND = {
+    "no port",
+    "port above 65535",
+    "no numeric address before the port; an IPv6 address stands in brackets",
+}
 VERSION = "crates/mailquota/src/version.rt"
 WORDS = 7_000
 
-TOKEN = re.compile(r"""//[^\n]* | "(?:\\.|[^"\\])*" | '(?:\\.[^']*|[^'\\])' | [^/"']+ | .""", re.VERBOSE | re.DOTALL)
+TOKEN = re.compile(
+    r"""//[^\n]* | "(?:\\.|[^"\\])*" | '(?:\\.[^']*|[^'\\])' | [^/"']+ | .""",
+    re.VERBOSE | re.DOTALL,
+)
 PLACE = re.compile(r"`([a-z_]+/(?:src/[a-z_/]+\.rt|proofs/\w+\.antt))`")
 
 
@@ -82,8 +108,16 @@ def read(tree, file):
 
 
 def files(tree, patterns):
-    found = {os.path.relpath(it, tree) for pattern in patterns for it in glob.glob(f"{tree}/{pattern}", recursive=True)}
-    return sorted(it for it in found if os.path.isfile(f"{tree}/{it}") and "/out/" not in it and "__pycache__" not in it)
+    found = {
+        os.path.relpath(it, tree)
+        for pattern in patterns
+        for it in glob.glob(f"{tree}/{pattern}", recursive=True)
+    }
+    return sorted(
+        it
+        for it in found
+        if os.path.isfile(f"{tree}/{it}") and "/out/" not in it and "__pycache__" not in it
+    )
 
 
 def rows_of(tree):
@@ -109,8 +143,14 @@ def squeezed(text):
 def pages(tree):
     """Yields of each crate what is wrong with its front page."""
     for crate, below in crates_of(tree).items():
-        root = next(iter(files(tree, [f"crates/{crate}/src/lib.rt", f"crates/{crate}/src/main.rt"])), None)
-        page = "\n".join(it[4:] for it in read(tree, root).split("\n") if it.startswith("//!")) if root else ""
+        root = next(
+            iter(files(tree, [f"crates/{crate}/src/lib.rt", f"crates/{crate}/src/main.rt"])), None
+        )
+        page = (
+            "\n".join(it[4:] for it in read(tree, root).split("\n") if it.startswith("//!"))
+            if root
+            else ""
+        )
         prose, wrong = [], []
         for part in page.split("\n\n"):
             if not part.startswith("    "):
@@ -124,21 +164,33 @@ def pages(tree):
         if len(prose) == len(page.split("\n\n")):
             wrong.append("it has no example")
         if crate not in OF_TESTS:
-            stands = re.search(r"It stands on (.*?)(?:\.\s|\.$|;)", " ".join(" ".join(prose).split()))
+            stands = re.search(
+                r"It stands on (.*?)(?:\.\s|\.$|;)", " ".join(" ".join(prose).split())
+            )
             named = {it for it in re.findall(r"`(\w+)`", stands[1])} if stands else set()
             if not stands or named & {*crates_of(tree)} != {*below} - {OF_PROOFS}:
-                wrong.append(f"it doesn't say that it stands on {', '.join(it for it in below if it != OF_PROOFS) or 'no crate of ours'}")
+                wrong.append(
+                    "it doesn't say that it stands on"
+                    f" {', '.join(it for it in below if it != OF_PROOFS) or 'no crate of ours'}"
+                )
         if not re.search(r"Begin\s+with|one\s+file", page):
             wrong.append("it doesn't say where to begin reading")
         sources = files(tree, [f"crates/{crate}/src/**/*.rt"])
-        wrong += [f"{it} doesn't begin with a line of what it is" for it in sources if not read(tree, it).startswith("//! ")]
+        wrong += [
+            f"{it} doesn't begin with a line of what it is"
+            for it in sources
+            if not read(tree, it).startswith("//! ")
+        ]
         yield f"the front page of {crate}", wrong
 
 
 def layers_of(tree):
-    """The layers of crates that docs/ARCHITECTURE.md lists, the lowest first, each with its crates."""
+    """The layers of crates that docs/ARCHITECTURE.md lists, the lowest first, each with its
+    crates."""
     layers = {}
-    for title, name in re.findall(r"^\| (?:\*\*(.*)\*\*|`(\w+)`) \|", read(tree, "docs/ARCHITECTURE.md"), re.MULTILINE):
+    for title, name in re.findall(
+        r"^\| (?:\*\*(.*)\*\*|`(\w+)`) \|", read(tree, "docs/ARCHITECTURE.md"), re.MULTILINE
+    ):
         if title or not layers:
             layers[title] = its = []
         its += [name] if name else []
@@ -156,20 +208,33 @@ def listed(tree):
 
 def layered(tree):
     """Yields which crates stand on one of a higher layer."""
-    layer = {name: number for number, names in enumerate(layers_of(tree).values()) for name in names}
-    yield "the layers", [f"{name} stands on {it} of a higher layer" for name, below in crates_of(tree).items() for it in below
-                         if name in layer and layer[name] < layer.get(it, 0)]
+    layer = {
+        name: number for number, names in enumerate(layers_of(tree).values()) for name in names
+    }
+    yield "the layers", [
+        f"{name} stands on {it} of a higher layer"
+        for name, below in crates_of(tree).items()
+        for it in below
+        if name in layer and layer[name] < layer.get(it, 0)
+    ]
 
 
 def drawn(tree):
     """Yields whether the drawing of the crates is that of these layers and of crates.txt."""
     is_right = read(tree, "docs/crates.svg") == drawing.drawn(layers_of(tree), crates_of(tree))
-    yield "docs/crates.svg", [] if is_right else ["it isn't of these crates: run tests/prose/drawing.py"]
+    yield "docs/crates.svg", (
+        [] if is_right else ["it isn't of these crates: run tests/prose/drawing.py"]
+    )
 
 
 def sent_to(tree):
-    """Yields of each row of CONTRIBUTING.md that sends a reader into the source what isn't there."""
-    rows = re.findall(r"^\| ([^|]+) \| ([^|]*\.rt`[^|]*) \| ([^|]+) \|$", read(tree, "CONTRIBUTING.md"), re.MULTILINE)
+    """Yields of each row of CONTRIBUTING.md that sends a reader into the source what isn't
+    there."""
+    rows = re.findall(
+        r"^\| ([^|]+) \| ([^|]*\.rt`[^|]*) \| ([^|]+) \|$",
+        read(tree, "CONTRIBUTING.md"),
+        re.MULTILINE,
+    )
     if not rows:
         yield "CONTRIBUTING.md", ["it sends nobody into the source"]
     for what, where, says in rows:
@@ -182,7 +247,11 @@ def sent_to(tree):
             if not re.search(rf"\b(?:fn|struct) {name.split('::')[-1]}\b", text):
                 wrong.append(f"{file} has no {name}")
         named = {*re.findall(r"`(mq_\w+)/", where + says)}
-        texts = [read(tree, it) for name in named for it in files(tree, [f"crates/{name}/src/**/*.rt", f"crates/{name}/specs/**/*.antt"])]
+        texts = [
+            read(tree, it)
+            for name in named
+            for it in files(tree, [f"crates/{name}/src/**/*.rt", f"crates/{name}/specs/**/*.antt"])
+        ]
         for word in re.findall(r"`([^`]+)`", says):
             if word.endswith(".antt"):
                 places = [word] if word.startswith("mq_") else [f"{it}/{word}" for it in named]
@@ -194,7 +263,8 @@ def sent_to(tree):
 
 
 def contracts(tree, crate):
-    """Returns the names that stand in a crate's source and definitions, and of each function the clauses of its contracts."""
+    """Returns the names that stand in a crate's source and definitions, and of each function the
+    clauses of its contracts."""
     known, clauses = set(), {}
     for file in files(tree, [f"crates/{crate}/src/**/*.rt", f"crates/{crate}/specs/**/*.antt"]):
         text = without_texts(read(tree, file), file)
@@ -206,7 +276,8 @@ def contracts(tree, crate):
 
 
 def carriers(tree):
-    """Yields of each section on crates in docs/PROOFS.md which of the names and clauses there don't stand in them."""
+    """Yields of each section on crates in docs/PROOFS.md which of the names and clauses there don't
+    stand in them."""
     crates = {it: contracts(tree, it) for it in crates_of(tree)}
     # (a trait's clauses stand in the crate that has the trait)
     of_all = {}
@@ -228,33 +299,60 @@ def carriers(tree):
             if not found:
                 wrong.append(f"{title} has no {name}")
         for name, listed_ in re.findall(r"`(?:\w+::)?(\w+)`\s+\((`\w+`(?:,\s+`\w+`)*)\)", text):
-            wrong += [f"no contract of {name} has a clause {it}" for it in re.findall(r"\w+", listed_) if it not in of_all.get(name, ())]
+            wrong += [
+                f"no contract of {name} has a clause {it}"
+                for it in re.findall(r"\w+", listed_)
+                if it not in of_all.get(name, ())
+            ]
         yield f"docs/PROOFS.md, {title}", wrong
-    missing = [it for it, (_, clauses) in crates.items() if it not in OF_TESTS and any(clauses.values())
-               and not any(it in re.findall(r"\w+", title) for title in parts[1::2])]
+    missing = [
+        it
+        for it, (_, clauses) in crates.items()
+        if it not in OF_TESTS
+        and any(clauses.values())
+        and not any(it in re.findall(r"\w+", title) for title in parts[1::2])
+    ]
     yield "docs/PROOFS.md", [f"it has nothing of {it}" for it in missing]
 
 
 def columns(tree):
     """Yields of each page which of its lines of prose are too long."""
     for file in files(tree, WRAPPED):
-        prose = re.sub(r"^```.*?^```$", lambda it: blank(it[0]), read(tree, file), flags=re.MULTILINE | re.DOTALL)
-        yield file, [f"its line {number} has more than {COLUMNS} columns" for number, line in enumerate(prose.split("\n"), 1)
-                     if len(line) > COLUMNS and not line.startswith(("|", "    ", "#", "!["))]
+        prose = re.sub(
+            r"^```.*?^```$",
+            lambda it: blank(it[0]),
+            read(tree, file),
+            flags=re.MULTILINE | re.DOTALL,
+        )
+        yield file, [
+            f"its line {number} has more than {COLUMNS} columns"
+            for number, line in enumerate(prose.split("\n"), 1)
+            if len(line) > COLUMNS and not line.startswith(("|", "    ", "#", "!["))
+        ]
 
 
 def commands_of(tree):
     """The commands with their options, as help prints them, and those of the program itself."""
     source = read(tree, SUBCOMMANDS)
-    options = dict(re.findall(r'const (\w+): CommandOption = CommandOption \{\s*name: "([\w-]+)"', source))
-    rows = re.findall(r'Subcommand \{\s*name: "([\w-]+)".*?options: &\[([^\]]*)\]', source, re.DOTALL)
-    return {"": OF_CLAP, **{name: {options[it] for it in re.findall(r"\w+", its)} for name, its in rows}}
+    options = dict(
+        re.findall(r'const (\w+): CommandOption = CommandOption \{\s*name: "([\w-]+)"', source)
+    )
+    rows = re.findall(
+        r'Subcommand \{\s*name: "([\w-]+)".*?options: &\[([^\]]*)\]', source, re.DOTALL
+    )
+    return {
+        "": OF_CLAP,
+        **{name: {options[it] for it in re.findall(r"\w+", its)} for name, its in rows},
+    }
 
 
 def synopses(page):
-    """Yields the commands of each synopsis of a manual page with its options; the program's own has no command."""
+    """Yields the commands of each synopsis of a manual page with its options; the program's own has
+    no command."""
     for one in re.split(r"^\.Nm\b.*$", section_of(page, "SYNOPSIS"), flags=re.MULTILINE)[1:]:
-        yield re.findall(r"[a-z]+", " ".join(re.findall(r"^\.Cm (.*)$", one, re.MULTILINE))) or [""], options_in(one)
+        yield re.findall(r"[a-z]+", " ".join(re.findall(r"^\.Cm (.*)$", one, re.MULTILINE))) or [
+            ""
+        ], options_in(one)
 
 
 def section_of(page, title):
@@ -266,7 +364,8 @@ def options_in(text):
 
 
 def manual(tree):
-    """Yields of each command what is wrong with it in the manual, and what is wrong with all of its pages."""
+    """Yields of each command what is wrong with it in the manual, and what is wrong with all of its
+    pages."""
     texts, shown = {it: read(tree, it) for it in files(tree, ["man/*"])}, {}
     for page, text in texts.items():
         for commands, options in synopses(text):
@@ -275,29 +374,47 @@ def manual(tree):
     listed_ = re.findall(r"^\.It Cm (\w+)$", texts.get("man/mailquota.8", ""), re.MULTILINE)
     for command, options in commands_of(tree).items():
         its = shown.pop(command, {})
-        wrong = [] if len(its) == 1 else [f"it stands in {len(its)} synopses: {', '.join(its) or 'none'}"]
+        wrong = (
+            []
+            if len(its) == 1
+            else [f"it stands in {len(its)} synopses: {', '.join(its) or 'none'}"]
+        )
         wrong += ["man/mailquota.8 doesn't list it"] if command and command not in listed_ else []
         for page, found in its.items():
             told = options_in(texts[page].replace(section_of(texts[page], "SYNOPSIS"), ""))
             wrong += [f"{page} hasn't --{it} in its synopsis" for it in sorted(options - found)]
-            wrong += [f"{page} has --{it} in its synopsis, which the program doesn't take" for it in sorted(found - options)]
-            wrong += [f"{page} doesn't say what --{it} does" for it in sorted((options & found) - told)]
+            wrong += [
+                f"{page} has --{it} in its synopsis, which the program doesn't take"
+                for it in sorted(found - options)
+            ]
+            wrong += [
+                f"{page} doesn't say what --{it} does" for it in sorted((options & found) - told)
+            ]
         yield f"the manual, {command or 'of all commands'}", wrong
     words = sum(len(it.split()) for it in texts.values())
     wrong = [f"the program has no command {it}" for it in shown]
-    yield "the manual", wrong + ([f"its pages have {words} words, and not {WORDS} at most"] if words > WORDS else [])
+    yield "the manual", wrong + (
+        [f"its pages have {words} words, and not {WORDS} at most"] if words > WORDS else []
+    )
 
 
 def diagnostics_in(page):
-    """The diagnostics that a manual page lists: a word in capitals stands for what differs, and '..' for how it goes on."""
+    """The diagnostics that a manual page lists: a word in capitals stands for what differs, and
+    '..' for how it goes on."""
     lines = re.findall(r"^\.It Li (.*)$", section_of(page, "DIAGNOSTICS"), re.MULTILINE)
     return [it.replace('"', "") for line in lines for it in line.split(" , ")]
 
 
 def errors_of(tree):
     """The texts of the errors that end commands, with a word in capitals in place of each value."""
-    sources = [read(tree, it) for crate in OF_COMMANDS for it in files(tree, [f"crates/{crate}/src/**/*.rt"])]
-    texts = {it for source in sources for it in re.findall(r'#\[error\(\s*"((?:[^"\\]|\\.)*)"', source)}
+    sources = [
+        read(tree, it)
+        for crate in OF_COMMANDS
+        for it in files(tree, [f"crates/{crate}/src/**/*.rt"])
+    ]
+    texts = {
+        it for source in sources for it in re.findall(r'#\[error\(\s*"((?:[^"\\]|\\.)*)"', source)
+    }
     return {re.sub(r"\{[^}]*\}", "N", it) for it in texts} - BEHIND - {"N"}
 
 
@@ -308,13 +425,20 @@ def is_of(item, error):
 
 
 def diagnostics(tree):
-    """Yields of each error that ends a command, and of what the manual lists twice, where that stands in other than one page, once."""
-    items = [(page, it) for page in files(tree, ["man/*"]) for it in diagnostics_in(read(tree, page))]
+    """Yields of each error that ends a command, and of what the manual lists twice, where that
+    stands in other than one page, once."""
+    items = [
+        (page, it) for page in files(tree, ["man/*"]) for it in diagnostics_in(read(tree, page))
+    ]
     for error in sorted(errors_of(tree)):
         its = [page for page, item in items if is_of(item, error)]
-        yield f"the manual, '{error}'", [] if len(its) == 1 else [f"it stands in {len(its)} places: {', '.join(its) or 'none'}"]
+        yield f"the manual, '{error}'", (
+            [] if len(its) == 1 else [f"it stands in {len(its)} places: {', '.join(its) or 'none'}"]
+        )
     counts = collections.Counter(it for _, it in items)
-    yield "the manual's diagnostics", [f"'{it}' stands in it {number} times" for it, number in counts.items() if number > 1]
+    yield "the manual's diagnostics", [
+        f"'{it}' stands in it {number} times" for it, number in counts.items() if number > 1
+    ]
 
 
 def blank(text):
@@ -325,78 +449,172 @@ def blank(text):
 def without_texts(text, file):
     """The code of a source or of definitions, without comments and texts."""
     if file.endswith(".rt"):
-        return "".join(blank(it) if it.startswith(("//", '"')) else it for it in TOKEN.findall(text))
+        return "".join(
+            blank(it) if it.startswith(("//", '"')) else it for it in TOKEN.findall(text)
+        )
     return re.sub(r'"(?:\\.|[^"\\\n])*"|(?:(?<=\s)|\A)--[^\n]*', "", text)
 
 
 def names(tree):
     """Yields of each name of code that was given up where it stands."""
-    texts = {file: without_texts(read(tree, file), file) for file in files(tree, [*SOURCES, *DEFINITIONS])}
+    texts = {
+        file: without_texts(read(tree, file), file)
+        for file in files(tree, [*SOURCES, *DEFINITIONS])
+    }
     for name, instead in NAMES.items():
-        found = [f"{file}:{text.count(chr(10), 0, it.start()) + 1}: '{' '.join(it[0].split())}' was given up ({instead})"
-                 for file, text in texts.items() for it in re.finditer(rf"\b(?:{name})\b", text)]
+        found = [
+            f"{file}:{text.count(chr(10), 0, it.start()) + 1}: '{' '.join(it[0].split())}' was"
+            f" given up ({instead})"
+            for file, text in texts.items()
+            for it in re.finditer(rf"\b(?:{name})\b", text)
+        ]
         yield f"the name {name}", found
 
 
 def standing_twice(tree):
     """Yields which lemmas and definitions stand in more than one place."""
     found = lemmas.twice({file: read(tree, file) for file in files(tree, DEFINITIONS)})
-    wrong = [f"{name} stands in {' and '.join(its)}" for name, its in found if NOT_YET.get(name) != sorted({it.split("/")[1] for it in its})]
+    wrong = [
+        f"{name} stands in {' and '.join(its)}"
+        for name, its in found
+        if NOT_YET.get(name) != sorted({it.split("/")[1] for it in its})
+    ]
     yield "lemmas and definitions", wrong
 
 
 def versions(tree):
     """Yields whether the program, CHANGELOG and the package have one version."""
-    places = {VERSION: r'VERSION: &str = "(.*)"', "CHANGELOG": r"\A([^,\n]*),", "debian/changelog": r"\Amailquota \((.*?)\)"}
-    found = {file: (re.findall(pattern, read(tree, file)) or ["none"])[0] for file, pattern in places.items()}
-    yield "the version", [] if len({*found.values()}) == 1 else [", ".join(f"{file} has {version}" for file, version in found.items())]
+    places = {
+        VERSION: r'VERSION: &str = "(.*)"',
+        "CHANGELOG": r"\A([^,\n]*),",
+        "debian/changelog": r"\Amailquota \((.*?)\)",
+    }
+    found = {
+        file: (re.findall(pattern, read(tree, file)) or ["none"])[0]
+        for file, pattern in places.items()
+    }
+    yield "the version", (
+        []
+        if len({*found.values()}) == 1
+        else [", ".join(f"{file} has {version}" for file, version in found.items())]
+    )
 
 
 def noticed(tree):
-    """Yields which of the kit's libraries NOTICE lacks, but for os and sqlite_*, for which the kit has no licence."""
+    """Yields which of the kit's libraries NOTICE lacks, but for os and sqlite_*, for which the kit
+    has no licence."""
     rows = rows_of(tree)
-    named = {it for name, libraries in rows.items() if name not in OF_TESTS for it in libraries if it not in rows and it != "os" and not it.startswith("sqlite_")}
-    yield "NOTICE", [f"it hasn't {it}" for it in sorted(named - {*re.findall(r"^(\w+) ", read(tree, "NOTICE"), re.MULTILINE)})]
+    named = {
+        it
+        for name, libraries in rows.items()
+        if name not in OF_TESTS
+        for it in libraries
+        if it not in rows and it != "os" and not it.startswith("sqlite_")
+    }
+    yield "NOTICE", [
+        f"it hasn't {it}"
+        for it in sorted(named - {*re.findall(r"^(\w+) ", read(tree, "NOTICE"), re.MULTILINE)})
+    ]
 
 
-CHECKS = [pages, listed, layered, drawn, sent_to, carriers, columns, manual, diagnostics, names, standing_twice, versions, noticed]
+CHECKS = [
+    pages,
+    listed,
+    layered,
+    drawn,
+    sent_to,
+    carriers,
+    columns,
+    manual,
+    diagnostics,
+    names,
+    standing_twice,
+    versions,
+    noticed,
+]
 
-# A tree with nothing wrong, and what each of these changes makes of it: the file, the text there, what takes its place, and the checks that find it.
+# A tree with nothing wrong, and what each of these changes makes of it: the file, the text there,
+# what takes its place, and the checks that find it.
 TREE = {
     "crates.txt": "# crates\nmq_lemmas:\nmq_low: mq_lemmas thiserror\nmq_high: mq_low\n",
-    "docs/GATE.md": f"A gate.\n\n    {'code ' * 30}\n\n```\n{'code ' * 30}\n```\n\n| {'row ' * 30}|\n",
+    "docs/GATE.md": (
+        f"A gate.\n\n    {'code ' * 30}\n\n```\n{'code ' * 30}\n```\n\n| {'row ' * 30}|\n"
+    ),
     VERSION: '//! The version.\npub const VERSION: &str = "1.2.3";\n',
     "CHANGELOG": "1.2.3, 1 May 2026\n",
     "debian/changelog": "mailquota (1.2.3) trixie; urgency=medium\n",
     "NOTICE": "thiserror  MIT\n",
-    "docs/crates.svg": drawing.drawn({"low": ["mq_lemmas", "mq_low"], "high": ["mq_high"]}, {"mq_lemmas": [], "mq_low": ["mq_lemmas"], "mq_high": ["mq_low"]}),
-    "docs/ARCHITECTURE.md": "| **low** | |\n| `mq_lemmas` | words |\n| `mq_low` | words |\n| **high** | |\n| `mq_high` | words |\n",
-    "CONTRIBUTING.md": "| a call | `mq_high/src/lib.rt`: `call` | `done`: so it is (`IsDone`, `specs/Done.antt`) |\n",
-    "docs/PROOFS.md": "# Proved\n\n### mq_low\n\n- Low: `low`, `Far` of `mq_high`.\n\n### mq_high\n\n- What is done (`specs/Done.antt`): `call` (`done`).\n\n"
-                      "## What is only tested\n\n`nowhere`\n",
-    "crates/mq_low/src/lib.rt": "//! Low. From `mq_high/src/lib.rt`:\n//!\n//!     low(1)\n//!\n//! It stands on no crate of ours. Begin with `low.rt`.\n"
-                                "pub fn low(at: u8) -> &'static str {\n    let bar = b'\"'; // after it\n    \"after\"\n}\n",
-    "crates/mq_high/src/lib.rt": "//! High. From `mq_high/src/lib.rt`:\n//!\n//!     low(1)\n//!\n//! It stands on `mq_low`. Begin with `high.rt`.\n"
-                                 "pub fn call(byte: u8) -> u8\n    ensures done { IsDone result }\n{\n    low(1)\n}\n\nstruct Far;\n",
+    "docs/crates.svg": drawing.drawn(
+        {"low": ["mq_lemmas", "mq_low"], "high": ["mq_high"]},
+        {"mq_lemmas": [], "mq_low": ["mq_lemmas"], "mq_high": ["mq_low"]},
+    ),
+    "docs/ARCHITECTURE.md": (
+        "| **low** | |\n| `mq_lemmas` | words |\n| `mq_low` | words |\n| **high** | |\n| `mq_high`"
+        " | words |\n"
+    ),
+    "CONTRIBUTING.md": (
+        "| a call | `mq_high/src/lib.rt`: `call` | `done`: so it is (`IsDone`,"
+        " `specs/Done.antt`) |\n"
+    ),
+    "docs/PROOFS.md": (
+        "# Proved\n\n### mq_low\n\n- Low: `low`, `Far` of `mq_high`.\n\n### mq_high\n\n- What is"
+        " done (`specs/Done.antt`): `call` (`done`).\n\n## What is only tested\n\n`nowhere`\n"
+    ),
+    "crates/mq_low/src/lib.rt": (
+        "//! Low. From `mq_high/src/lib.rt`:\n//!\n//!     low(1)\n//!\n//! It stands on no crate"
+        " of ours. Begin with `low.rt`.\npub fn low(at: u8) -> &'static str {\n    let bar = b'\"';"
+        ' // after it\n    "after"\n}\n'
+    ),
+    "crates/mq_high/src/lib.rt": (
+        "//! High. From `mq_high/src/lib.rt`:\n//!\n//!     low(1)\n//!\n//! It stands on `mq_low`."
+        " Begin with `high.rt`.\npub fn call(byte: u8) -> u8\n    ensures done { IsDone result"
+        " }\n{\n    low(1)\n}\n\nstruct Far;\n"
+    ),
     "crates/mq_high/src/high.rt": "//! What is high.\n",
-    SUBCOMMANDS: '//! The commands.\nconst FAR: CommandOption = CommandOption {\n    name: "far",\n};\nconst OFF: CommandOption = CommandOption {\n'
-                 '    name: "far-off",\n};\npub const SUBCOMMANDS: [Subcommand; 2] = [\n    Subcommand {\n        name: "go",\n        options: &[FAR, OFF],\n'
-                 '    },\n    Subcommand {\n        name: "stay",\n        options: &[],\n    },\n];\n',
-    "man/mailquota.8": ".Sh SYNOPSIS\n.Nm\n.Ar command\n.Fl -help | Fl -version\n.Sh DESCRIPTION\n.Fl -help\n.Fl -version\n.It Cm go\n.It Cm stay\n"
-                       ".Sh DIAGNOSTICS\n.It Li too far , over day D used N\n.It Li no day; copy ..\n",
-    "crates/mq_command/src/fault.rt": '//! Faults.\n#[error("too far")]\n#[error("over day {0} used {1}")]\n#[error("no day; copy one")]\n#[error("{0}")]\n#[error("no port")]\n',
-    "man/mailquota-go.8": ".Sh NAME\n.Nm mailquota-go\n.Sh SYNOPSIS\n.Nm mailquota\n.Cm go\n.Op Fl -far\n.Nm mailquota\n.Cm go\n.Op Fl -far-off\n"
-                          ".Nm mailquota\n.Cm stay\n.Sh DESCRIPTION\n.It Fl -far\nfar\n.It Fl -far-off\nfarther\n",
+    SUBCOMMANDS: (
+        '//! The commands.\nconst FAR: CommandOption = CommandOption {\n    name: "far",\n};\nconst'
+        ' OFF: CommandOption = CommandOption {\n    name: "far-off",\n};\npub const SUBCOMMANDS:'
+        ' [Subcommand; 2] = [\n    Subcommand {\n        name: "go",\n        options: &[FAR,'
+        ' OFF],\n    },\n    Subcommand {\n        name: "stay",\n        options: &[],\n   '
+        " },\n];\n"
+    ),
+    "man/mailquota.8": (
+        ".Sh SYNOPSIS\n.Nm\n.Ar command\n.Fl -help | Fl -version\n.Sh DESCRIPTION\n.Fl -help\n.Fl"
+        " -version\n.It Cm go\n.It Cm stay\n.Sh DIAGNOSTICS\n.It Li too far , over day D used"
+        " N\n.It Li no day; copy ..\n"
+    ),
+    "crates/mq_command/src/fault.rt": (
+        '//! Faults.\n#[error("too far")]\n#[error("over day {0} used {1}")]\n#[error("no day; copy'
+        ' one")]\n#[error("{0}")]\n#[error("no port")]\n'
+    ),
+    "man/mailquota-go.8": (
+        ".Sh NAME\n.Nm mailquota-go\n.Sh SYNOPSIS\n.Nm mailquota\n.Cm go\n.Op Fl -far\n.Nm"
+        " mailquota\n.Cm go\n.Op Fl -far-off\n.Nm mailquota\n.Cm stay\n.Sh DESCRIPTION\n.It Fl"
+        " -far\nfar\n.It Fl -far-off\nfarther\n"
+    ),
     "crates/mq_high/specs/Done.antt": "-- done\nIsDone n = n ≡ 1\n",
-    "crates/mq_lemmas/src/lib.rt": "//! Lemmas. From `mq_lemmas/proofs/Both.antt`:\n//!\n//!     both true = refl\n//!\n//! It stands on no crate of ours. Begin with that.\n",
-    "crates/mq_lemmas/proofs/Both.antt": "pub both : (b : Bool) → b ≡ b\nboth true = refl\nboth false = refl\n",
+    "crates/mq_lemmas/src/lib.rt": (
+        "//! Lemmas. From `mq_lemmas/proofs/Both.antt`:\n//!\n//!     both true = refl\n//!\n//! It"
+        " stands on no crate of ours. Begin with that.\n"
+    ),
+    "crates/mq_lemmas/proofs/Both.antt": (
+        "pub both : (b : Bool) → b ≡ b\nboth true = refl\nboth false = refl\n"
+    ),
     # (the same words of other things, and answers to the goals of two functions)
-    "crates/mq_low/proofs/Sound.antt": "use Rattle.mq_low.specs.Low.{Sound}\n\nabbrev Far : Type 0\nFar = Sound\n\nsound : Sound 1\nsound = refl\n\n"
-                                       "far : (x : Far) → x ≡ x\nfar x = refl\n",
-    "crates/mq_high/proofs/Sound.antt": "use Rattle.mq_high.specs.Done.{Sound}\n\nabbrev Far : Type 0\nFar = Sound\n\nsound : Sound 1\nsound = refl\n\n"
-                                        "module _ (n : ℕ) where\n  far : (x : Far) → x ≡ x\n  far x = refl\n",
-    "crates/mq_high/proofs/call/Answers.antt": "use Rattle.mq_high.proofs.call.Goals as goal\n\nreturns : goal.returns\nreturns c = refl\n",
-    "crates/mq_low/proofs/low/Answers.antt": "use Rattle.mq_low.proofs.low.Goals as goal\n\nreturns : goal.returns\nreturns c = refl\n",
+    "crates/mq_low/proofs/Sound.antt": (
+        "use Rattle.mq_low.specs.Low.{Sound}\n\nabbrev Far : Type 0\nFar = Sound\n\nsound : Sound"
+        " 1\nsound = refl\n\nfar : (x : Far) → x ≡ x\nfar x = refl\n"
+    ),
+    "crates/mq_high/proofs/Sound.antt": (
+        "use Rattle.mq_high.specs.Done.{Sound}\n\nabbrev Far : Type 0\nFar = Sound\n\nsound : Sound"
+        " 1\nsound = refl\n\nmodule _ (n : ℕ) where\n  far : (x : Far) → x ≡ x\n  far x = refl\n"
+    ),
+    "crates/mq_high/proofs/call/Answers.antt": (
+        "use Rattle.mq_high.proofs.call.Goals as goal\n\nreturns : goal.returns\nreturns c = refl\n"
+    ),
+    "crates/mq_low/proofs/low/Answers.antt": (
+        "use Rattle.mq_low.proofs.low.Goals as goal\n\nreturns : goal.returns\nreturns c = refl\n"
+    ),
 }
 WRONG = [
     ("crates/mq_low/src/lib.rt", "//!     low(1)", "//!     low(2)", pages),
@@ -409,8 +627,20 @@ WRONG = [
     ("docs/crates.svg", ">low<", ">high<", drawn),
     ("docs/ARCHITECTURE.md", "| `mq_low` | words |\n", "", listed, drawn),
     ("docs/ARCHITECTURE.md", "| `mq_low` |", "| `mq_lower` |", listed, drawn),
-    ("docs/ARCHITECTURE.md", "| `mq_high` | words |", "| `mq_low` | words |\n| `mq_high` | words |", listed, drawn),
-    ("docs/ARCHITECTURE.md", "| **low** | |\n| `mq_lemmas` | words |\n| `mq_low` | words |\n| **high** | |\n| `mq_high`", "| **high** | |\n| `mq_high` | words |\n| **low** | |\n| `mq_lemmas` | words |\n| `mq_low`", layered, drawn),
+    (
+        "docs/ARCHITECTURE.md",
+        "| `mq_high` | words |",
+        "| `mq_low` | words |\n| `mq_high` | words |",
+        listed,
+        drawn,
+    ),
+    (
+        "docs/ARCHITECTURE.md",
+        "| **low** | |\n| `mq_lemmas` | words |\n| `mq_low` | words |\n| **high** | |\n| `mq_high`",
+        "| **high** | |\n| `mq_high` | words |\n| **low** | |\n| `mq_lemmas` | words |\n| `mq_low`",
+        layered,
+        drawn,
+    ),
     ("CONTRIBUTING.md", "`call`", "`calls`", sent_to),
     ("CONTRIBUTING.md", "`done`", "`well`", sent_to),
     ("CONTRIBUTING.md", "specs/Done", "specs/Gone", sent_to),
@@ -424,7 +654,12 @@ WRONG = [
     ("man/mailquota-go.8", ".Op Fl -far\n", ".Op Fl -far\n.Op Fl -near\n", manual),
     ("man/mailquota-go.8", ".Cm stay", ".Cm leave", manual),
     ("man/mailquota-go.8", ".It Fl -far\n", "", manual),
-    ("man/mailquota.8", ".Fl -help | Fl -version", ".Fl -help | Fl -version\n.Nm\n.Cm stay", manual),
+    (
+        "man/mailquota.8",
+        ".Fl -help | Fl -version",
+        ".Fl -help | Fl -version\n.Nm\n.Cm stay",
+        manual,
+    ),
     ("man/mailquota.8", ".It Cm stay\n", "", manual),
     ("man/mailquota.8", ".It Cm go", "word " * 7_000 + "\n.It Cm go", manual),
     (SUBCOMMANDS, 'name: "far-off"', 'name: "farther"', manual),
@@ -441,16 +676,41 @@ WRONG = [
     ("crates/mq_low/src/lib.rt", "pub fn low(at: u8)", "pub fn low(at: u64)", names),
     ("crates/mq_high/specs/Done.antt", "IsDone n = n", "IsDone txn at login = txn", names),
     ("crates/mq_high/specs/Done.antt", "IsDone n = n", "IsDone seq' = seq'", names),
-    ("crates/mq_high/src/lib.rt", "    low(1)\n}", "    low(1);\n    low(CloseEnd::Drop)\n}", names),
-    ("crates/mq_high/src/lib.rt", "    low(1)\n}", "    low(1);\n    low(Standing::Login { name })\n}", names),
+    (
+        "crates/mq_high/src/lib.rt",
+        "    low(1)\n}",
+        "    low(1);\n    low(CloseEnd::Drop)\n}",
+        names,
+    ),
+    (
+        "crates/mq_high/src/lib.rt",
+        "    low(1)\n}",
+        "    low(1);\n    low(Standing::Login { name })\n}",
+        names,
+    ),
     ("crates/mq_high/specs/Done.antt", "n ≡ 1", "n.ceilings ≡ 1", names),
     ("crates/mq_high/src/lib.rt", "pub fn call(", "use crate::faults;\npub fn call(", names),
     ("crates/mq_high/specs/Done.antt", "IsDone n", "use Low.{Done as ADone}\nIsDone n", names),
     ("crates/mq_lemmas/src/lib.rt", "both true", "both so", pages),
-    ("crates/mq_low/proofs/Sound.antt", "far : ", "both : (b : Bool) → b ≡ b\nboth true = refl\nboth false =\n    refl\n\nfar : ", standing_twice),
+    (
+        "crates/mq_low/proofs/Sound.antt",
+        "far : ",
+        "both : (b : Bool) → b ≡ b\nboth true = refl\nboth false =\n    refl\n\nfar : ",
+        standing_twice,
+    ),
     ("crates/mq_low/proofs/Sound.antt", "mq_low.specs.Low", "mq_high.specs.Done", standing_twice),
-    ("crates/mq_low/proofs/Sound.antt", "far x = refl", "far x = refl\n\nmodule _ (n : ℕ) where\n  far : (x : Far) → x ≡ x\n  far x = refl", standing_twice),
-    ("crates/mq_low/proofs/low/Answers.antt", "mq_low.proofs.low", "mq_high.proofs.call", standing_twice),
+    (
+        "crates/mq_low/proofs/Sound.antt",
+        "far x = refl",
+        "far x = refl\n\nmodule _ (n : ℕ) where\n  far : (x : Far) → x ≡ x\n  far x = refl",
+        standing_twice,
+    ),
+    (
+        "crates/mq_low/proofs/low/Answers.antt",
+        "mq_low.proofs.low",
+        "mq_high.proofs.call",
+        standing_twice,
+    ),
 ]
 
 
@@ -465,12 +725,24 @@ def own_test():
                     it.write(text)
             found = {it.__name__ for it in CHECKS if any(wrong for _, wrong in it(tree))}
         wanted = {it.__name__ for it in checks}
-        yield f"{new!r} in {file}", [] if old in TREE[file] and found == wanted else [f"it is found by {sorted(found)}, and not by {sorted(wanted)}"]
+        yield f"{new!r} in {file}", (
+            []
+            if old in TREE[file] and found == wanted
+            else [f"it is found by {sorted(found)}, and not by {sorted(wanted)}"]
+        )
 
 
 def main():
-    parser = argparse.ArgumentParser(description=__doc__, formatter_class=argparse.RawDescriptionHelpFormatter)
-    parser.add_argument("tree", metavar="TREE", nargs="?", default=TOP, help="by default the one that this file is in")
+    parser = argparse.ArgumentParser(
+        description=__doc__, formatter_class=argparse.RawDescriptionHelpFormatter
+    )
+    parser.add_argument(
+        "tree",
+        metavar="TREE",
+        nargs="?",
+        default=TOP,
+        help="by default the one that this file is in",
+    )
     tree = parser.parse_args().tree
     passed = failed = 0
     for results in [own_test(), *(it(tree) for it in CHECKS)]:

@@ -1,4 +1,5 @@
-"""A file that a server left, opened and audited: the file's answer or `out of memory`, and nothing in it is changed."""
+"""A file that a server left, opened and audited: the file's answer or `out of memory`, and nothing
+in it is changed."""
 import contextlib
 import os
 import sqlite3
@@ -29,9 +30,17 @@ def run(refusals, checks):
     name = "a store taken apart and opened"
     sweep(refusals, checks, f"{name}, audit", audited(refusals, made, SOUND), is_example=True)
     sweep(refusals, checks, f"{name}, server", opened(refusals, made))
-    sweep(refusals, checks, f"{name}, server by a rule", opened(refusals, by_rule, **BY_RULE), every=9)
+    sweep(
+        refusals, checks, f"{name}, server by a rule", opened(refusals, by_rule, **BY_RULE), every=9
+    )
     # up to its end an audit with another answer allocates as the first one does
-    sweep(refusals, checks, f"{name}, audit by a rule", audited(refusals, by_rule, SOUND, **BY_RULE), every=9)
+    sweep(
+        refusals,
+        checks,
+        f"{name}, audit by a rule",
+        audited(refusals, by_rule, SOUND, **BY_RULE),
+        every=9,
+    )
     for what, source, more, why, is_example in [
         ("another offset", made, {"offset": 60}, "store has another zone", True),
         ("another default", made, {"default": 4}, "store has another default", True),
@@ -42,7 +51,14 @@ def run(refusals, checks):
     ]:
         one = audited(refusals, source, refused(why), **more)
         sweep(refusals, checks, f"{name}, audit, {what}", one, every=9, is_example=is_example)
-    sweep(refusals, checks, f"{name}, server --create", made_again(refusals, made), every=9, is_example=True)
+    sweep(
+        refusals,
+        checks,
+        f"{name}, server --create",
+        made_again(refusals, made),
+        every=9,
+        is_example=True,
+    )
 
 
 def refused(why):
@@ -70,7 +86,8 @@ def content_of(folder):
 
 
 def change(folder, source):
-    """What is wrong with the copied file now, if anything: its bytes are as they were, or at least its rows.
+    """What is wrong with the copied file now, if anything: its bytes are as they were, or at least
+    its rows.
 
     A file without a log gets one, and an empty one becomes a database without tables.
     """
@@ -86,28 +103,47 @@ def rows_of(folder, content):
         with open(f"{folder}/read-{name}", "wb") as file:
             file.write(part)
     with contextlib.closing(sqlite3.connect(f"{folder}/read-ledger")) as database:
-        tables = [name for (name,) in database.execute("SELECT name FROM sqlite_master WHERE type = 'table' ORDER BY name")]
+        tables = [
+            name
+            for (name,) in database.execute(
+                "SELECT name FROM sqlite_master WHERE type = 'table' ORDER BY name"
+            )
+        ]
         return [(table, database.execute(f"SELECT * FROM {table}").fetchall()) for table in tables]
 
 
 def audited(refusals, source, wanted, **more):
     """Runs of `audit` over copies of this file, which answers this with all memory."""
+
     def one(number, folder):
         copied(f"{source}/ledger", f"{folder}/ledger")
-        status, output, errors, told = refusals.run(folder, number, "audit", "--config", settings(refusals, folder, **more))
+        status, output, errors, told = refusals.run(
+            folder, number, "audit", "--config", settings(refusals, folder, **more)
+        )
         came = status, output, apart(errors)[1]
-        ending = RIGHT if came == wanted else OUT_OF_MEMORY if came == refused("out of memory") else "fault"
-        return Run(ending, told, f"{came}, {errors!r}" if ending == "fault" else change(folder, source))
+        ending = (
+            RIGHT
+            if came == wanted
+            else OUT_OF_MEMORY
+            if came == refused("out of memory")
+            else "fault"
+        )
+        return Run(
+            ending, told, f"{came}, {errors!r}" if ending == "fault" else change(folder, source)
+        )
+
     return one
 
 
 def opened(refusals, source, **zone):
     """Servers over copies of the file, asked for what is used, which writes no row."""
+
     def one(number, folder):
         copied(f"{source}/ledger", f"{folder}/ledger")
         came = served(refusals, folder, [usage()], number=number, **zone)
         ending = ending_of(came)
         return Run(ending or "fault", came.told, change(folder, source) if ending else str(came))
+
     return one
 
 
@@ -121,15 +157,24 @@ def ending_of(came):
         return RIGHT
     if came.replies == [RETRY_FRAME] and not came.log:
         return RETRY
-    return CUT if not came.replies and len(came.log) == 1 and came.log[0].startswith("[WARN ") else None
+    return (
+        CUT
+        if not came.replies and len(came.log) == 1 and came.log[0].startswith("[WARN ")
+        else None
+    )
 
 
 def made_again(refusals, source):
     """`--create` over copies of a file that has a ledger."""
+
     def one(number, folder):
         copied(f"{source}/ledger", f"{folder}/ledger")
         came = served(refusals, folder, [usage()], ["--create"], number)
-        good = came.replies is None and (came.status, came.text) == (1, "mailquota: store is not this ledger\n")
+        good = came.replies is None and (came.status, came.text) == (
+            1,
+            "mailquota: store is not this ledger\n",
+        )
         ending = OUT_OF_MEMORY if came.could_not_start() else RIGHT if good else "fault"
         return Run(ending, came.told, str(came) if ending == "fault" else change(folder, source))
+
     return one

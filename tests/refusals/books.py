@@ -26,21 +26,28 @@ def new_book():
 
 
 def untaken_of(came, requests):
-    """Which request wasn't taken, by the replies that came, of which all may not have come: a place, or None.
+    """Which request wasn't taken, by the replies that came, of which all may not have come: a
+    place, or None.
 
     Fails where these are no replies of a ledger that took all others.
     """
     untaken = came.index(wire.RETRY) if wire.RETRY in came else None
     wanted = replies(new_book(), requests, untaken)
-    assert came == wanted[:len(came)], f"replies {b''.join(came).hex()}, wanted {b''.join(wanted).hex()}"
+    assert (
+        came == wanted[: len(came)]
+    ), f"replies {b''.join(came).hex()}, wanted {b''.join(wanted).hex()}"
     return untaken
 
 
 def possible(came, requests):
-    """The ledgers that may lie under these replies: the request that got none may be taken or not."""
+    """The ledgers that may lie under these replies: the request that got none may be taken or
+    not."""
     untaken = untaken_of(came, requests)
     books = []
     for taken in {len(came), min(len(came) + 1, len(requests))}:
         books.append(new_book())
-        replies(books[-1], [request for place, request in enumerate(requests[:taken]) if place != untaken])
+        replies(
+            books[-1],
+            [request for place, request in enumerate(requests[:taken]) if place != untaken],
+        )
     return books

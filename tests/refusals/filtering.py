@@ -2,7 +2,17 @@
 import re
 import socket
 
-from cases.filters import AUTH, BEGIN, COMMIT, CONFIG, PROCEED, RCPT, REGISTRATION, RESET_LINE, answer
+from cases.filters import (
+    AUTH,
+    BEGIN,
+    COMMIT,
+    CONFIG,
+    PROCEED,
+    RCPT,
+    REGISTRATION,
+    RESET_LINE,
+    answer,
+)
 from cases.filters import SERVICE as REJECTED
 from ends import Server, apart, toml
 from sweeping import FAILED_TRY, OUT_OF_MEMORY, RIGHT, Run, sweep
@@ -18,7 +28,13 @@ FIRST_RUN = 1_000_000
 def run(refusals, checks):
     with Server(refusals) as server:
         up = Link(server.address, server)
-        sweep(refusals, checks, "one recipient through the filter", filtered(refusals, up, b"", 1, [(0, 1)]), is_example=True)
+        sweep(
+            refusals,
+            checks,
+            "one recipient through the filter",
+            filtered(refusals, up, b"", 1, [(0, 1)]),
+            is_example=True,
+        )
         committed = filtered(refusals, up, COMMIT + RESET_LINE, 2, [(1, 0)])
         sweep(refusals, checks, "commit settles, reset does nothing", committed, is_example=True)
     # the port is taken, and nobody listens
@@ -43,24 +59,41 @@ class Link:
 
 
 def filtered(refusals, link, more, exchanges, counted):
-    """Runs of the filter over one recipient and these lines, each with a run and a login of its own.
+    """Runs of the filter over one recipient and these lines, each with a run and a login of its
+    own.
 
-    With nothing refused there are so many exchanges, and so much is counted after it, where there is a server.
+    With nothing refused there are so many exchanges, and so much is counted after it, where there
+    is a server.
     """
+
     def one(number, folder):
         unused = refusals.unused()
         login = b"a%07d" % unused
-        settings = refusals.new_file(toml({"host": "mx1", "server": link.address, "tries": 3, "timeout": 2000}), folder)
+        settings = refusals.new_file(
+            toml({"host": "mx1", "server": link.address, "tries": 3, "timeout": 2000}), folder
+        )
         text = CONFIG + AUTH.replace(b"|alice", b"|" + login) + BEGIN + RCPT + more
         status, output, errors, told = refusals.run(
-            folder, number, "filter", "--config", settings, "--run", str(FIRST_RUN + unused), text=text
+            folder,
+            number,
+            "filter",
+            "--config",
+            settings,
+            "--run",
+            str(FIRST_RUN + unused),
+            text=text,
         )
         log, last = apart(errors)
         ending, fault = ending_of(status, output, last, told, exchanges, link.server is not None)
         fault = fault or wrong_log(log)
         if not fault and link.server:
             fault = wrong_count(link.counted(login), ending, output, more, counted)
-        return Run(ending, told, fault and f"{fault}; status {status}, {output[-80:]!r}, {errors!r}, {told}")
+        return Run(
+            ending,
+            told,
+            fault and f"{fault}; status {status}, {output[-80:]!r}, {errors!r}, {told}",
+        )
+
     return one
 
 
@@ -87,7 +120,8 @@ def wrong_log(log):
 
 
 def wrong_count(came, ending, output, more, counted):
-    """What is wrong with what the server counts, if anything: what went through is counted, and nothing twice."""
+    """What is wrong with what the server counts, if anything: what went through is counted, and
+    nothing twice."""
     if ending in (RIGHT, FAILED_TRY):
         return None if [came] == counted else f"counted {came}"
     proceeded = output.count(answer(PROCEED))

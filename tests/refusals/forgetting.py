@@ -1,4 +1,5 @@
-"""`forget`, `limits` and `init`: their answer or `out of memory`; the old file keeps each row, and the new one is right, refused, or isn't there."""
+"""`forget`, `limits` and `init`: their answer or `out of memory`; the old file keeps each row, and
+the new one is right, refused, or isn't there."""
 import os
 import subprocess
 
@@ -9,10 +10,14 @@ from serving import served, settings
 from sweeping import OUT_OF_MEMORY, RIGHT, SECONDS, Run, sweep
 from wire import limit, reserve, retire, settle
 
-# of the day before, which goes, and two limits, of which the second is refused; their replies are given up by the retire
+# of the day before, which goes, and two limits, of which the second is refused; their replies are
+# given up by the retire
 EARLIER = [
-    reserve(11, txn=2, login=b"v", count=2, run=2), settle(12, txn=2, login=b"v", run=2),
-    limit(13, 1, 2, login=b"v", run=2), limit(14, 1, 0, login=b"v", run=2), retire(1, run=3),
+    reserve(11, txn=2, login=b"v", count=2, run=2),
+    settle(12, txn=2, login=b"v", run=2),
+    limit(13, 1, 2, login=b"v", run=2),
+    limit(14, 1, 0, login=b"v", run=2),
+    retire(1, run=3),
 ]
 LATER = [reserve(1, txn=3, run=4, at=172_800), settle(2, txn=3, run=4, at=172_800)]
 
@@ -22,8 +27,20 @@ def run(refusals, checks):
     for folder, frames in ((made, TWO_AND_A_SETTLE), (retired, EARLIER + LATER)):
         os.mkdir(folder)
         served(refusals, folder, frames, ["--create"])
-    sweep(refusals, checks, "reserve twice, settle once, forget", forgotten(refusals, made, 1, b"kept answers=4 of 4, limits=0\n"), every=5)
-    sweep(refusals, checks, "limits of a retired run, forget", forgotten(refusals, retired, 2, b"kept answers=4 of 7, limits=1\n"), every=9)
+    sweep(
+        refusals,
+        checks,
+        "reserve twice, settle once, forget",
+        forgotten(refusals, made, 1, b"kept answers=4 of 4, limits=0\n"),
+        every=5,
+    )
+    sweep(
+        refusals,
+        checks,
+        "limits of a retired run, forget",
+        forgotten(refusals, retired, 2, b"kept answers=4 of 7, limits=1\n"),
+        every=9,
+    )
     sweep(refusals, checks, "limits", limits(refusals, retired), every=9)
     sweep(refusals, checks, "init", inits(refusals), every=9)
 
@@ -39,11 +56,14 @@ def plainly(refusals, *words):
 
 
 def ending_of(came, wanted):
-    return RIGHT if came == wanted else OUT_OF_MEMORY if came == refused("out of memory") else "fault"
+    return (
+        RIGHT if came == wanted else OUT_OF_MEMORY if came == refused("out of memory") else "fault"
+    )
 
 
 def forgotten(refusals, source, day, line):
     """Runs of `forget` over copies of this file, which prints this with all memory."""
+
     def forget(folder, into):
         return words_of(refusals, folder, "forget", "--before", str(day), "--into", into)
 
@@ -61,8 +81,13 @@ def forgotten(refusals, source, day, line):
         log, said = apart(errors)
         came = status, output, said
         ending = ending_of(came, (0, line, ""))
-        wrong = f"{came}, {log}" if ending == "fault" else change(folder, source) or wrong_new_file(refusals, folder, into, ending, rows, log)
+        wrong = (
+            f"{came}, {log}"
+            if ending == "fault"
+            else change(folder, source) or wrong_new_file(refusals, folder, into, ending, rows, log)
+        )
         return Run(ending, told, wrong)
+
     return one
 
 
@@ -78,12 +103,16 @@ def wrong_new_file(refusals, folder, into, ending, rows, log):
     """What is wrong with the new file, if anything."""
     if not os.path.exists(into):
         return None if ending == OUT_OF_MEMORY else "there is no new file"
-    if ending == OUT_OF_MEMORY and not any(line.endswith(f"remove {into} and {into}-wal\n") for line in log):
+    if ending == OUT_OF_MEMORY and not any(
+        line.endswith(f"remove {into} and {into}-wal\n") for line in log
+    ):
         return f"the log doesn't say what to remove: {log}"
     put_in_place(folder)
     came = plainly(refusals, *words_of(refusals, folder, "audit"))
     if came[0] == 0:
-        return None if rows_of(folder, content_of(folder)) == rows else "the new file has other rows"
+        return (
+            None if rows_of(folder, content_of(folder)) == rows else "the new file has other rows"
+        )
     opened = came in (refused("store can't be opened"), refused("store is not this ledger"))
     return None if opened and ending == OUT_OF_MEMORY else f"then the audit {came}"
 
@@ -91,24 +120,48 @@ def wrong_new_file(refusals, folder, into, ending, rows, log):
 def limits(refusals, source):
     def one(number, folder):
         copied(f"{source}/ledger", f"{folder}/ledger")
-        status, output, errors, told = refusals.run(folder, number, *words_of(refusals, folder, "limits"))
+        status, output, errors, told = refusals.run(
+            folder, number, *words_of(refusals, folder, "limits")
+        )
         came = status, output, apart(errors)[1]
         ending = ending_of(came, (0, b"1 2 v\n", ""))
-        return Run(ending, told, f"{came}, {errors!r}" if ending == "fault" else change(folder, source))
+        return Run(
+            ending, told, f"{came}, {errors!r}" if ending == "fault" else change(folder, source)
+        )
+
     return one
 
 
 def inits(refusals):
-    """Runs of `init`; after one that ran out of memory it can be given again, unless the ledger was made all the same."""
+    """Runs of `init`; after one that ran out of memory it can be given again, unless the ledger was
+    made all the same."""
+
     def one(number, folder):
         words = words_of(refusals, folder, "init")
         status, output, errors, told = refusals.run(folder, number, *words)
-        came, right = (status, output, apart(errors)[1]), (0, f"made {folder}/ledger\n".encode(), "")
+        came, right = (status, output, apart(errors)[1]), (
+            0,
+            f"made {folder}/ledger\n".encode(),
+            "",
+        )
         ending = ending_of(came, right)
         if ending == "fault":
             return Run(ending, told, f"{came}, {errors!r}")
         again = plainly(refusals, *words)
         audit = plainly(refusals, *words_of(refusals, folder, "audit"))
-        good = again == refused("store is not this ledger") or ending == OUT_OF_MEMORY and again == right
-        return Run(ending, told, None if good and audit == (0, b"sound days=0 transactions=0\n", "") else f"then {again} and {audit}")
+        good = (
+            again == refused("store is not this ledger")
+            or ending == OUT_OF_MEMORY
+            and again == right
+        )
+        return Run(
+            ending,
+            told,
+            (
+                None
+                if good and audit == (0, b"sound days=0 transactions=0\n", "")
+                else f"then {again} and {audit}"
+            ),
+        )
+
     return one

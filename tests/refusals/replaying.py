@@ -12,7 +12,9 @@ BY_RULE = ["--rule", RULE]
 
 def run(refusals, checks):
     for what, requests, zone in [
-        ("one reserve", ONE, []), ("reserve twice, settle once", TWO_AND_A_SETTLE, []), ("one reserve by a rule", ONE, BY_RULE)
+        ("one reserve", ONE, []),
+        ("reserve twice, settle once", TWO_AND_A_SETTLE, []),
+        ("one reserve by a rule", ONE, BY_RULE),
     ]:
         for words in ([], ["--sql"]):
             one = replayed(refusals, requests, [*zone, *words])
@@ -22,9 +24,14 @@ def run(refusals, checks):
 def replayed(refusals, requests, words):
     def one(number, folder):
         text = b"".join(request.hex().encode() + b"\n" for request in requests)
-        status, output, errors, told = refusals.run(folder, number, "replay", "--default", "3", *words, text=text)
+        status, output, errors, told = refusals.run(
+            folder, number, "replay", "--default", "3", *words, text=text
+        )
         ending = ending_of(requests, status, output, errors)
-        return Run(ending or "fault", told, None if ending else f"status {status}, {output!r}, {errors!r}")
+        return Run(
+            ending or "fault", told, None if ending else f"status {status}, {output!r}, {errors!r}"
+        )
+
     return one
 
 
@@ -41,6 +48,10 @@ def ending_of(requests, status, output, errors):
     if (status, errors) == (0, "") and len(came) == len(requests):
         return RETRY if retried else RIGHT
     # one allocation was refused: where a request asked to be sent again, nothing else may fail
-    if (status, errors) == (1, "mailquota: connection 1: out of memory\n") and len(came) < len(requests) and not retried:
+    if (
+        (status, errors) == (1, "mailquota: connection 1: out of memory\n")
+        and len(came) < len(requests)
+        and not retried
+    ):
         return OUT_OF_MEMORY
     return None

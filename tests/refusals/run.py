@@ -24,13 +24,27 @@ FOLDER = "/dev/shm" if os.access("/dev/shm", os.W_OK) else None
 def main():
     parser = argparse.ArgumentParser(description=__doc__)
     parser.add_argument("program", metavar="PROGRAM", type=os.path.abspath)
-    parser.add_argument("--whole", action="store_true", help="refuse each allocation where there are thousands, too")
-    parser.add_argument("--examples", action="store_true", help="refuse each of the worked examples, and nothing else")
-    parser.add_argument("words", metavar="WORD", nargs="*", default=[], help="only the groups of cases whose names have one of these words")
+    parser.add_argument(
+        "--whole", action="store_true", help="refuse each allocation where there are thousands, too"
+    )
+    parser.add_argument(
+        "--examples",
+        action="store_true",
+        help="refuse each of the worked examples, and nothing else",
+    )
+    parser.add_argument(
+        "words",
+        metavar="WORD",
+        nargs="*",
+        default=[],
+        help="only the groups of cases whose names have one of these words",
+    )
     asked, checks = parser.parse_intermixed_args(), Checks()
     with tempfile.TemporaryDirectory(dir=FOLDER) as folder:
         library = f"{folder}/refuse.so"
-        subprocess.run(["cc", "-O2", "-shared", "-fPIC", "-o", library, f"{HERE}/refuse.c"], check=True)
+        subprocess.run(
+            ["cc", "-O2", "-shared", "-fPIC", "-o", library, f"{HERE}/refuse.c"], check=True
+        )
         refusals = Refusals(asked.program, library, folder, asked.whole, asked.examples)
         for group in GROUPS:
             if not asked.words or any(word in group for word in asked.words):

@@ -11,7 +11,8 @@ NOTHING = Told(0, 0, 0)
 
 
 class Served:
-    """What came of a server: its replies, None where it didn't take the connection, its status, its log and its text."""
+    """What came of a server: its replies, None where it didn't take the connection, its status, its
+    log and its text."""
 
     def __init__(self, replies, status, errors, told):
         self.replies = replies
@@ -25,7 +26,8 @@ class Served:
         return f"replies {replies}, status {self.status}, {self.text!r}, log {self.log!r}"
 
     def could_not_start(self):
-        """Whether it wanted memory before it took the connection; then it may have begun to listen."""
+        """Whether it wanted memory before it took the connection; then it may have begun to
+        listen."""
         return not self.replies and (self.status, self.text) == (1, "mailquota: out of memory\n")
 
     def went_on(self):
@@ -35,13 +37,19 @@ class Served:
 
 def settings(refusals, folder, port=1, **more):
     """The path of settings with the ledger in this folder."""
-    whole = {"listen": f"127.0.0.1:{port}", "store": f"{folder}/ledger", "default": 3, "offset": 0, **more}
+    whole = {
+        "listen": f"127.0.0.1:{port}",
+        "store": f"{folder}/ledger",
+        "default": 3,
+        "offset": 0,
+        **more,
+    }
     return refusals.new_file(toml(whole), folder)
 
 
 def served(refusals, folder, requests, words=(), number=None, **more):
-    """A server over the ledger in this folder that is asked on one connection; once more where another program took its port. `more` are
-    settings."""
+    """A server over the ledger in this folder that is asked on one connection; once more where
+    another program took its port. `more` are settings."""
     for _ in range(3):
         came = served_at(refusals, refusals.port(), folder, requests, words, number, more)
         if came.text != "mailquota: listen failed\n":
@@ -50,11 +58,22 @@ def served(refusals, folder, requests, words=(), number=None, **more):
 
 
 def served_at(refusals, port, folder, requests, words, number, more):
-    words = ["server", "--config", settings(refusals, folder, port, **more), "--connections", "1", *words]
+    words = [
+        "server",
+        "--config",
+        settings(refusals, folder, port, **more),
+        "--connections",
+        "1",
+        *words,
+    ]
     told = f"{folder}/told"
     environment = None if number is None else refusals.environment(number, told)
     process = subprocess.Popen(
-        [refusals.program, *words], stdin=subprocess.DEVNULL, stdout=subprocess.DEVNULL, stderr=subprocess.PIPE, env=environment
+        [refusals.program, *words],
+        stdin=subprocess.DEVNULL,
+        stdout=subprocess.DEVNULL,
+        stderr=subprocess.PIPE,
+        env=environment,
     )
     try:
         replies = asked(process, port, b"".join(requests))
@@ -63,7 +82,9 @@ def served_at(refusals, port, folder, requests, words, number, more):
         process.kill()
         process.communicate()
         raise
-    return Served(replies, process.returncode, errors, NOTHING if number is None else read_told(told))
+    return Served(
+        replies, process.returncode, errors, NOTHING if number is None else read_told(told)
+    )
 
 
 def asked(process, port, sent):

@@ -1,4 +1,5 @@
-"""The server over a file that it makes: what was answered is stored, whichever allocation is refused."""
+"""The server over a file that it makes: what was answered is stored, whichever allocation is
+refused."""
 import subprocess
 
 import books
@@ -13,14 +14,25 @@ BY_RULE = {"offset": None, "rule": RULE}
 
 def run(refusals, checks):
     sweep(refusals, checks, "reserve twice, settle once, over a new file", stored(refusals))
-    sweep(refusals, checks, "reserve twice, settle once, over a new file by a rule", stored(refusals, **BY_RULE), every=5)
+    sweep(
+        refusals,
+        checks,
+        "reserve twice, settle once, over a new file by a rule",
+        stored(refusals, **BY_RULE),
+        every=5,
+    )
 
 
 def stored(refusals, **zone):
     def one(number, folder):
         first = served(refusals, folder, TWO_AND_A_SETTLE, ["--create"], number, **zone)
         ending = ending_of(first)
-        return Run(ending or "fault", first.told, again(refusals, folder, first, zone) if ending else str(first))
+        return Run(
+            ending or "fault",
+            first.told,
+            again(refusals, folder, first, zone) if ending else str(first),
+        )
+
     return one
 
 
@@ -33,19 +45,28 @@ def ending_of(first):
     retried = books.untaken_of(first.replies, TWO_AND_A_SETTLE) is not None
     if len(first.replies) == len(TWO_AND_A_SETTLE) and not first.log:
         return RETRY if retried else RIGHT
-    # one allocation was refused: either a request asks to be sent again or the connection ends early
-    return CUT if len(first.log) == 1 and first.log[0].startswith("[WARN ") and not retried else None
+    # one allocation was refused: either a request asks to be sent again or the connection ends
+    # early
+    return (
+        CUT if len(first.log) == 1 and first.log[0].startswith("[WARN ") and not retried else None
+    )
 
 
 def again(refusals, folder, first, zone):
     """What is wrong with the file for a server and an audit that get all memory, if anything."""
     second = served(refusals, folder, TWO_AND_A_SETTLE, **zone)
-    if first.replies is None and second.text in ("mailquota: store can't be opened\n", "mailquota: store is not this ledger\n"):
+    if first.replies is None and second.text in (
+        "mailquota: store can't be opened\n",
+        "mailquota: store is not this ledger\n",
+    ):
         # the first server ended before it had made the tables, and another one can make them
         second = served(refusals, folder, TWO_AND_A_SETTLE, ["--create"], **zone)
     if not second.went_on():
         return f"then {second}"
-    wanted = [books.replies(book, TWO_AND_A_SETTLE) for book in books.possible(first.replies or [], TWO_AND_A_SETTLE)]
+    wanted = [
+        books.replies(book, TWO_AND_A_SETTLE)
+        for book in books.possible(first.replies or [], TWO_AND_A_SETTLE)
+    ]
     if second.replies not in wanted:
         return f"behind {first} then {second}"
     if first.replies is None:

@@ -14,7 +14,8 @@ from ends import free_port
 JOBS = int(os.environ.get("JOBS", "3"))
 # how long one run may take
 SECONDS = 30
-# where there are more allocations than MANY, each of the first and the last ones and some between are refused
+# where there are more allocations than MANY, each of the first and the last ones and some between
+# are refused
 MANY = 3_000
 FIRST = 1_500
 LAST = 200
@@ -31,7 +32,8 @@ Run = collections.namedtuple("Run", "ending told fault")
 
 
 class Refusals:
-    """The program, the library that refuses, and a folder; numbers and ports that no two runs share."""
+    """The program, the library that refuses, and a folder; numbers and ports that no two runs
+    share."""
 
     def __init__(self, program, library, folder, whole, only_examples):
         self.program = program
@@ -50,7 +52,8 @@ class Refusals:
             return self.made
 
     def port(self):
-        """A free port that no run had lately, so that runs at the same time don't take each other's."""
+        """A free port that no run had lately, so that runs at the same time don't take each
+        other's."""
         with self.guard:
             while (port := free_port()) in self.ports:
                 pass
@@ -72,45 +75,71 @@ class Refusals:
         """Runs a subcommand to its end; gives its status, output and errors, and what it told."""
         told = f"{folder}/told"
         ended = subprocess.run(
-            [self.program, *words], input=text, capture_output=True, timeout=SECONDS, env=self.environment(number, told)
+            [self.program, *words],
+            input=text,
+            capture_output=True,
+            timeout=SECONDS,
+            env=self.environment(number, told),
         )
-        return ended.returncode, ended.stdout, ended.stderr.decode(errors="replace"), read_told(told)
+        return (
+            ended.returncode,
+            ended.stdout,
+            ended.stderr.decode(errors="replace"),
+            read_told(told),
+        )
 
 
 def read_told(path):
     with open(path, "rb") as file:
         content = file.read()
-    return Told(*(int.from_bytes(content[place:place + 8], "little") for place in (0, 8, 16)))
+    return Told(*(int.from_bytes(content[place : place + 8], "little") for place in (0, 8, 16)))
 
 
 def chosen(asked, whole, every):
-    """The allocations that are refused: each, or where there are many each of the first and the last ones and some between."""
+    """The allocations that are refused: each, or where there are many each of the first and the
+    last ones and some between."""
     if whole or every == 1 and asked <= MANY:
         return list(range(1, asked + 1)), "each refused once"
     first = FIRST if every == 1 else 0
     step = every if every > 1 else -(-(asked - FIRST) // FIRST)
-    numbers = {*range(1, first + 1), *range(first + 1, asked + 1, step), *range(asked - LAST + 1, asked + 1)}
+    numbers = {
+        *range(1, first + 1),
+        *range(first + 1, asked + 1, step),
+        *range(asked - LAST + 1, asked + 1),
+    }
     begin = f"the first {first}, " if first else ""
     return sorted(numbers), f"{begin}every {step}. and the last {LAST} refused once"
 
 
 def attempted(refusals, one, number):
-    """A run in a folder of its own, whatever it does; a fault is told with the number of the allocation."""
+    """A run in a folder of its own, whatever it does; a fault is told with the number of the
+    allocation."""
     try:
         with tempfile.TemporaryDirectory(dir=refusals.folder) as folder:
             run = one(number, folder)
-    except (OSError, subprocess.SubprocessError, sqlite3.Error, ValueError, IndexError, AssertionError) as error:
+    except (
+        OSError,
+        subprocess.SubprocessError,
+        sqlite3.Error,
+        ValueError,
+        IndexError,
+        AssertionError,
+    ) as error:
         return Run("fault", Told(0, 0, 0), f"allocation {number}: {error!r}")
     return run._replace(fault=f"allocation {number}: {run.fault}") if run.fault else run
 
 
 def sweep(refusals, checks, what, one, every=1, is_example=False):
-    """Refuses each allocation of a case in turn: `one` makes a run in which the allocation of this number is refused,
-    with its files in a folder. The worked examples may be wanted alone."""
+    """Refuses each allocation of a case in turn: `one` makes a run in which the allocation of this
+    number is refused, with its files in a folder. The worked examples may be wanted alone."""
     if refusals.only_examples and not is_example:
         return
     whole = attempted(refusals, one, 0)
-    checks.equal(f"{what}: with nothing refused", (whole.ending, whole.fault, whole.told.refused), (RIGHT, None, 0))
+    checks.equal(
+        f"{what}: with nothing refused",
+        (whole.ending, whole.fault, whole.told.refused),
+        (RIGHT, None, 0),
+    )
     asked = whole.told.asked
     checks.holds(f"{what}: allocations", asked > 10, "more than 10", asked)
     numbers, said = chosen(asked, refusals.whole, every)
@@ -120,7 +149,10 @@ def sweep(refusals, checks, what, one, every=1, is_example=False):
     tell(checks, what, runs)
     endings = collections.Counter(run.ending for run in runs)
     shown = ", ".join(f"{count} {ending}" for ending, count in endings.most_common())
-    print(f"{what}: {asked} allocations, {said}: {shown} ({time.monotonic() - began:.0f} s)", flush=True)
+    print(
+        f"{what}: {asked} allocations, {said}: {shown} ({time.monotonic() - began:.0f} s)",
+        flush=True,
+    )
 
 
 def tell(checks, what, runs):
@@ -128,9 +160,12 @@ def tell(checks, what, runs):
     for fault in faults[:10]:
         print(f"    {fault[:400]}", flush=True)
     checks.equal(f"{what}: runs that ended otherwise", len(faults), 0)
-    # a run whose allocation wasn't reached shows nothing; a server allocates a little less where a peer's bytes come in fewer pieces
+    # a run whose allocation wasn't reached shows nothing; a server allocates a little less where a
+    # peer's bytes come in fewer pieces
     missed = sum(1 for run in runs if not run.fault and run.told.refused != 1)
     good = missed <= len(runs) // 100
-    checks.holds(f"{what}: allocations that weren't reached", good, "at most one of a hundred", missed)
+    checks.holds(
+        f"{what}: allocations that weren't reached", good, "at most one of a hundred", missed
+    )
     ended = any(run.ending == OUT_OF_MEMORY for run in runs)
     checks.equal(f"{what}: some run ended for want of memory", ended, True)

@@ -10,7 +10,17 @@ import threading
 import time
 
 import storms
-from host import PROGRAM, ROOT, command, log_of, session, session_at, start_server, start_smtpd, stop
+from host import (
+    PROGRAM,
+    ROOT,
+    command,
+    log_of,
+    session,
+    session_at,
+    start_server,
+    start_smtpd,
+    stop,
+)
 from switch import call, wait_until
 
 ROWS = []
@@ -38,7 +48,8 @@ def usage(login):
 
 
 def note_usage(what, login, wanted):
-    """What is reported of a login, once it is this: smtpd reports a message's end to the filter after its answer to the client."""
+    """What is reported of a login, once it is this: smtpd reports a message's end to the filter
+    after its answer to the client."""
     for _ in range(100):
         if usage(login).startswith(wanted):
             break
@@ -89,7 +100,18 @@ def a_commit_keeps():
 
 
 def a_limit():
-    words = ["--server", "127.0.0.1:7025", "--host", "admin", "--login", "u04", "--from", day(), "--cap", "1"]
+    words = [
+        "--server",
+        "127.0.0.1:7025",
+        "--host",
+        "admin",
+        "--login",
+        "u04",
+        "--from",
+        day(),
+        "--cap",
+        "1",
+    ]
     text, _ = command("limit", *words)
     note("limit of u04 set to 1", text, "set")
     smtp = session(1, "u04")
@@ -103,7 +125,11 @@ def no_login():
     smtp = session(1)
     smtp.mail("a@quota.test")
     answers = [recipient(smtp, number) for number in range(1, 6)]
-    note("no login, five recipients", min(a[:3] for a in answers) + ".." + max(a[:3] for a in answers), "250..250")
+    note(
+        "no login, five recipients",
+        min(a[:3] for a in answers) + ".." + max(a[:3] for a in answers),
+        "250..250",
+    )
     smtp.quit()
 
 
@@ -121,7 +147,11 @@ def two_messages_on_two_hosts():
         smtp = session(host, "u07")
         smtp.mail("a@quota.test")
         for number in range(1, allowed + 1):
-            note(f"u07 at host {host}, recipient {number} of its message", recipient(smtp, number), "250")
+            note(
+                f"u07 at host {host}, recipient {number} of its message",
+                recipient(smtp, number),
+                "250",
+            )
         code, _ = smtp.data(b"Subject: hello\r\n\r\nhello\r\n")
         note(f"u07 at host {host}, DATA", str(code), "250")
         smtp.quit()
@@ -146,7 +176,11 @@ def spellings():
         smtp.quit()
     smtp = session(3, "u08")
     smtp.mail("a@quota.test")
-    note("u08 behind one-spelling, recipients 1 to 4", " ".join(recipient(smtp, number)[:3] for number in range(1, 5)), "250 250 250 550")
+    note(
+        "u08 behind one-spelling, recipients 1 to 4",
+        " ".join(recipient(smtp, number)[:3] for number in range(1, 5)),
+        "250 250 250 550",
+    )
     smtp.quit()
 
 
@@ -172,7 +206,11 @@ class Sender(threading.Thread):
 def a_stop_of_four_that_send():
     """A stolen password in four sessions of two hosts."""
     words = ["--server", "127.0.0.1:7025", "--host", "admin", "--login", "u09"]
-    note("limit of u09 set to a million", command("limit", *words, "--from", day(), "--cap", "1000000")[0], "set")
+    note(
+        "limit of u09 set to a million",
+        command("limit", *words, "--from", day(), "--cap", "1000000")[0],
+        "set",
+    )
     senders = [Sender(host) for host in (1, 2, 1, 2)]
     for it in senders:
         it.start()
@@ -182,18 +220,27 @@ def a_stop_of_four_that_send():
     note("u09, stop while four sessions send", text, "stopped: u09 used ")
     for it in senders:
         it.join(timeout=60)
-    note("u09, the end of each session", " ".join(it.last[:3] or "none" for it in senders), "550 550 550 550")
+    note(
+        "u09, the end of each session",
+        " ".join(it.last[:3] or "none" for it in senders),
+        "550 550 550 550",
+    )
     most = int(text.split()[3]) if text.startswith("stopped: ") else 0
     settled, reserved, *_ = map(int, usage("u09").split()[:3])
-    note("u09, what is used is within what was printed", str(0 < settled + reserved <= most), "True")
+    note(
+        "u09, what is used is within what was printed", str(0 < settled + reserved <= most), "True"
+    )
 
 
 def lost_tries():
-    """How many of the administrator's limits were refused since more was used meanwhile, read off the rows of the ledger's file."""
+    """How many of the administrator's limits were refused since more was used meanwhile, read off
+    the rows of the ledger's file."""
     for end in ("", "-wal"):
         shutil.copy(f"{LEDGER}{end}", f"{LEDGER}.read{end}")
     database = sqlite3.connect(f"{LEDGER}.read")
-    [(count,)] = database.execute("SELECT count(*) FROM answer WHERE host = x'61646d696e' AND substr(reply, 1, 1) = x'86'").fetchall()
+    [(count,)] = database.execute(
+        "SELECT count(*) FROM answer WHERE host = x'61646d696e' AND substr(reply, 1, 1) = x'86'"
+    ).fetchall()
     database.close()
     return count
 
@@ -202,7 +249,14 @@ def a_forgetting():
     """While the server is away and smtpd with its filters runs on."""
     tries = lost_tries()
     note(f"stop while four sessions send: {tries} tries lost, two at most", str(tries <= 2), "True")
-    words = ["--config", "/etc/mailquota/server-file.toml", "--before", day(), "--into", "/var/lib/mailquota/tested.new"]
+    words = [
+        "--config",
+        "/etc/mailquota/server-file.toml",
+        "--before",
+        day(),
+        "--into",
+        "/var/lib/mailquota/tested.new",
+    ]
     note("forget", command("forget", *words)[0], "kept answers=")
     os.rename(LEDGER, f"{LEDGER}.old")
     os.rename(f"{LEDGER}-wal", f"{LEDGER}.old-wal")
@@ -214,14 +268,32 @@ def no_server():
     smtp.mail("a@quota.test")
     note("u05 without a quota server", recipient(smtp, 1), "451")
     text, status = command("status", "--server", "127.0.0.1:7025")
-    note("status without a quota server", f"{status} {text.splitlines()[-1]}", "1 mailquota: quota service unavailable")
+    note(
+        "status without a quota server",
+        f"{status} {text.splitlines()[-1]}",
+        "1 mailquota: quota service unavailable",
+    )
     smtp.rset()
     note("no login without a quota server", no_login_answer(), "250")
     lines = log_of("smtpd").read_text(errors="replace").splitlines()
-    said = [line for line in lines if line.startswith("quota1: ") and "mq_link" in line] + ["nothing"]
-    note("smtpd's log, why there is no answer", said[0], "quota1: [ERROR mq_link::logged] quota server 127.0.0.1:7025: Connection refused")
-    full = [line for line in lines if line.startswith("quota1: [WARN  mq_client::tries] ") and "refused by the limit" in line] + ["nothing"]
-    note("smtpd's log, a login that used its limit", full[0].split(": ")[-1], "refused by the limit, ")
+    said = [line for line in lines if line.startswith("quota1: ") and "mq_link" in line] + [
+        "nothing"
+    ]
+    note(
+        "smtpd's log, why there is no answer",
+        said[0],
+        "quota1: [ERROR mq_link::logged] quota server 127.0.0.1:7025: Connection refused",
+    )
+    full = [
+        line
+        for line in lines
+        if line.startswith("quota1: [WARN  mq_client::tries] ") and "refused by the limit" in line
+    ] + ["nothing"]
+    note(
+        "smtpd's log, a login that used its limit",
+        full[0].split(": ")[-1],
+        "refused by the limit, ",
+    )
     return smtp
 
 
@@ -243,7 +315,9 @@ def a_new_server(smtp, store):
 
 def end_of_a_filter(smtpd):
     """Whatever ends a filter ends smtpd."""
-    for pid in call("pgrep", "-f", "mailquota filter --config /etc/mailquota/filter2.toml", check=False).stdout.split():
+    for pid in call(
+        "pgrep", "-f", "mailquota filter --config /etc/mailquota/filter2.toml", check=False
+    ).stdout.split():
         os.kill(int(pid), signal.SIGTERM)
     try:
         smtpd.wait(timeout=10)
@@ -253,7 +327,8 @@ def end_of_a_filter(smtpd):
 
 
 def as_in_contrib():
-    """The files of contrib as they stand: a submission port that asks for a login, one spelling, a ledger in a file."""
+    """The files of contrib as they stand: a submission port that asks for a login, one spelling, a
+    ledger in a file."""
     address, host = "192.0.2.7", "192.0.2.1"
     server = start_server("/etc/mailquota/server.toml", "--create", address=address)
     smtpd = start_smtpd("/etc/mail/smtpd.conf", host, ports=(587,))
@@ -264,11 +339,26 @@ def as_in_contrib():
         smtp = session_at(587, "U01", host)
         note("contrib: U01, MAIL FROM", str(smtp.mail("a@quota.test")[0]), "550")
         smtp.quit()
-        words = ["--server", f"{address}:7025", "--host", "admin", "--login", "u01", "--from", day(), "--cap", "2"]
+        words = [
+            "--server",
+            f"{address}:7025",
+            "--host",
+            "admin",
+            "--login",
+            "u01",
+            "--from",
+            day(),
+            "--cap",
+            "2",
+        ]
         note("contrib: limit of u01 set to 2", command("limit", *words)[0], "set")
         smtp = session_at(587, "u01", host)
         smtp.mail("a@quota.test")
-        note("contrib: u01, recipients 1 to 3", " ".join(recipient(smtp, number)[:3] for number in (1, 2, 3)), "250 250 550")
+        note(
+            "contrib: u01, recipients 1 to 3",
+            " ".join(recipient(smtp, number)[:3] for number in (1, 2, 3)),
+            "250 250 550",
+        )
         text, _ = command("report", "--server", f"{address}:7025", "--day", day())
         note("contrib: report", " ".join(text.split()), "0 2 2 u01")
         smtpd = a_restart_retires(smtpd, address, host)
@@ -278,13 +368,19 @@ def as_in_contrib():
 
 
 def a_restart_retires(smtpd, address, host):
-    """smtpd is killed while a message is open, and started again as contrib's unit does it; the smtpd that runs then."""
+    """smtpd is killed while a message is open, and started again as contrib's unit does it; the
+    smtpd that runs then."""
+
     def report():
         return " ".join(command("report", "--server", f"{address}:7025", "--day", day())[0].split())
 
     smtpd.kill()
     smtpd.wait(timeout=10)
-    note("contrib: filters end with smtpd", str(wait_until(lambda: not call("pgrep", "-f", "mailquota filter", check=False).stdout)), "True")
+    note(
+        "contrib: filters end with smtpd",
+        str(wait_until(lambda: not call("pgrep", "-f", "mailquota filter", check=False).stdout)),
+        "True",
+    )
     note("contrib: report behind a SIGKILL of smtpd", report(), "0 2 2 u01")
     unit = (ROOT / "usr/share/doc/mailquota/examples/smtpd-restart.conf").read_text()
     [before_start] = [line for line in unit.splitlines() if line.startswith("ExecStartPre=-")]
@@ -293,11 +389,26 @@ def a_restart_retires(smtpd, address, host):
     note("contrib: what it prints", command(*words[1:])[0], "retired")
     note("contrib: report then", report(), "2 0 2 u01")
     smtpd = start_smtpd("/etc/mail/smtpd.conf", host, ports=(587,))
-    words = ["--server", f"{address}:7025", "--host", "admin", "--login", "u01", "--from", day(), "--cap", "3"]
+    words = [
+        "--server",
+        f"{address}:7025",
+        "--host",
+        "admin",
+        "--login",
+        "u01",
+        "--from",
+        day(),
+        "--cap",
+        "3",
+    ]
     note("contrib: limit of u01 set to 3", command("limit", *words)[0], "set")
     smtp = session_at(587, "u01", host)
     smtp.mail("a@quota.test")
-    note("contrib: u01 through the next filter, recipients 3 and 4", " ".join(recipient(smtp, number)[:3] for number in (3, 4)), "250 550")
+    note(
+        "contrib: u01 through the next filter, recipients 3 and 4",
+        " ".join(recipient(smtp, number)[:3] for number in (3, 4)),
+        "250 550",
+    )
     note("contrib: report then", report(), "2 1 3 u01")
     smtp.quit()
     return smtpd
@@ -323,7 +434,11 @@ def over(store):
         two_messages_on_two_hosts()
         spellings()
         a_stop_of_four_that_send()
-        note("status", command("status", "--server", "127.0.0.1:7025")[0], "quota server 127.0.0.1:7025 answers")
+        note(
+            "status",
+            command("status", "--server", "127.0.0.1:7025")[0],
+            "quota server 127.0.0.1:7025 answers",
+        )
         stop(server)
         if store == "file":
             a_forgetting()
@@ -349,7 +464,11 @@ def main():
         part()
         print(f"-- {title}")
         for what, answer, wanted, good in ROWS[told:]:
-            print(f"{'ok ' if good else 'NOT'} {what:45} {answer}" + ("" if good else f" (wanted {wanted})"), flush=True)
+            print(
+                f"{'ok ' if good else 'NOT'} {what:45} {answer}"
+                + ("" if good else f" (wanted {wanted})"),
+                flush=True,
+            )
         told = len(ROWS)
     bad = sum(not row[3] for row in ROWS)
     print(f"{len(ROWS) - bad} passed, {bad} failed")

@@ -25,7 +25,9 @@ def wait_for(port, address="127.0.0.1", seconds=10):
 
 def start(name, *words):
     log = open(log_of(name), "wb")
-    return subprocess.Popen(["chroot", str(ROOT), *words], stdout=log, stderr=log, stdin=subprocess.DEVNULL)
+    return subprocess.Popen(
+        ["chroot", str(ROOT), *words], stdout=log, stderr=log, stdin=subprocess.DEVNULL
+    )
 
 
 def log_of(name):
@@ -38,7 +40,9 @@ def start_server(settings, *options, address="127.0.0.1"):
     return server
 
 
-def start_smtpd(settings="/etc/mailquota/smtpd.conf", address="127.0.0.1", ports=(2501, 2502, 2503)):
+def start_smtpd(
+    settings="/etc/mailquota/smtpd.conf", address="127.0.0.1", ports=(2501, 2502, 2503)
+):
     smtpd = start("smtpd", "/usr/sbin/smtpd", "-d", "-f", settings)
     for port in ports:
         wait_for(port, address)
@@ -70,5 +74,7 @@ def session_at(port, login=None, address="127.0.0.1"):
 
 def command(*words):
     """What the program prints for one of its administrator's commands."""
-    run = subprocess.run(["chroot", str(ROOT), PROGRAM, *words], capture_output=True, text=True, timeout=60)
+    run = subprocess.run(
+        ["chroot", str(ROOT), PROGRAM, *words], capture_output=True, text=True, timeout=60
+    )
     return (run.stdout + run.stderr).strip(), run.returncode

@@ -6,12 +6,14 @@ import time
 
 from host import session_at
 
-# seconds between two recipients of a session, after one that is answered 451, and after one that the limit refused
+# seconds between two recipients of a session, after one that is answered 451, and after one that
+# the limit refused
 PACE, AFTER_451, AFTER_FULL = 0.2, 0.5, 1.0
 
 
 class Sender(threading.Thread):
-    """A session of a login at a mail host: messages of one to five recipients, of which some are reset, and some cut off."""
+    """A session of a login at a mail host: messages of one to five recipients, of which some are
+    reset, and some cut off."""
 
     def __init__(self, address, login, seed, pace=PACE):
         super().__init__(daemon=True)
@@ -70,10 +72,12 @@ class Sender(threading.Thread):
 
 
 def outages(senders):
-    """Of the senders at one mail host whose logins have room: when a first 451 came, and for how long nothing was let through, from the last recipient before it
-    to the next one."""
+    """Of the senders at one mail host whose logins have room: when a first 451 came, and for how
+    long nothing was let through, from the last recipient before it to the next one."""
     found, last, since, first = [], None, None, None
-    for _, at, code in sorted((answer for sender in senders for answer in sender.answers), key=lambda answer: answer[1]):
+    for _, at, code in sorted(
+        (answer for sender in senders for answer in sender.answers), key=lambda answer: answer[1]
+    ):
         if code == 451 and first is None:
             first, since = at, last if last is not None else at
         elif code == 250:

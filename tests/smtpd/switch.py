@@ -1,4 +1,5 @@
-"""Machines on one switch, each with a folder and an address of its own, for tests/takeover and tests/package."""
+"""Machines on one switch, each with a folder and an address of its own, for tests/takeover and
+tests/package."""
 import subprocess
 import time
 
@@ -9,7 +10,14 @@ SECONDS, LONGEST = 60, 300
 
 
 def call(*words, check=True):
-    return subprocess.run([str(word) for word in words], check=check, stdin=subprocess.DEVNULL, capture_output=True, text=True, timeout=LONGEST)
+    return subprocess.run(
+        [str(word) for word in words],
+        check=check,
+        stdin=subprocess.DEVNULL,
+        capture_output=True,
+        text=True,
+        timeout=LONGEST,
+    )
 
 
 def make_switch():
@@ -40,9 +48,25 @@ class OnSwitch:
     def connect(self, device):
         """Gives it a network namespace with this device."""
         call("ip", "netns", "add", self.name)
-        call("ip", "link", "add", self.name, "type", "veth", "peer", "name", device, "netns", self.name)
+        call(
+            "ip",
+            "link",
+            "add",
+            self.name,
+            "type",
+            "veth",
+            "peer",
+            "name",
+            device,
+            "netns",
+            self.name,
+        )
         call("ip", "link", "set", self.name, "master", "switch", "up")
-        for words in (["address", "add", f"{self.address}/24", "dev", device], ["link", "set", device, "up"], ["link", "set", "lo", "up"]):
+        for words in (
+            ["address", "add", f"{self.address}/24", "dev", device],
+            ["link", "set", device, "up"],
+            ["link", "set", "lo", "up"],
+        ):
             call("ip", "-n", self.name, *words)
 
     def write(self, path, text, mode=0o644):

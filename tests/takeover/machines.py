@@ -1,4 +1,5 @@
-"""Quota servers and mail hosts on one switch, each with a folder of its own over the one with smtpd."""
+"""Quota servers and mail hosts on one switch, each with a folder of its own over the one with
+smtpd."""
 import os
 import socket
 import subprocess
@@ -49,7 +50,9 @@ class Machine(OnSwitch):
 
     def start(self, name, *words):
         with open(self.root / f"var/log/mailquota-{name}.log", "ab") as log:
-            return subprocess.Popen(self.words(*words), stdin=subprocess.DEVNULL, stdout=log, stderr=log)
+            return subprocess.Popen(
+                self.words(*words), stdin=subprocess.DEVNULL, stdout=log, stderr=log
+            )
 
 
 def contrib(name, *changes):
@@ -67,17 +70,32 @@ class QuotaServer(Machine):
     def __init__(self, name, address, default, keepalived):
         super().__init__(name, address)
         listen = ('\nlisten = "192.0.2.7:7025"', '\nlisten = "0.0.0.0:7025"')
-        self.write("/etc/mailquota/server.toml", contrib("server.toml", listen, ("\ndefault = 1000\n", f"\ndefault = {default}\n")))
+        self.write(
+            "/etc/mailquota/server.toml",
+            contrib("server.toml", listen, ("\ndefault = 1000\n", f"\ndefault = {default}\n")),
+        )
         self.write("/etc/keepalived/keepalived.conf", keepalived)
         self.write("/etc/nftables-mailquota.conf", contrib("nftables.conf"))
         self.write("/usr/local/sbin/supervisor", SUPERVISOR, 0o755)
         (self.root / "var/lib/mailquota").mkdir(parents=True, exist_ok=True)
-        for words in (["nft", "-f", "/etc/nftables-mailquota.conf"], [PROGRAM, "init", "--config", "/etc/mailquota/server.toml"]):
+        for words in (
+            ["nft", "-f", "/etc/nftables-mailquota.conf"],
+            [PROGRAM, "init", "--config", "/etc/mailquota/server.toml"],
+        ):
             said, status = self.run(*words)
             assert status == 0, said
         self.want()
         self.start("supervisor", "/usr/local/sbin/supervisor")
-        self.start("keepalived", "keepalived", "--dont-fork", "--log-console", "-f", "/etc/keepalived/keepalived.conf", "-p", "/run/keepalived.pid")
+        self.start(
+            "keepalived",
+            "keepalived",
+            "--dont-fork",
+            "--log-console",
+            "-f",
+            "/etc/keepalived/keepalived.conf",
+            "-p",
+            "/run/keepalived.pid",
+        )
 
     def want(self):
         self.write("/run/wanted", "")
@@ -102,7 +120,16 @@ class QuotaServer(Machine):
                 pass
 
     def ask(self, command, *words):
-        run = call("chroot", ROOT, PROGRAM, command, "--server", f"{self.address}:7025", *words, check=False)
+        run = call(
+            "chroot",
+            ROOT,
+            PROGRAM,
+            command,
+            "--server",
+            f"{self.address}:7025",
+            *words,
+            check=False,
+        )
         return (run.stdout + run.stderr).strip(), run.returncode
 
     def answers(self):
@@ -115,7 +142,17 @@ class MailHost(Machine):
     def __init__(self, name, address, host, *changes):
         super().__init__(name, address)
         self.host = host
-        self.write("/etc/mailquota/filter.toml", contrib("filter.toml", ("mx1.example.org", host), *changes))
+        self.write(
+            "/etc/mailquota/filter.toml",
+            contrib("filter.toml", ("mx1.example.org", host), *changes),
+        )
         sink = 'action "outbound" mda "true" virtual { "@" = nobody }'
-        self.write("/etc/smtpd.conf", contrib("smtpd.conf", ("listen on 192.0.2.1 ", f"listen on {address} "), ('action "outbound" relay', sink)))
+        self.write(
+            "/etc/smtpd.conf",
+            contrib(
+                "smtpd.conf",
+                ("listen on 192.0.2.1 ", f"listen on {address} "),
+                ('action "outbound" relay', sink),
+            ),
+        )
         self.smtpd = self.start("smtpd", "smtpd", "-d", "-f", "/etc/smtpd.conf")

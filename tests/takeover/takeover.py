@@ -1,9 +1,9 @@
-"""What mail sees while the first of two quota servers is killed, cut off, restarted, also with a day
-to forget, and comes back, in a random order.
+"""What mail sees while the first of two quota servers is killed, cut off, restarted, also with a
+day to forget, and comes back, in a random order.
 
-Logins send all the while. Then each request of smtpd has an answer, recipients were answered 451 for
-as long as is said below at most, and for each login accepted recipients are at most the sum of both
-reports, and that at most the sum of both limits. The last line is 'N passed, M failed'.
+Logins send all the while. Then each request of smtpd has an answer, recipients were answered 451
+for as long as is said below at most, and for each login accepted recipients are at most the sum of
+both reports, and that at most the sum of both limits. The last line is 'N passed, M failed'.
 """
 import argparse
 import os
@@ -20,10 +20,12 @@ from switch import call, make_switch, wait_until
 
 # How long the first server answers before the address goes back to it: a minute in contrib.
 DELAY = 5
-# For how many seconds recipients may be answered 451, without `pause` in the filter's settings and with contrib's.
+# For how many seconds recipients may be answered 451, without `pause` in the filter's settings and
+# with contrib's.
 LONGEST = {"kill": (5, 5), "cut": (5, 15), "forget": (5, 5), "restart": (5, 5), "return": (2, 2)}
 FIRST_DEFAULT, SECOND_DEFAULT, OWN_LIMIT, WIDE = 1_000, 100, 300, 1_000_000
-# Logins with room, at both servers; with the defaults; and with a limit of its own at the first server alone.
+# Logins with room, at both servers; with the defaults; and with a limit of its own at the first
+# server alone.
 WITH_ROOM, WITH_DEFAULT, WITH_OWN = ["u01", "u02", "u03", "u04"], ["u05", "u06"], ["u07"]
 LIMITS = {
     **{login: 2 * WIDE for login in WITH_ROOM},
@@ -50,8 +52,12 @@ class Scene:
         # (of the folder in which the administrator's commands run)
         call("mount", "--bind", "/proc", ROOT / "proc")
         delay = ("preempt_delay 60", f"preempt_delay {DELAY}")
-        self.first = QuotaServer("first", "192.0.2.5", FIRST_DEFAULT, contrib("keepalived-first.conf", delay))
-        self.second = QuotaServer("second", "192.0.2.6", SECOND_DEFAULT, contrib("keepalived-second.conf"))
+        self.first = QuotaServer(
+            "first", "192.0.2.5", FIRST_DEFAULT, contrib("keepalived-first.conf", delay)
+        )
+        self.second = QuotaServer(
+            "second", "192.0.2.6", SECOND_DEFAULT, contrib("keepalived-second.conf")
+        )
         self.servers = [self.first, self.second]
         self.wait("the first server has the address", self.is_at_first)
         # (one filter has contrib's settings, and the other those without `pause`)
@@ -63,12 +69,24 @@ class Scene:
         for login in [*WITH_ROOM, *WITH_OWN]:
             for server in self.servers if login in WITH_ROOM else [self.first]:
                 cap = WIDE if login in WITH_ROOM else OWN_LIMIT
-                said = server.ask("limit", "--host", "admin", "--login", login, "--from", day(), "--cap", str(cap))
+                said = server.ask(
+                    "limit", "--host", "admin", "--login", login, "--from", day(), "--cap", str(cap)
+                )
                 assert said == ("set", 0), said
         for host in self.hosts:
-            self.wait(f"smtpd of {host.name} listens", lambda: call("bash", "-c", f": </dev/tcp/{host.address}/587", check=False).returncode == 0)
+            self.wait(
+                f"smtpd of {host.name} listens",
+                lambda: call(
+                    "bash", "-c", f": </dev/tcp/{host.address}/587", check=False
+                ).returncode
+                == 0,
+            )
         self.senders = {
-            host: [Sender(host.address, login, self.dice.random()) for login in [*WITH_ROOM, *WITH_DEFAULT, *WITH_OWN]] for host in self.hosts
+            host: [
+                Sender(host.address, login, self.dice.random())
+                for login in [*WITH_ROOM, *WITH_DEFAULT, *WITH_OWN]
+            ]
+            for host in self.hosts
         }
         # (what happened, when, and until when)
         self.events = []
@@ -92,14 +110,18 @@ class Scene:
         for number, event in enumerate(order, 1):
             start = time.monotonic()
             event()
-            print(f"    {number} of {len(order)}: {event.__name__}, {time.monotonic() - start:.0f} s", flush=True)
+            print(
+                f"    {number} of {len(order)}: {event.__name__}, {time.monotonic() - start:.0f} s",
+                flush=True,
+            )
         end_all(self.all_senders())
 
     def all_senders(self):
         return [sender for senders in self.senders.values() for sender in senders]
 
     def note(self, what, start):
-        """What began then has its end, once recipients go through and no answer to an earlier one is under way."""
+        """What began then has its end, once recipients go through and no answer to an earlier one
+        is under way."""
         time.sleep(self.dice.uniform(4, 6))
         self.events.append((what, start, time.monotonic()))
 
@@ -131,7 +153,8 @@ class Scene:
             self.back(lambda: call("bridge", "link", "set", "dev", "first", "state", "3"))
 
     def forget(self):
-        """It starts again with a day that is overdue, and forgets that while it answers, by contrib's `keep`: the address stays."""
+        """It starts again with a day that is overdue, and forgets that while it answers, by
+        contrib's `keep`: the address stays."""
         past = int(day()) - 9
 
         def used():
@@ -141,10 +164,15 @@ class Scene:
         before = used()
         self.restart("forget")
         is_forgotten = wait_until(lambda: used() == ["0", "0"])
-        self.checks.holds("a day that is overdue is forgotten", before == ["0", "1"] and is_forgotten, f"{before} used before, {used()} after")
+        self.checks.holds(
+            "a day that is overdue is forgotten",
+            before == ["0", "1"] and is_forgotten,
+            f"{before} used before, {used()} after",
+        )
 
     def restart(self, what="restart"):
-        """Its unit starts it again after a second: three checks in a row don't fail, unless the start itself takes long."""
+        """Its unit starts it again after a second: three checks in a row don't fail, unless the
+        start itself takes long."""
         start = time.monotonic()
         os.kill(self.first.pid(), signal.SIGTERM)
         time.sleep(0.5)
@@ -152,7 +180,9 @@ class Scene:
         took = time.monotonic() - start
         self.note(what, start)
         if took < 2:
-            self.checks.holds(f"a {what} moves nothing", self.is_at_first(), f"{took:.1f} s without an answer")
+            self.checks.holds(
+                f"a {what} moves nothing", self.is_at_first(), f"{took:.1f} s without an answer"
+            )
         else:
             print(f"--  a {what} moves nothing: not tried, it took {took:.1f} s", flush=True)
             self.wait("the address is back at the first server", self.is_at_first)
@@ -164,20 +194,41 @@ def day():
 
 def usage(servers, login):
     """What is settled and reserved at each of these."""
-    return [sum(map(int, server.ask("report", "--day", day(), "--login", login)[0].split()[:2])) for server in servers]
+    return [
+        sum(map(int, server.ask("report", "--day", day(), "--login", login)[0].split()[:2]))
+        for server in servers
+    ]
 
 
 def tell_outages(scene):
-    for place, (host, settings) in enumerate(zip(scene.hosts, ("contrib's settings", "the same without `pause`"))):
+    for place, (host, settings) in enumerate(
+        zip(scene.hosts, ("contrib's settings", "the same without `pause`"))
+    ):
         found = outages([sender for sender in scene.senders[host] if sender.login in WITH_ROOM])
         for what, longest in LONGEST.items():
             windows = [(start, end) for it, start, end in scene.events if it == what]
-            lasted = [max([took for first, took in found if start <= first < end], default=0) for start, end in windows]
+            lasted = [
+                max([took for first, took in found if start <= first < end], default=0)
+                for start, end in windows
+            ]
             if lasted:
-                came = f"{max(lasted):.1f} s at most, {statistics.median(lasted):.1f} s in the middle, of {len(lasted)}"
+                came = (
+                    f"{max(lasted):.1f} s at most, {statistics.median(lasted):.1f} s in the middle,"
+                    f" of {len(lasted)}"
+                )
                 has_pause = place == 0 and "\npause" in (CONTRIB / "filter.toml").read_text()
-                scene.checks.holds(f"{host.name}, {settings}: 451 at a {what}, {longest[has_pause]} s at most", max(lasted) <= longest[has_pause], came)
-        print(f"    {host.name}: the longest wait for an answer: {longest_wait(scene.senders[host]):.1f} s", flush=True)
+                scene.checks.holds(
+                    f"{host.name}, {settings}: 451 at a {what}, {longest[has_pause]} s at most",
+                    max(lasted) <= longest[has_pause],
+                    came,
+                )
+        print(
+            (
+                f"    {host.name}: the longest wait for an answer:"
+                f" {longest_wait(scene.senders[host]):.1f} s"
+            ),
+            flush=True,
+        )
 
 
 def tell_sums(scene):
@@ -185,12 +236,21 @@ def tell_sums(scene):
         accepted = sum(sender.accepted for sender in scene.all_senders() if sender.login == login)
         used = usage(scene.servers, login)
         came = f"{accepted} accepted, {used[0]} and {used[1]} counted, {limit} allowed"
-        scene.checks.holds(f"{login}: accepted recipients, both reports, both limits", accepted <= sum(used) <= limit, came)
+        scene.checks.holds(
+            f"{login}: accepted recipients, both reports, both limits",
+            accepted <= sum(used) <= limit,
+            came,
+        )
 
 
 def retire(scene):
-    """The lines of contrib before a start of smtpd, at a host with two servers of which one is away."""
-    lines = [line for line in (CONTRIB / "smtpd-restart.conf").read_text().splitlines() if line.startswith("#ExecStartPre=-")]
+    """The lines of contrib before a start of smtpd, at a host with two servers of which one is
+    away."""
+    lines = [
+        line
+        for line in (CONTRIB / "smtpd-restart.conf").read_text().splitlines()
+        if line.startswith("#ExecStartPre=-")
+    ]
     commands = [line.removeprefix("#ExecStartPre=-").split() for line in lines]
     for host in scene.hosts:
         host.smtpd.terminate()
@@ -206,8 +266,15 @@ def retire(scene):
             said = [host.run(*words) for words in commands]
             wanted = [1 if is_away else 0, 0]
             came = f"{[it[0].splitlines()[-1] for it in said]}, {time.monotonic() - start:.1f} s"
-            scene.checks.holds(f"{host.name} retires at both servers{', of which one is away' if is_away else ''}", [it[1] for it in said] == wanted, came)
-    reserved = [sum(int(line.split()[1]) for line in server.ask("report", "--day", day())[0].splitlines()) for server in scene.servers]
+            scene.checks.holds(
+                f"{host.name} retires at both servers{', of which one is away' if is_away else ''}",
+                [it[1] for it in said] == wanted,
+                came,
+            )
+    reserved = [
+        sum(int(line.split()[1]) for line in server.ask("report", "--day", day())[0].splitlines())
+        for server in scene.servers
+    ]
     scene.checks.holds("then nothing is reserved at either server", reserved == [0, 0], reserved)
 
 
@@ -216,20 +283,42 @@ def audits(scene):
         server.end(signal.SIGTERM)
         scene.wait(f"the {server.name} server ends", lambda: not server.answers())
         said, status = server.run(PROGRAM, "audit", "--config", "/etc/mailquota/server.toml")
-        scene.checks.holds(f"audit of the {server.name} server's ledger", status == 0 and said.startswith("sound "), said)
+        scene.checks.holds(
+            f"audit of the {server.name} server's ledger",
+            status == 0 and said.startswith("sound "),
+            said,
+        )
 
 
 def main():
-    parser = argparse.ArgumentParser(description=__doc__, formatter_class=argparse.RawDescriptionHelpFormatter)
-    parser.add_argument("rounds", metavar="ROUNDS", nargs="?", type=int, default=10, help="how often each happens, by default %(default)s times")
-    parser.add_argument("seed", metavar="SEED", nargs="?", type=int, default=1, help="of the order, by default %(default)s")
+    parser = argparse.ArgumentParser(
+        description=__doc__, formatter_class=argparse.RawDescriptionHelpFormatter
+    )
+    parser.add_argument(
+        "rounds",
+        metavar="ROUNDS",
+        nargs="?",
+        type=int,
+        default=10,
+        help="how often each happens, by default %(default)s times",
+    )
+    parser.add_argument(
+        "seed",
+        metavar="SEED",
+        nargs="?",
+        type=int,
+        default=1,
+        help="of the order, by default %(default)s",
+    )
     asked, checks = parser.parse_args(), Checks()
     scene = Scene(checks, asked.seed)
     began = day()
     scene.play(asked.rounds)
     unanswered = [it for sender in scene.all_senders() for it in sender.unanswered]
     asked = sum(len(sender.answers) for sender in scene.all_senders())
-    checks.holds(f"requests of smtpd without an answer, of {asked} recipients", not unanswered, unanswered)
+    checks.holds(
+        f"requests of smtpd without an answer, of {asked} recipients", not unanswered, unanswered
+    )
     tell_outages(scene)
     tell_sums(scene)
     retire(scene)

@@ -1,4 +1,5 @@
-"""How the server takes connections: that it waits while none comes, and what it does at each error of accept(2)."""
+"""How the server takes connections: that it waits while none comes, and what it does at each error
+of accept(2)."""
 import errno
 import os
 import resource
@@ -20,11 +21,20 @@ def run(world, checks):
     no_files_left(world, checks)
     errors_that_pass(world, checks)
     errors_that_end(world, checks)
-    print(f"    a server that nobody asks for a second, {len(PASSING)} errors of accept(2) that pass, and {len(ENDING)} that don't", flush=True)
+    print(
+        (
+            f"    a server that nobody asks for a second, {len(PASSING)} errors of accept(2) that"
+            f" pass, and {len(ENDING)} that don't"
+        ),
+        flush=True,
+    )
 
 
 def not_accepted(level, error):
-    return f"[{level:5} mq_connections::accept] no connection accepted: {os.strerror(error)} (os error {error})"
+    return (
+        f"[{level:5} mq_connections::accept] no connection accepted: {os.strerror(error)} (os error"
+        f" {error})"
+    )
 
 
 def tried_again(error, pause):
@@ -37,7 +47,12 @@ def waits(checks, what, process):
     before = processor_time(process)
     time.sleep(1)
     took = processor_time(process) - before
-    checks.holds(f"{what}: how long a processor works for it", took < 0.05, "hardly any of a second", f"{took:.2f} s")
+    checks.holds(
+        f"{what}: how long a processor works for it",
+        took < 0.05,
+        "hardly any of a second",
+        f"{took:.2f} s",
+    )
 
 
 def nobody_asks(world, checks):
@@ -59,15 +74,26 @@ def the_last_connection_stays_open(world, checks):
 def its_address_alone(world, checks):
     """It listens at the address of its settings, and at no other one of the machine's."""
     by_night = {"words": ["--create"], "store": f"{world.folder}/by-night", "keep": 2}
-    for what, host, other, more in (("", "127.0.0.1", "127.0.0.2", {}), ("", "127.0.0.2", "127.0.0.1", {}), (", with keep", "127.0.0.1", "127.0.0.2", by_night)):
+    for what, host, other, more in (
+        ("", "127.0.0.1", "127.0.0.2", {}),
+        ("", "127.0.0.2", "127.0.0.1", {}),
+        (", with keep", "127.0.0.1", "127.0.0.2", by_night),
+    ):
         with Server(world, host=host, **more) as server, socket.socket() as peer:
-            checks.equal(f"a server at {host}{what}, asked there", server.ask(usage()), NOTHING_USED)
+            checks.equal(
+                f"a server at {host}{what}, asked there", server.ask(usage()), NOTHING_USED
+            )
             peer.settimeout(5)
-            checks.equal(f"a server at {host}{what}, asked at {other}", peer.connect_ex((other, server.port)), errno.ECONNREFUSED)
+            checks.equal(
+                f"a server at {host}{what}, asked at {other}",
+                peer.connect_ex((other, server.port)),
+                errno.ECONNREFUSED,
+            )
 
 
 def no_files_left(world, checks):
-    """accept fails while the server may open no file, and is tried again until it may, whoever is connected, and each time from the shortest pause on."""
+    """accept fails while the server may open no file, and is tried again until it may, whoever is
+    connected, and each time from the shortest pause on."""
     with Server(world) as server, server.connect():
         # (once it has answered, it has opened all that it needs, and closed what it was asked on)
         checks.equal("a server before it may open no file", server.ask(usage()), NOTHING_USED)
@@ -91,10 +117,24 @@ def no_files_for_a_while(server, checks, what):
         checks.equal(f"{what}: the reply once it may", read_all(peer), NOTHING_USED)
         took = time.monotonic() - start
     lines = server.log_lines()[before:]
-    wanted = [tried_again(24, min(10 * 2 ** place, 1_000)) for place in range(len(lines))]
-    checks.equal(f"{what}: a line for each attempt, with pauses that grow", (len(lines) >= 4, lines), (True, wanted))
-    checks.holds(f"{what}: how long four attempts take", attempts < 0.8, "70 ms, with the pauses that it says", f"{attempts:.2f} s")
-    checks.holds(f"{what}: how long until it answers", took < 8, "four attempts in 70 ms, and the one after them", f"{took:.2f} s")
+    wanted = [tried_again(24, min(10 * 2**place, 1_000)) for place in range(len(lines))]
+    checks.equal(
+        f"{what}: a line for each attempt, with pauses that grow",
+        (len(lines) >= 4, lines),
+        (True, wanted),
+    )
+    checks.holds(
+        f"{what}: how long four attempts take",
+        attempts < 0.8,
+        "70 ms, with the pauses that it says",
+        f"{attempts:.2f} s",
+    )
+    checks.holds(
+        f"{what}: how long until it answers",
+        took < 8,
+        "four attempts in 70 ms, and the one after them",
+        f"{took:.2f} s",
+    )
 
 
 def errors_that_pass(world, checks):
@@ -104,11 +144,19 @@ def errors_that_pass(world, checks):
             # (the second line is whole once there is a third)
             wait_until(lambda: len(server.log_lines()) > 2 or server.process.poll() is not None)
             came = server.process.poll(), server.log_lines()[:2]
-        checks.equal(f"accept fails with {error}: it runs on, and says so", came, (None, [tried_again(error, 10), tried_again(error, 20)]))
+        checks.equal(
+            f"accept fails with {error}: it runs on, and says so",
+            came,
+            (None, [tried_again(error, 10), tried_again(error, 20)]),
+        )
 
 
 def errors_that_end(world, checks):
     settings = ledger_settings(world, "memory", listen="127.0.0.1:0")
     for error in ENDING:
         came = world.run("server", "--config", settings, limit=("accept", error))
-        checks.equal(f"accept fails with {error}: the server ends", came, (1, b"", f"{not_accepted('ERROR', error)}\nmailquota: accept failed\n"))
+        checks.equal(
+            f"accept fails with {error}: the server ends",
+            came,
+            (1, b"", f"{not_accepted('ERROR', error)}\nmailquota: accept failed\n"),
+        )

@@ -1,5 +1,5 @@
-"""What the log says of a ledger's file that isn't taken, and of a store that fails, before the text that the program ends with; and what `forget` says on
-a terminal of how far it is."""
+"""What the log says of a ledger's file that isn't taken, and of a store that fails, before the text
+that the program ends with; and what `forget` says on a terminal of how far it is."""
 import os
 import pty
 import re
@@ -13,11 +13,29 @@ from cases.audits import edited
 from cases.forgetting import left_by_a_server
 from cases.rules import CENTRAL_EUROPE
 from ends import (
-    IS_THERE, NO_NUMERIC_ADDRESS, NO_PORT, PORT_TOO_LARGE, SECONDS, Server, fault, ledger_settings, nobody_there, of_settings, of_store, refusal, toml, unreached, wait_until,
+    IS_THERE,
+    NO_NUMERIC_ADDRESS,
+    NO_PORT,
+    PORT_TOO_LARGE,
+    SECONDS,
+    Server,
+    fault,
+    ledger_settings,
+    nobody_there,
+    of_settings,
+    of_store,
+    refusal,
+    toml,
+    unreached,
+    wait_until,
 )
 
 BY_RULE = {"offset": None, "rule": CENTRAL_EUROPE}
-NOT_OURS, ANOTHER_ZONE, ANOTHER_DEFAULT = "store is not this ledger", "store has another zone", "store has another default"
+NOT_OURS, ANOTHER_ZONE, ANOTHER_DEFAULT = (
+    "store is not this ledger",
+    "store has another zone",
+    "store has another default",
+)
 # more answers than `forget` looks through in two seconds, where it keeps them all
 MANY = 25_000
 # so many seconds it is stopped then
@@ -42,10 +60,24 @@ def run(world, checks):
 def refuses(world, checks, what, path, said, cause, **settings):
     """Each command that opens a ledger says why it doesn't."""
     file, into = ledger_settings(world, path, **settings), f"{path}.new"
-    for words in (["server"], ["audit"], ["limits"], ["status"], ["forget", "--before", "2", "--into", into]):
+    for words in (
+        ["server"],
+        ["audit"],
+        ["limits"],
+        ["status"],
+        ["forget", "--before", "2", "--into", into],
+    ):
         status, output, errors = world.run(words[0], "--config", file, *words[1:])
-        asked = f"{unreached('127.0.0.1:1')}mailquota: quota service unavailable\n" if words[0] == "status" else ""
-        checks.equal(f"{what}: {words[0]}", (status, output, errors), (1, b"", f"{asked}{refusal(path, cause)}mailquota: {said}\n"))
+        asked = (
+            f"{unreached('127.0.0.1:1')}mailquota: quota service unavailable\n"
+            if words[0] == "status"
+            else ""
+        )
+        checks.equal(
+            f"{what}: {words[0]}",
+            (status, output, errors),
+            (1, b"", f"{asked}{refusal(path, cause)}mailquota: {said}\n"),
+        )
     checks.equal(f"{what}: forget makes no file", os.path.exists(into), False)
 
 
@@ -55,18 +87,74 @@ def zones_and_defaults(world, checks):
     by_rule, _ = left_by_a_server(world, "by-rule", wire.reserve(1), **BY_RULE)
     west, _ = left_by_a_server(world, "by-offset-west", wire.reserve(1), offset=-1_439)
     for what, path, settings, cause in [
-        ("another offset", by_offset, {"offset": 60}, "made with offset 0, the settings have offset 60"),
-        ("an offset west of it", by_offset, {"offset": -90}, "made with offset 0, the settings have offset -90"),
-        ("the least offset", west, {"offset": 1_439}, "made with offset -1439, the settings have offset 1439"),
-        ("a rule in place of an offset", by_offset, BY_RULE, f"made with offset 0, the settings have rule {CENTRAL_EUROPE}"),
-        ("an offset in place of a rule", by_rule, {}, f"made with rule {CENTRAL_EUROPE}, the settings have offset 0"),
-        ("another rule", by_rule, {"offset": None, "rule": "UTC0"}, f"made with rule {CENTRAL_EUROPE}, the settings have rule UTC0"),
+        (
+            "another offset",
+            by_offset,
+            {"offset": 60},
+            "made with offset 0, the settings have offset 60",
+        ),
+        (
+            "an offset west of it",
+            by_offset,
+            {"offset": -90},
+            "made with offset 0, the settings have offset -90",
+        ),
+        (
+            "the least offset",
+            west,
+            {"offset": 1_439},
+            "made with offset -1439, the settings have offset 1439",
+        ),
+        (
+            "a rule in place of an offset",
+            by_offset,
+            BY_RULE,
+            f"made with offset 0, the settings have rule {CENTRAL_EUROPE}",
+        ),
+        (
+            "an offset in place of a rule",
+            by_rule,
+            {},
+            f"made with rule {CENTRAL_EUROPE}, the settings have offset 0",
+        ),
+        (
+            "another rule",
+            by_rule,
+            {"offset": None, "rule": "UTC0"},
+            f"made with rule {CENTRAL_EUROPE}, the settings have rule UTC0",
+        ),
     ]:
         refuses(world, checks, what, path, ANOTHER_ZONE, cause, **settings)
-    refuses(world, checks, "another default", by_offset, ANOTHER_DEFAULT, "made with default 3, the settings have default 4", default=4)
-    refuses(world, checks, "a default of nothing", by_rule, ANOTHER_DEFAULT, "made with default 3, the settings have default 0", **BY_RULE, default=0)
+    refuses(
+        world,
+        checks,
+        "another default",
+        by_offset,
+        ANOTHER_DEFAULT,
+        "made with default 3, the settings have default 4",
+        default=4,
+    )
+    refuses(
+        world,
+        checks,
+        "a default of nothing",
+        by_rule,
+        ANOTHER_DEFAULT,
+        "made with default 3, the settings have default 0",
+        **BY_RULE,
+        default=0,
+    )
     both = "made with offset 0, the settings have offset 60"
-    refuses(world, checks, "another zone and default", by_offset, ANOTHER_ZONE, both, offset=60, default=4)
+    refuses(
+        world,
+        checks,
+        "another zone and default",
+        by_offset,
+        ANOTHER_ZONE,
+        both,
+        offset=60,
+        default=4,
+    )
 
 
 def files_without_a_ledger(world, checks):
@@ -76,9 +164,25 @@ def files_without_a_ledger(world, checks):
     refuses(world, checks, "a database of others", other, NOT_OURS, "no ledger: no such table")
     table = "CREATE TABLE setting (id INTEGER PRIMARY KEY, version{0}, minutes{0}, cap{0})"
     without = edited(world, empty, "without-settings", table.format(" INTEGER"))
-    refuses(world, checks, "a table of settings without a row", without, NOT_OURS, "no ledger: it has no settings")
-    for what, row in [("a version that is a text", "1, 'x', 0, 3"), ("a version that is nothing", "1, NULL, 0, 3")]:
-        path = edited(world, empty, f"no-numbers-{what[-4:]}", table.format(""), f"INSERT INTO setting VALUES ({row})")
+    refuses(
+        world,
+        checks,
+        "a table of settings without a row",
+        without,
+        NOT_OURS,
+        "no ledger: it has no settings",
+    )
+    for what, row in [
+        ("a version that is a text", "1, 'x', 0, 3"),
+        ("a version that is nothing", "1, NULL, 0, 3"),
+    ]:
+        path = edited(
+            world,
+            empty,
+            f"no-numbers-{what[-4:]}",
+            table.format(""),
+            f"INSERT INTO setting VALUES ({row})",
+        )
         refuses(world, checks, what, path, NOT_OURS, "no ledger: its settings are no numbers")
 
 
@@ -86,7 +190,14 @@ def versions(world, checks):
     path, _ = left_by_a_server(world, "versions", wire.reserve(1) + wire.retire(1, run=2))
     for version in (0, 4, 9, 1_000_000):
         later = edited(world, path, f"version-{version}", f"UPDATE setting SET version = {version}")
-        refuses(world, checks, f"tables of version {version}", later, NOT_OURS, f"tables of version {version}, this program knows 1 to 3")
+        refuses(
+            world,
+            checks,
+            f"tables of version {version}",
+            later,
+            NOT_OURS,
+            f"tables of version {version}, this program knows 1 to 3",
+        )
     for version, statements in [
         (1, ["UPDATE setting SET version = 1"]),
         (2, ["UPDATE setting SET version = 2"]),
@@ -94,7 +205,14 @@ def versions(world, checks):
         (3, ["DROP TABLE retired"]),
     ]:
         other = edited(world, path, f"tables-{version}-{len(statements[0])}", *statements)
-        refuses(world, checks, f"tables of version {version}, {statements[0]}", other, NOT_OURS, f"tables of version {version}, but one is missing or there is one too many")
+        refuses(
+            world,
+            checks,
+            f"tables of version {version}, {statements[0]}",
+            other,
+            NOT_OURS,
+            f"tables of version {version}, but one is missing or there is one too many",
+        )
 
 
 def a_ledger_that_is_there(world, checks):
@@ -103,17 +221,38 @@ def a_ledger_that_is_there(world, checks):
     for what, name in [("a ledger", path), ("a table of its names", alone)]:
         for words in (["init"], ["server", "--create"]):
             came = world.run(words[0], "--config", ledger_settings(world, name), *words[1:])
-            checks.equal(f"{what} is there: {' '.join(words)}", came, (1, b"", refusal(name, IS_THERE) + f"mailquota: {NOT_OURS}\n"))
+            checks.equal(
+                f"{what} is there: {' '.join(words)}",
+                came,
+                (1, b"", refusal(name, IS_THERE) + f"mailquota: {NOT_OURS}\n"),
+            )
 
 
 def logs_of_nothing(world, checks):
     """`log = "off"` leaves the last line alone."""
     path, _ = left_by_a_server(world, "off", wire.reserve(1))
-    for subcommand, *words in (["server"], ["audit"], ["limits"], ["status"], ["forget", "--before", "2", "--into", f"{path}.new"], ["init"]):
-        came = world.run(subcommand, "--config", ledger_settings(world, path, offset=60, log="off"), *words)
+    for subcommand, *words in (
+        ["server"],
+        ["audit"],
+        ["limits"],
+        ["status"],
+        ["forget", "--before", "2", "--into", f"{path}.new"],
+        ["init"],
+    ):
+        came = world.run(
+            subcommand, "--config", ledger_settings(world, path, offset=60, log="off"), *words
+        )
         # (that nothing answers is no matter of the settings)
-        asked = f"{unreached('127.0.0.1:1')}mailquota: quota service unavailable\n" if subcommand == "status" else ""
-        checks.equal(f"a log of nothing: {subcommand}", came, (1, b"", f"{asked}mailquota: {NOT_OURS if subcommand == 'init' else ANOTHER_ZONE}\n"))
+        asked = (
+            f"{unreached('127.0.0.1:1')}mailquota: quota service unavailable\n"
+            if subcommand == "status"
+            else ""
+        )
+        checks.equal(
+            f"a log of nothing: {subcommand}",
+            came,
+            (1, b"", f"{asked}mailquota: {NOT_OURS if subcommand == 'init' else ANOTHER_ZONE}\n"),
+        )
 
 
 def addresses_of_settings(world, checks):
@@ -121,9 +260,17 @@ def addresses_of_settings(world, checks):
     filters, servers = {"host": "mx1"}, {"store": "memory", "default": 3, "offset": 0}
     for subcommand, key, others in [("filter", "server", filters), ("server", "listen", servers)]:
         for value, lacks in [
-            ("nowhere", NO_PORT), ("", NO_PORT), ("127.0.0.1", NO_PORT), ("[::1]", NO_PORT), ("127.0.0.1:65536", PORT_TOO_LARGE),
-            ("127.0.0.1:", NO_PORT), ("127.0.0.1:4294967296", PORT_TOO_LARGE), ("localhost:65535", NO_NUMERIC_ADDRESS),
-            ("localhost:7025", NO_NUMERIC_ADDRESS), ("::1", NO_NUMERIC_ADDRESS), ("*:7025", NO_NUMERIC_ADDRESS),
+            ("nowhere", NO_PORT),
+            ("", NO_PORT),
+            ("127.0.0.1", NO_PORT),
+            ("[::1]", NO_PORT),
+            ("127.0.0.1:65536", PORT_TOO_LARGE),
+            ("127.0.0.1:", NO_PORT),
+            ("127.0.0.1:4294967296", PORT_TOO_LARGE),
+            ("localhost:65535", NO_NUMERIC_ADDRESS),
+            ("localhost:7025", NO_NUMERIC_ADDRESS),
+            ("::1", NO_NUMERIC_ADDRESS),
+            ("*:7025", NO_NUMERIC_ADDRESS),
             (7025, "bad value, it has to be a numeric address with a port, in quotes"),
         ]:
             refuses_setting(world, checks, subcommand, others, key, value, lacks)
@@ -133,12 +280,21 @@ def refuses_setting(world, checks, subcommand, others, key, value, said):
     """The value of a setting is bad, and the log says why."""
     file = world.new_file(toml({**others, key: value}))
     came = world.run(subcommand, "--config", file)
-    checks.equal(f"{subcommand} with {key} = {value!r}", came, fault(f"setting {key}: bad value", log=of_settings(file, f"setting {key}: {said}")))
+    checks.equal(
+        f"{subcommand} with {key} = {value!r}",
+        came,
+        fault(f"setting {key}: bad value", log=of_settings(file, f"setting {key}: {said}")),
+    )
 
 
 def values_of_settings(world, checks):
     """What each key's value has to be, where it isn't."""
-    filters, servers = {"host": "mx1", "server": "127.0.0.1:7025"}, {"listen": "127.0.0.1:7025", "store": "memory", "default": 3, "offset": 0}
+    filters, servers = {"host": "mx1", "server": "127.0.0.1:7025"}, {
+        "listen": "127.0.0.1:7025",
+        "store": "memory",
+        "default": 3,
+        "offset": 0,
+    }
     for subcommand, others, key, value, wanted in [
         ("filter", filters, "host", "a_b", "1 to 64 letters, digits, '.' and '-', in quotes"),
         ("filter", filters, "tries", 11, "a whole number from 1 to 10"),
@@ -147,33 +303,67 @@ def values_of_settings(world, checks):
         ("server", servers, "store", "", "'memory' or the path of a file, in quotes"),
         ("server", servers, "default", 1_000_001, "a whole number from 0 to 1000000"),
         ("server", servers, "offset", 1440, "a whole number of minutes from -1439 to 1439"),
-        ("server", servers, "rule", "UTC0", "a zone rule of at most 64 bytes, in quotes, in place of an offset"),
+        (
+            "server",
+            servers,
+            "rule",
+            "UTC0",
+            "a zone rule of at most 64 bytes, in quotes, in place of an offset",
+        ),
     ]:
-        refuses_setting(world, checks, subcommand, others, key, value, f"bad value, it has to be {wanted}")
+        refuses_setting(
+            world, checks, subcommand, others, key, value, f"bad value, it has to be {wanted}"
+        )
 
 
 def files_of_settings(world, checks):
-    """The line of the log names the file of settings at fault, also where it says no more than the last line."""
+    """The line of the log names the file of settings at fault, also where it says no more than the
+    last line."""
     filters = {"host": "mx1", "server": "127.0.0.1:7025"}
     for said, text in [
-        ("setting port: unknown", toml({**filters, "port": 1})), ("setting server: missing", toml({"host": "mx1"})), ("settings too large", "#" * 65_537),
+        ("setting port: unknown", toml({**filters, "port": 1})),
+        ("setting server: missing", toml({"host": "mx1"})),
+        ("settings too large", "#" * 65_537),
     ]:
         file = world.new_file(text)
-        checks.equal(f"filter: {said}", world.run("filter", "--config", file), fault(said, log=of_settings(file, said)))
+        checks.equal(
+            f"filter: {said}",
+            world.run("filter", "--config", file),
+            fault(said, log=of_settings(file, said)),
+        )
 
 
 def rows_of_no_ledger(world, checks):
-    """A repeat of a request whose stored reply spells nothing ends the server, with what is wrong."""
+    """A repeat of a request whose stored reply spells nothing ends the server, with what is
+    wrong."""
     source, _ = left_by_a_server(world, "rows", wire.reserve(1) + wire.reserve(2))
     path = edited(world, source, "rows-of-nothing", "UPDATE answer SET reply = x'ff' WHERE n = 2")
     with Server(world, store=path) as server:
-        checks.equal("a row that spells nothing: what is right", server.ask(wire.reserve(1)), wire.granted(1, 1))
+        checks.equal(
+            "a row that spells nothing: what is right",
+            server.ask(wire.reserve(1)),
+            wire.granted(1, 1),
+        )
         checks.equal("a row that spells nothing: the reply", server.ask(wire.reserve(2)), b"")
-        status, lines = server.status(), [re.sub(r"127\.0\.0\.1:\d+", "PEER", line) for line in server.log_lines()]
-        wanted = "[ERROR mq_connections::room] connection of PEER: store failed", of_store(path, "rows are none of a ledger's")[:-1], "mailquota: store failed"
-        checks.equal("a row that spells nothing: the end, and what is logged of it", (status, lines), (1, [*wanted]))
+        status, lines = server.status(), [
+            re.sub(r"127\.0\.0\.1:\d+", "PEER", line) for line in server.log_lines()
+        ]
+        wanted = (
+            "[ERROR mq_connections::room] connection of PEER: store failed",
+            of_store(path, "rows are none of a ledger's")[:-1],
+            "mailquota: store failed",
+        )
+        checks.equal(
+            "a row that spells nothing: the end, and what is logged of it",
+            (status, lines),
+            (1, [*wanted]),
+        )
     with Server(world, store=path) as server:
-        checks.equal("a row that spells nothing, asked for behind one that is right: the reply", server.ask(wire.reserve(1) + wire.reserve(2)), wire.granted(1, 1))
+        checks.equal(
+            "a row that spells nothing, asked for behind one that is right: the reply",
+            server.ask(wire.reserve(1) + wire.reserve(2)),
+            wire.granted(1, 1),
+        )
 
 
 def forgets_no_such_rows(world, checks):
@@ -181,26 +371,50 @@ def forgets_no_such_rows(world, checks):
     source, _ = left_by_a_server(world, "carried", wire.reserve(1) + wire.reserve(2))
     path = edited(world, source, "carried-nothing", "UPDATE answer SET reply = x'ff' WHERE n = 2")
     into = f"{path}.new"
-    came = world.run("forget", "--config", ledger_settings(world, path), "--before", "1", "--into", into)
-    log = f"[ERROR mq_program::forgetting] {into}, made of {path}: rows are none of a ledger's\n[ERROR mq_program::forgetting] remove {into} and {into}-wal\n"
-    checks.equal("forget of a row that spells nothing", came, (1, b"", f"{log}mailquota: store failed\n"))
-    came = world.run("forget", "--config", ledger_settings(world, source, log="info"), "--before", "1", "--into", f"{source}.new")
-    log = f"[INFO  mq_program::forgetting] {source}.new takes over what {source} has from day 1 on\n"
+    came = world.run(
+        "forget", "--config", ledger_settings(world, path), "--before", "1", "--into", into
+    )
+    log = (
+        f"[ERROR mq_program::forgetting] {into}, made of {path}: rows are none of a"
+        f" ledger's\n[ERROR mq_program::forgetting] remove {into} and {into}-wal\n"
+    )
+    checks.equal(
+        "forget of a row that spells nothing", came, (1, b"", f"{log}mailquota: store failed\n")
+    )
+    came = world.run(
+        "forget",
+        "--config",
+        ledger_settings(world, source, log="info"),
+        "--before",
+        "1",
+        "--into",
+        f"{source}.new",
+    )
+    log = (
+        f"[INFO  mq_program::forgetting] {source}.new takes over what {source} has from day 1 on\n"
+    )
     checks.equal('forget with log = "info"', came, (0, b"kept answers=2 of 2, limits=0\n", log))
 
 
 def memory(world, checks):
     """A ledger in memory can be asked of its server alone."""
     with nobody_there() as address:
-        file = world.new_file(toml({"listen": address, "store": "memory", "default": 3, "offset": 0}))
+        file = world.new_file(
+            toml({"listen": address, "store": "memory", "default": 3, "offset": 0})
+        )
         came = world.run("status", "--config", file)
-    wanted = 1, b"", f"{unreached(address)}mailquota: quota service unavailable\nmailquota: store is memory\n"
+    wanted = (
+        1,
+        b"",
+        f"{unreached(address)}mailquota: quota service unavailable\nmailquota: store is memory\n",
+    )
     checks.equal("status of a ledger in memory, nobody there", came, wanted)
 
 
 def on_a_terminal(world, *words, held_up=0, times=None):
-    """The status of a run whose standard error is a terminal, its output, and what came on the terminal, and when. Where it is to be held up, it is stopped
-    for so many seconds once it has said something."""
+    """The status of a run whose standard error is a terminal, its output, and what came on the
+    terminal, and when. Where it is to be held up, it is stopped for so many seconds once it has
+    said something."""
     ours, theirs = pty.openpty()
     said = []
 
@@ -214,7 +428,9 @@ def on_a_terminal(world, *words, held_up=0, times=None):
             # (a terminal that nobody has open any more)
             pass
 
-    process = subprocess.Popen([world.program, *words], stdin=subprocess.DEVNULL, stdout=subprocess.PIPE, stderr=theirs)
+    process = subprocess.Popen(
+        [world.program, *words], stdin=subprocess.DEVNULL, stdout=subprocess.PIPE, stderr=theirs
+    )
     os.close(theirs)
     reading = threading.Thread(target=read, daemon=True)
     reading.start()
@@ -230,20 +446,62 @@ def on_a_terminal(world, *words, held_up=0, times=None):
 
 
 def progress(world, checks):
-    """`forget` says on a terminal how many answers it looks through, where that takes a second or more, and so in the end how many it kept, and how long
-    that took."""
+    """`forget` says on a terminal how many answers it looks through, where that takes a second or
+    more, and so in the end how many it kept, and how long that took."""
     few, _ = left_by_a_server(world, "few", wire.reserve(1) + wire.reserve(2, txn=2, at=172_800))
     path, half, times, start = many(world), MANY // 2, [], time.monotonic()
     config = ledger_settings(world, path, default=1_000_000)
-    status, output, said = on_a_terminal(world, "forget", "--config", config, "--before", "2", "--into", f"{path}.new", held_up=HELD_UP, times=times)
+    status, output, said = on_a_terminal(
+        world,
+        "forget",
+        "--config",
+        config,
+        "--before",
+        "2",
+        "--into",
+        f"{path}.new",
+        held_up=HELD_UP,
+        times=times,
+    )
     least, most = times[-1] - times[0] - 1, times[-1] - start
-    checks.equal("forget of many answers on a terminal: what it prints", (status, output), (0, f"kept answers={half} of {MANY}, limits=0\n".encode()))
-    lines = re.fullmatch(rf"{MANY} answers to look through, in up to about 2 s\n{half} of {MANY} answers kept, in ([0-9]+) s\n", said)
-    checks.holds("forget of many answers on a terminal: what it says there", lines, "how many to look through, and how many it kept", said)
+    checks.equal(
+        "forget of many answers on a terminal: what it prints",
+        (status, output),
+        (0, f"kept answers={half} of {MANY}, limits=0\n".encode()),
+    )
+    lines = re.fullmatch(
+        (
+            rf"{MANY} answers to look through, in up to about 2 s\n{half} of {MANY} answers kept,"
+            r" in ([0-9]+) s\n"
+        ),
+        said,
+    )
+    checks.holds(
+        "forget of many answers on a terminal: what it says there",
+        lines,
+        "how many to look through, and how many it kept",
+        said,
+    )
     good = lines and least <= int(lines[1]) <= most
-    checks.holds("forget of many answers on a terminal: how long it says that it took", good, f"{least:.1f} to {most:.1f} s", said)
-    came = on_a_terminal(world, "forget", "--config", ledger_settings(world, few), "--before", "2", "--into", f"{few}.new")
-    checks.equal("forget of two answers on a terminal", came, (0, b"kept answers=1 of 2, limits=0\n", ""))
+    checks.holds(
+        "forget of many answers on a terminal: how long it says that it took",
+        good,
+        f"{least:.1f} to {most:.1f} s",
+        said,
+    )
+    came = on_a_terminal(
+        world,
+        "forget",
+        "--config",
+        ledger_settings(world, few),
+        "--before",
+        "2",
+        "--into",
+        f"{few}.new",
+    )
+    checks.equal(
+        "forget of two answers on a terminal", came, (0, b"kept answers=1 of 2, limits=0\n", "")
+    )
 
 
 def many(world):
@@ -252,5 +510,15 @@ def many(world):
     with Server(world, words=["--create"], store=path, default=1_000_000) as server:
         for first in range(0, MANY, 5_000):
             numbers = range(first + 1, first + 5_001)
-            server.ask(b"".join(wire.reserve(n, txn=n, login=b"%d" % (n % 5_000), at=86_400 * (1 if n <= MANY // 2 else 2)) for n in numbers))
+            server.ask(
+                b"".join(
+                    wire.reserve(
+                        n,
+                        txn=n,
+                        login=b"%d" % (n % 5_000),
+                        at=86_400 * (1 if n <= MANY // 2 else 2),
+                    )
+                    for n in numbers
+                )
+            )
     return path

@@ -1,4 +1,5 @@
-"""A ledger's file of which a bit has changed: the next start refuses it, or its books are as before. And what SQLite itself reads and writes."""
+"""A ledger's file of which a bit has changed: the next start refuses it, or its books are as
+before. And what SQLite itself reads and writes."""
 import collections
 import contextlib
 import os
@@ -31,7 +32,8 @@ def run(world, checks):
 
 
 def of_some_answers(world, checks):
-    """A file of several pages that a server left which came to its end, the requests in it, and what they come to."""
+    """A file of several pages that a server left which came to its end, the requests in it, and
+    what they come to."""
     path, books = f"{world.folder}/damage", Books(0, DEFAULT)
     frames = requests(400)
     with Server(world, connections=1, words=["--create"], store=path, default=DEFAULT) as server:
@@ -39,15 +41,24 @@ def of_some_answers(world, checks):
         checks.equal("the server ends", server.status(), 0)
     # (SQLite writes its log back into a file that it closes)
     with contextlib.closing(sqlite3.connect(path)) as database:
-        checks.equal("the version, by SQLite", database.execute("SELECT version FROM setting").fetchall(), [(3,)])
+        checks.equal(
+            "the version, by SQLite",
+            database.execute("SELECT version FROM setting").fetchall(),
+            [(3,)],
+        )
     return path, frames, books
 
 
 def requests(count):
-    """So many of several logins and days, each under a number of its own: a reserve and a settle in turn, and some limits."""
+    """So many of several logins and days, each under a number of its own: a reserve and a settle in
+    turn, and some limits."""
     frames = []
     for number in range(2, count + 2):
-        its = {"txn": number - number % 2, "login": LOGINS[number % 6 // 2], "at": 86_400 * (1 + number % 10 // 2)}
+        its = {
+            "txn": number - number % 2,
+            "login": LOGINS[number % 6 // 2],
+            "at": 86_400 * (1 + number % 10 // 2),
+        }
         frames.append(settle(number, **its) if number % 2 else reserve(number, **its))
         if number % 50 == 0:
             frames[-1] = limit(number, 0, DEFAULT + number, login=its["login"])
@@ -56,8 +67,14 @@ def requests(count):
 
 def a_file_with_sums(checks, path, books):
     content = content_of(path)
-    checks.equal("a new file: whether it has sums, and pages whose sums are wrong", (has_sums(content), wrong_pages(content)), (True, []))
-    checks.holds("a new file: its size", len(content) > 10 * 4_096, "more than ten pages", len(content))
+    checks.equal(
+        "a new file: whether it has sums, and pages whose sums are wrong",
+        (has_sums(content), wrong_pages(content)),
+        (True, []),
+    )
+    checks.holds(
+        "a new file: its size", len(content) > 10 * 4_096, "more than ten pages", len(content)
+    )
     same_rows(checks, "a new file, by SQLite", path, books)
 
 
@@ -80,7 +97,11 @@ def with_changed_bit(world, path, end, place, bit):
     """A copy of a file and its log, in one of which a bit is changed."""
     copy = f"{world.folder}/changed"
     for name in ("", "-wal"):
-        shutil.copy(path + name, copy + name) if os.path.exists(path + name) else open(copy + name, "wb").close()
+        (
+            shutil.copy(path + name, copy + name)
+            if os.path.exists(path + name)
+            else open(copy + name, "wb").close()
+        )
     with open(copy + end, "r+b") as file:
         file.seek(place)
         byte = file.read(1)[0]
@@ -103,18 +124,31 @@ def changed_bits(world, checks, path, books):
         copy = with_changed_bit(world, path, "", place, bit)
         came = audit(world, copy)
         harmless = came == sound(books) and has_rows(copy, books)
-        outcomes["as before" if harmless else "refused" if came in refused(copy) else "another end"] += 1
+        outcomes[
+            "as before" if harmless else "refused" if came in refused(copy) else "another end"
+        ] += 1
         if came not in refused(copy) and not harmless:
             wrong.append((place, bit, came))
     checks.equal(f"{CHANGES} changed bits of a file: neither refused nor harmless", wrong, [])
-    checks.holds(f"{CHANGES} changed bits of a file: refused", outcomes["refused"] > CHANGES // 2, "more than a half", outcomes)
+    checks.holds(
+        f"{CHANGES} changed bits of a file: refused",
+        outcomes["refused"] > CHANGES // 2,
+        "more than a half",
+        outcomes,
+    )
     copy = with_changed_bit(world, path, "", size // 2, 3)
     came = world.run("server", "--config", ledger_settings(world, copy, default=DEFAULT))
-    checks.holds("a server over a changed bit", came in refused(copy), "refused, with the path and what is wrong with it", came)
+    checks.holds(
+        "a server over a changed bit",
+        came in refused(copy),
+        "refused, with the path and what is wrong with it",
+        came,
+    )
 
 
 def changed_bits_of_the_log(world, checks, frames):
-    """The answers before the changed bit are there, and perhaps none after it: as SQLite itself takes such a log."""
+    """The answers before the changed bit are there, and perhaps none after it: as SQLite itself
+    takes such a log."""
     path = f"{world.folder}/killed"
     with Server(world, words=["--create"], store=path, default=DEFAULT) as server:
         server.ask(b"".join(frames[:40]))
@@ -137,7 +171,12 @@ def changed_bits_of_the_log(world, checks, frames):
         elif status != 1:
             wrong.append(status)
     checks.equal("changed bits of a log: books that aren't those of its first answers", wrong, [])
-    checks.holds("changed bits of a log: answers that are left", len(found) > 4 and min(found) < 40, "fewer than 40 in one of several", found)
+    checks.holds(
+        "changed bits of a log: answers that are left",
+        len(found) > 4 and min(found) < 40,
+        "fewer than 40 in one of several",
+        found,
+    )
 
 
 def what_a_start_logs(world, checks, path, books):
@@ -145,7 +184,9 @@ def what_a_start_logs(world, checks, path, books):
         server.ask(page())
         server.status()
         limits = sum(map(len, books.limits.values()))
-        wanted = begun(path, default=DEFAULT, answers=len(books.answers), days=len(books.usage), limits=limits)
+        wanted = begun(
+            path, default=DEFAULT, answers=len(books.answers), days=len(books.usage), limits=limits
+        )
         checks.equal("the first line of the log", without_time(server.log_lines())[0], wanted)
 
 
@@ -161,6 +202,12 @@ def a_file_without_sums(world, checks, path, frames, books):
     checks.equal("a file without sums: audit", audit(world, plain), sound(books))
     more = reserve(1_000, txn=1_000, login=b"new")
     with Server(world, store=plain, default=DEFAULT) as server:
-        checks.equal("a file without sums: replies", server.ask(frames[0] + frames[-1] + more + page()), books.serve(frames[0] + frames[-1] + more + page()))
+        checks.equal(
+            "a file without sums: replies",
+            server.ask(frames[0] + frames[-1] + more + page()),
+            books.serve(frames[0] + frames[-1] + more + page()),
+        )
     same_rows(checks, "a file without sums, by SQLite", plain, books)
-    checks.equal("a file without sums: whether it has some then", has_sums(content_of(plain)), False)
+    checks.equal(
+        "a file without sums: whether it has some then", has_sums(content_of(plain)), False
+    )

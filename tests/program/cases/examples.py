@@ -1,4 +1,5 @@
-"""`make demo` over the program, also over one that answers something else, what `make install` puts where, and in what order `make build` proves."""
+"""`make demo` over the program, also over one that answers something else, what `make install` puts
+where, and in what order `make build` proves."""
 import os
 import re
 import shutil
@@ -36,7 +37,13 @@ its reply: 001381016100000000000000010000000100000001
 all as it is to be
 """
 # what the program is in turn: a command that does nothing, with a status of its own
-OTHERWISE = {"report": "exit 0", "stop": "echo 'stopped: bob used 1 on day 1'", "filter": "exit 1", "server": "exit 1", "replay": "echo 00"}
+OTHERWISE = {
+    "report": "exit 0",
+    "stop": "echo 'stopped: bob used 1 on day 1'",
+    "filter": "exit 1",
+    "server": "exit 1",
+    "replay": "echo 00",
+}
 INSTALLED = {
     "lib/systemd/system/mailquota.service": 0o644,
     "libexec/mailquota/await-server": 0o755,
@@ -82,7 +89,11 @@ def demo(program):
 
 def a_day(world, checks):
     came = demo(world.program)
-    for pattern, name in ((r"made \S+/ledger", "made FOLDER/ledger"), (r"127\.0\.0\.1:\d+", "ADDRESS"), (r"on day \d{5}\b", "on day TODAY")):
+    for pattern, name in (
+        (r"made \S+/ledger", "made FOLDER/ledger"),
+        (r"127\.0\.0\.1:\d+", "ADDRESS"),
+        (r"on day \d{5}\b", "on day TODAY"),
+    ):
         came.stdout = re.sub(pattern, name, came.stdout)
     checks.equal("the demo: status and what is said", (came.returncode, came.stderr), (0, ""))
     checks.equal("the demo: what it prints", came.stdout.splitlines(), DAY.splitlines())
@@ -92,36 +103,75 @@ def a_day_of_another_program(world, checks):
     for command, does in OTHERWISE.items():
         path = f"{world.folder}/without-{command}"
         with open(path, "w", encoding="ascii") as file:
-            file.write(f'#!/bin/sh\nif [ "$1" = {command} ]; then {does}; else exec {world.program} "$@"; fi\n')
+            file.write(
+                f'#!/bin/sh\nif [ "$1" = {command} ]; then {does}; else exec {world.program} "$@";'
+                " fi\n"
+            )
         os.chmod(path, 0o755)
         came = demo(path)
-        good = came.returncode == 1 and "not as it is to be: " in came.stderr and "all as it is to be" not in came.stdout
-        checks.holds(f"the demo over a program whose {command} is wrong", good, "status 1, and what was wanted", came.stderr[-200:])
+        good = (
+            came.returncode == 1
+            and "not as it is to be: " in came.stderr
+            and "all as it is to be" not in came.stdout
+        )
+        checks.holds(
+            f"the demo over a program whose {command} is wrong",
+            good,
+            "status 1, and what was wanted",
+            came.stderr[-200:],
+        )
 
 
 def installed(world, checks):
     for prefix in ("/usr/local", "/opt/quota"):
         tree = f"{world.folder}/tree{prefix.replace('/', '-')}"
-        words = ["make", "-s", "-C", TOP, "install", f"PROGRAM={os.path.realpath(world.program)}", f"DESTDIR={tree}", f"PREFIX={prefix}"]
+        words = [
+            "make",
+            "-s",
+            "-C",
+            TOP,
+            "install",
+            f"PROGRAM={os.path.realpath(world.program)}",
+            f"DESTDIR={tree}",
+            f"PREFIX={prefix}",
+        ]
         # (`make check` may run this)
-        environment = {key: value for key, value in os.environ.items() if not key.startswith("MAKE") and key != "MFLAGS"}
-        came = subprocess.run(words, stdin=subprocess.DEVNULL, capture_output=True, text=True, env=environment)
+        environment = {
+            key: value
+            for key, value in os.environ.items()
+            if not key.startswith("MAKE") and key != "MFLAGS"
+        }
+        came = subprocess.run(
+            words, stdin=subprocess.DEVNULL, capture_output=True, text=True, env=environment
+        )
         checks.equal(f"make install PREFIX={prefix}", (came.returncode, came.stderr), (0, ""))
         found = {}
         for folder, _, names in os.walk(tree):
             for name in names:
                 path = f"{folder}/{name}"
-                found[os.path.relpath(path, f"{tree}{prefix}")] = stat.S_IMODE(os.stat(path).st_mode)
-        checks.equal(f"make install PREFIX={prefix}: files with their modes", dict(sorted(found.items())), INSTALLED)
+                found[os.path.relpath(path, f"{tree}{prefix}")] = stat.S_IMODE(
+                    os.stat(path).st_mode
+                )
+        checks.equal(
+            f"make install PREFIX={prefix}: files with their modes",
+            dict(sorted(found.items())),
+            INSTALLED,
+        )
         # (INSTALL and OPERATING speak of the package)
         own = [it for it in found if it != "sbin/mailquota" and not it.endswith(".md")]
         texts = {it: open(f"{tree}{prefix}/{it}", encoding="utf-8").read() for it in own}
-        wrong = [it for it, text in texts.items() if re.search(r'(?<!\w)/usr/(sbin|libexec|share/doc)/|proc-exec "filter-', text)]
-        checks.equal(f"make install PREFIX={prefix}: files that name the package's folders", wrong, [])
+        wrong = [
+            it
+            for it, text in texts.items()
+            if re.search(r'(?<!\w)/usr/(sbin|libexec|share/doc)/|proc-exec "filter-', text)
+        ]
+        checks.equal(
+            f"make install PREFIX={prefix}: files that name the package's folders", wrong, []
+        )
 
 
-# commands rt, rattle and rattle-link that prove and link nothing: rattle wants each library that it is given to be there, and notes when it begins and ends
-# with a crate
+# commands rt, rattle and rattle-link that prove and link nothing: rattle wants each library that it
+# is given to be there, and notes when it begins and ends with a crate
 RT = "#!/bin/sh\necho kit\n"
 RATTLE = """#!/bin/sh
 crate=$3
@@ -139,8 +189,24 @@ while [ "$1" != -o ]; do shift; done
 touch "$2"
 echo links >>{folder}/noted
 """
-CRATES = {"low": [], "left": ["low"], "right": ["low"], "mailquota": ["left", "right"], "further": ["low"]}
-ALL_BUILT = ["begins left build", "begins low build", "begins mailquota build", "begins right build", "ends left", "ends low", "ends mailquota", "ends right", "links"]
+CRATES = {
+    "low": [],
+    "left": ["low"],
+    "right": ["low"],
+    "mailquota": ["left", "right"],
+    "further": ["low"],
+}
+ALL_BUILT = [
+    "begins left build",
+    "begins low build",
+    "begins mailquota build",
+    "begins right build",
+    "ends left",
+    "ends low",
+    "ends mailquota",
+    "ends right",
+    "links",
+]
 
 
 def write(path, text):
@@ -157,7 +223,10 @@ def a_build(world, checks):
     for crate in CRATES:
         os.makedirs(f"{folder}/crates/{crate}/src")
         write(f"{folder}/crates/{crate}/src/{'main' if crate == 'mailquota' else 'lib'}.rt", crate)
-    write(f"{folder}/crates.txt", "".join(f"{crate}: {' '.join([*below, 'thiserror'])}\n" for crate, below in CRATES.items()))
+    write(
+        f"{folder}/crates.txt",
+        "".join(f"{crate}: {' '.join([*below, 'thiserror'])}\n" for crate, below in CRATES.items()),
+    )
     os.makedirs(f"{folder}/kit/bin")
     for name, text in (("rt", RT), ("rattle", RATTLE), ("rattle-link", LINK)):
         write(f"{folder}/kit/bin/{name}", text.format(folder=folder))
@@ -168,38 +237,93 @@ def a_build(world, checks):
         write(f"{folder}/fails", fails)
         write(f"{folder}/noted", "")
         environment = {**os.environ, "RT": f"{folder}/kit/bin/rt"}
-        came = subprocess.run([sys.executable, f"{folder}/scripts/build.py"], env=environment, capture_output=True, text=True)
+        came = subprocess.run(
+            [sys.executable, f"{folder}/scripts/build.py"],
+            env=environment,
+            capture_output=True,
+            text=True,
+        )
         with open(f"{folder}/noted", encoding="ascii") as it:
             return came.returncode, came.stdout, came.stderr, it.read().splitlines()
 
     def in_order(noted):
-        return all(noted.index(f"ends {low}") < place for place, it in enumerate(noted) if it.startswith("begins ") for low in CRATES[it.split()[1]])
+        return all(
+            noted.index(f"ends {low}") < place
+            for place, it in enumerate(noted)
+            if it.startswith("begins ")
+            for low in CRATES[it.split()[1]]
+        )
 
     status, output, _, noted = build()
-    checks.equal("make build: each crate of the program once, and the program linked last", (sorted(noted), noted[-1:]), (ALL_BUILT, ["links"]))
+    checks.equal(
+        "make build: each crate of the program once, and the program linked last",
+        (sorted(noted), noted[-1:]),
+        (ALL_BUILT, ["links"]),
+    )
     checks.equal("make build: each after those below it", (status, in_order(noted)), (0, True))
     said = re.sub(r" in [0-9.]+ ", " in N ", output).splitlines()
-    wanted = (["low: begun", "low: done in N s, 1 of 4"], ["mailquota: begun", "mailquota: done in N s, 4 of 4", "4 crates in N minutes", "built crates/mailquota/out/mailquota"])
+    wanted = (
+        ["low: begun", "low: done in N s, 1 of 4"],
+        [
+            "mailquota: begun",
+            "mailquota: done in N s, 4 of 4",
+            "4 crates in N minutes",
+            "built crates/mailquota/out/mailquota",
+        ],
+    )
     checks.equal("make build: what it says first and last", (said[:2], said[-4:]), wanted)
-    checks.equal("make build again, with no change", build(), (0, "built crates/mailquota/out/mailquota\n", "", []))
+    checks.equal(
+        "make build again, with no change",
+        build(),
+        (0, "built crates/mailquota/out/mailquota\n", "", []),
+    )
     write(f"{folder}/crates/left/src/lib.rt", "more")
     status, _, errors, noted = build(fails="left")
-    checks.equal("make build, where one isn't proved: status, why, and the program isn't begun", (status, "no proof of left" in errors, noted), (1, True, ["begins left build"]))
+    checks.equal(
+        "make build, where one isn't proved: status, why, and the program isn't begun",
+        (status, "no proof of left" in errors, noted),
+        (1, True, ["begins left build"]),
+    )
     status, _, _, noted = build()
     above = ["begins left build", "ends left", "begins mailquota build", "ends mailquota", "links"]
-    checks.equal("make build, once it is proved: what changed, and what stands on it", (status, noted), (0, above))
+    checks.equal(
+        "make build, once it is proved: what changed, and what stands on it",
+        (status, noted),
+        (0, above),
+    )
     os.remove(f"{folder}/crates/low/out/build/low.rlib")
     status, _, _, noted = build()
-    checks.equal("make build, with a library gone: all that stands on it", (status, sorted(noted)), (0, ALL_BUILT))
+    checks.equal(
+        "make build, with a library gone: all that stands on it",
+        (status, sorted(noted)),
+        (0, ALL_BUILT),
+    )
     # (an archive of `make dist` says of which commit it is)
     version = 'pub const VERSION: &str = "{}";'
     write(f"{folder}/crates/mailquota/src/version.rt", f"{version.format('1.2.3')}\n")
     write(f"{folder}/COMMIT", f"{'0123456789' * 4}\n")
     status, _, _, noted = build()
-    of_program = ["begins mailquota build", version.format("1.2.3 (012345678901)"), "ends mailquota", "links"]
-    checks.equal("make build, of a commit: what is proved of the program has it in its version", (status, noted), (0, of_program))
+    of_program = [
+        "begins mailquota build",
+        version.format("1.2.3 (012345678901)"),
+        "ends mailquota",
+        "links",
+    ]
+    checks.equal(
+        "make build, of a commit: what is proved of the program has it in its version",
+        (status, noted),
+        (0, of_program),
+    )
     with open(f"{folder}/crates/mailquota/src/version.rt", encoding="ascii") as it:
-        checks.equal("make build, of a commit: the source stays as it is", it.read(), f"{version.format('1.2.3')}\n")
+        checks.equal(
+            "make build, of a commit: the source stays as it is",
+            it.read(),
+            f"{version.format('1.2.3')}\n",
+        )
     checks.equal("make build of that commit again", build()[3], [])
     os.remove(f"{folder}/COMMIT")
-    checks.equal("make build, of no commit: the version alone", build()[3], [of_program[0], version.format("1.2.3"), *of_program[2:]])
+    checks.equal(
+        "make build, of no commit: the version alone",
+        build()[3],
+        [of_program[0], version.format("1.2.3"), *of_program[2:]],
+    )

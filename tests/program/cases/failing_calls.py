@@ -1,4 +1,5 @@
-"""A call of the system on a ledger's file fails, another one in each run: all lines that a command or a server says of it, and that it prints nothing."""
+"""A call of the system on a ledger's file fails, another one in each run: all lines that a command
+or a server says of it, and that it prints nothing."""
 import errno
 import os
 import re
@@ -21,7 +22,9 @@ FAILED, UNOPENED = "disk I/O error", "unable to open database file"
 
 
 def run(world, checks):
-    source, _ = left_by_a_server(world, "failing", wire.reserve(1) + wire.limit(2, 1, 2) + wire.reserve(3, txn=2, at=172_800))
+    source, _ = left_by_a_server(
+        world, "failing", wire.reserve(1) + wire.limit(2, 1, 2) + wire.reserve(3, txn=2, at=172_800)
+    )
     of_commands(world, checks, source)
     of_a_forget(world, checks, source)
     of_requests(world, checks, source)
@@ -29,10 +32,15 @@ def run(world, checks):
 
 
 def places(calls, name, first=0):
-    """Which calls of a name are to fail, of those that a run made: the first, the last, and some between, from this one on."""
+    """Which calls of a name are to fail, of those that a run made: the first, the last, and some
+    between, from this one on."""
     first = max(first, OF_LOADING.get(name, 0))
     count = sum(call.number == CALLS[name] for call in calls) - first
-    return sorted({first + count * place // PLACES for place in range(PLACES)} | {first + count - 1}) if count > 0 else []
+    return (
+        sorted({first + count * place // PLACES for place in range(PLACES)} | {first + count - 1})
+        if count > 0
+        else []
+    )
 
 
 def failing(name, before):
@@ -41,7 +49,8 @@ def failing(name, before):
 
 
 def outcomes(world, run):
-    """How a run ends where one call fails, and of which calls: each outcome with the first that comes to it."""
+    """How a run ends where one call fails, and of which calls: each outcome with the first that
+    comes to it."""
     noted, found = Noted(world), {}
     run(noted.limit)
     calls = noted.calls()
@@ -60,8 +69,10 @@ def removed(path):
 
 
 def of_commands(world, checks, source):
-    """The file's path and what is wrong with it, and then that it can't be opened, or that a ledger can't be made in it."""
+    """The file's path and what is wrong with it, and then that it can't be opened, or that a ledger
+    can't be made in it."""
     for words in (["audit"], ["limits"], ["status"], ["server"], ["server", "--create"]):
+
         def run(limit, words=words):
             path = f"{world.folder}/failing-file"
             if "--create" in words:
@@ -69,41 +80,88 @@ def of_commands(world, checks, source):
             else:
                 copied(source, path)
             with nobody_there() as address:
-                status, output, errors = world.run(words[0], "--config", ledger_settings(world, path, listen=address), *words[1:], limit=limit)
+                status, output, errors = world.run(
+                    words[0],
+                    "--config",
+                    ledger_settings(world, path, listen=address),
+                    *words[1:],
+                    limit=limit,
+                )
             return status, output, errors.replace(address, "ADDRESS").replace(path, "PATH")
 
-        asked = f"{unreached('ADDRESS')}mailquota: quota service unavailable\n" if words == ["status"] else ""
-        wanted = [fault("store can't be opened", log=asked + of_store("PATH", cause)) for cause in (FAILED, UNOPENED)]
+        asked = (
+            f"{unreached('ADDRESS')}mailquota: quota service unavailable\n"
+            if words == ["status"]
+            else ""
+        )
+        wanted = [
+            fault("store can't be opened", log=asked + of_store("PATH", cause))
+            for cause in (FAILED, UNOPENED)
+        ]
         if "--create" in words:
             wanted.append(fault("store failed", log=refusal("PATH", FAILED)))
         found, what = outcomes(world, run), " ".join(words)
-        checks.equal(f"a call on its file fails: how {what} ends otherwise", {it: place for it, place in found.items() if it not in wanted}, {})
-        checks.equal(f"a call on its file fails: {what}, at each of its steps", [it in found for it in wanted], [True] * len(wanted))
+        checks.equal(
+            f"a call on its file fails: how {what} ends otherwise",
+            {it: place for it, place in found.items() if it not in wanted},
+            {},
+        )
+        checks.equal(
+            f"a call on its file fails: {what}, at each of its steps",
+            [it in found for it in wanted],
+            [True] * len(wanted),
+        )
 
 
 def of_a_forget(world, checks, source):
     """Its lines say at which of its two files, and which are to be removed."""
+
     def run(limit):
-        path, into = copied(source, f"{world.folder}/failing-old"), removed(f"{world.folder}/failing-new")
-        status, output, errors = world.run("forget", "--config", ledger_settings(world, path), "--before", "2", "--into", into, limit=limit)
+        path, into = copied(source, f"{world.folder}/failing-old"), removed(
+            f"{world.folder}/failing-new"
+        )
+        status, output, errors = world.run(
+            "forget",
+            "--config",
+            ledger_settings(world, path),
+            "--before",
+            "2",
+            "--into",
+            into,
+            limit=limit,
+        )
         return status, output, errors.replace(path, "OLD").replace(into, "NEW")
 
-    log, remove = "[ERROR mq_program::forgetting] ", "[ERROR mq_program::forgetting] remove NEW and NEW-wal\n"
+    log, remove = (
+        "[ERROR mq_program::forgetting] ",
+        "[ERROR mq_program::forgetting] remove NEW and NEW-wal\n",
+    )
     wanted = {
         "opens the old file": fault("store can't be opened", log=of_store("OLD", UNOPENED)),
         "reads the old file": fault("store can't be opened", log=of_store("OLD", FAILED)),
-        "opens the new file": fault("store can't be opened", log=of_store("NEW", UNOPENED) + remove),
-        "begins or closes the new file": fault("store can't be opened", log=of_store("NEW", FAILED) + remove),
-        "fills the new file": fault("store failed", log=f"{log}NEW, made of OLD: {FAILED}\n{remove}"),
+        "opens the new file": fault(
+            "store can't be opened", log=of_store("NEW", UNOPENED) + remove
+        ),
+        "begins or closes the new file": fault(
+            "store can't be opened", log=of_store("NEW", FAILED) + remove
+        ),
+        "fills the new file": fault(
+            "store failed", log=f"{log}NEW, made of OLD: {FAILED}\n{remove}"
+        ),
     }
     found = outcomes(world, run)
-    checks.equal("a call fails: how forget ends otherwise", {it: place for it, place in found.items() if it not in wanted.values()}, {})
+    checks.equal(
+        "a call fails: how forget ends otherwise",
+        {it: place for it, place in found.items() if it not in wanted.values()},
+        {},
+    )
     for what, its in wanted.items():
         checks.equal(f"a call fails as forget {what}: all of its lines", its in found and its, its)
 
 
 def of_requests(world, checks, source):
-    """A request whose call fails gets no reply, and the server ends: by the connection, by the file, and at last."""
+    """A request whose call fails gets no reply, and the server ends: by the connection, by the
+    file, and at last."""
     frames = [wire.reserve(n, txn=n, at=172_800) for n in (4, 5)]
 
     def run(limit):
@@ -116,40 +174,99 @@ def of_requests(world, checks, source):
                     came.append(peer.recv(100))
                     if not came[-1]:
                         break
-            status, lines = server.status(), [re.sub(r"127\.0\.0\.1:\d+", "PEER", line).replace(path, "PATH") for line in server.log_lines()]
+            status, lines = server.status(), [
+                re.sub(r"127\.0\.0\.1:\d+", "PEER", line).replace(path, "PATH")
+                for line in server.log_lines()
+            ]
         return status, tuple(came), tuple(lines)
 
     start, whole = Noted(world), Noted(world)
-    with Server(world, store=copied(source, f"{world.folder}/failing-served"), connections=1, limit=start.limit) as server:
+    with Server(
+        world,
+        store=copied(source, f"{world.folder}/failing-served"),
+        connections=1,
+        limit=start.limit,
+    ) as server:
         server.connect().close()
         server.status()
     came = run(whole.limit)
     replies = wire.granted(4, 2), wire.full(5, 2, 2)
     checks.equal("two requests, and none of their calls fails", came, (0, replies, ()))
     before, calls = start.calls(), whole.calls()
-    lines = ("[ERROR mq_connections::room] connection of PEER: store failed", of_store("PATH", FAILED)[:-1], "mailquota: store failed")
+    lines = (
+        "[ERROR mq_connections::room] connection of PEER: store failed",
+        of_store("PATH", FAILED)[:-1],
+        "mailquota: store failed",
+    )
     for name in ("pwrite64", "fdatasync"):
         first = sum(call.number == CALLS[name] for call in before)
         found = [run(failing(name, place)) for place in places(calls, name, first)]
-        wrong = [it for it in found if it not in [(1, (*replies[:count], b""), lines) for count in (0, 1)]]
-        checks.equal(f"a {name} of a request fails, at {len(found)} places: how it ends otherwise", (len(found) > 1, wrong), (True, []))
+        wrong = [
+            it
+            for it in found
+            if it not in [(1, (*replies[:count], b""), lines) for count in (0, 1)]
+        ]
+        checks.equal(
+            f"a {name} of a request fails, at {len(found)} places: how it ends otherwise",
+            (len(found) > 1, wrong),
+            (True, []),
+        )
 
 
 def of_sockets(world, checks):
-    """A call on a connection fails: it is ended, and the next one answered. Where the server can't wait for any, it ends."""
+    """A call on a connection fails: it is ended, and the next one answered. Where the server can't
+    wait for any, it ends."""
     # (a server's first call of epoll_ctl is of its listener)
     # (as a connection is ended, what waits is offered once more)
     for what, call, error, before, reply, said in [
-        ("a read that finds no memory", "recvfrom", errno.ENOMEM, 0, b"", "[WARN  mq_connections::room] connection of PEER: out of memory"),
-        ("a read that a reset ends", "recvfrom", errno.ECONNRESET, 0, b"", "[WARN  mq_connections::room] connection of PEER: read failed"),
-        ("a write that fails", "sendto", errno.EPIPE, 0, NOTHING_USED, "[WARN  mq_connections::room] connection of PEER: write failed"),
-        ("a connection that the system doesn't report", "epoll_ctl", errno.ENOMEM, 1, b"", "[WARN  mq_connections::sockets] connection of PEER: Cannot allocate memory (os error 12)"),
+        (
+            "a read that finds no memory",
+            "recvfrom",
+            errno.ENOMEM,
+            0,
+            b"",
+            "[WARN  mq_connections::room] connection of PEER: out of memory",
+        ),
+        (
+            "a read that a reset ends",
+            "recvfrom",
+            errno.ECONNRESET,
+            0,
+            b"",
+            "[WARN  mq_connections::room] connection of PEER: read failed",
+        ),
+        (
+            "a write that fails",
+            "sendto",
+            errno.EPIPE,
+            0,
+            NOTHING_USED,
+            "[WARN  mq_connections::room] connection of PEER: write failed",
+        ),
+        (
+            "a connection that the system doesn't report",
+            "epoll_ctl",
+            errno.ENOMEM,
+            1,
+            b"",
+            (
+                "[WARN  mq_connections::sockets] connection of PEER: Cannot allocate memory (os"
+                " error 12)"
+            ),
+        ),
     ]:
         with Server(world, limit=("failing", f"{OF_SOCKETS[call]},{error},{before}")) as server:
             came = server.ask(wire.usage()), server.ask(wire.usage())
             lines = [re.sub(r"127\.0\.0\.1:\d+", "PEER", line) for line in server.log_lines()]
-        checks.equal(f"{what}: the reply, the next one, and the log", (*came, lines), (reply, NOTHING_USED, [said]))
+        checks.equal(
+            f"{what}: the reply, the next one, and the log",
+            (*came, lines),
+            (reply, NOTHING_USED, [said]),
+        )
     with Server(world, limit=("failing", f"{OF_SOCKETS['epoll_wait']},{errno.EBADF},0")) as server:
         came = server.status(), server.log_lines()
-    lines = ["[ERROR mq_connections::serving] waiting for connections: Bad file descriptor (os error 9)", "mailquota: accept failed"]
+    lines = [
+        "[ERROR mq_connections::serving] waiting for connections: Bad file descriptor (os error 9)",
+        "mailquota: accept failed",
+    ]
     checks.equal("a server that can't wait: its end, and the log", came, (1, lines))

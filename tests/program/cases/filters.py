@@ -5,7 +5,18 @@ import socket
 import subprocess
 import time
 
-from ends import DRIP, LONG, RESET, SECONDS, SILENCE, Script, crowded_port, nobody_there, soon, unreached
+from ends import (
+    DRIP,
+    LONG,
+    RESET,
+    SECONDS,
+    SILENCE,
+    Script,
+    crowded_port,
+    nobody_there,
+    soon,
+    unreached,
+)
 from wire import BAD, RETRY, frame, granted, identity, number, reserve, settled
 
 REGISTRATION = b"".join(
@@ -29,13 +40,19 @@ COMMIT = b"report|0.7|1576146011.006099|smtp-in|tx-commit|7641df9771b4ed00|4c56d
 RESET_LINE = b"report|0.7|1576146012.006099|smtp-in|tx-reset|7641df9771b4ed00|4c56d3a1\n"
 INPUT = CONFIG + AUTH + BEGIN + RCPT
 
-RESERVE = bytes.fromhex("0027" "01" "036d7831" "0000000000000001" "00000001" "00000001" "000000005df21459" "05616c696365" "00000001")
-GRANTED = frame(bytes.fromhex("81" "036d7831" "0000000000000001" "00000001" "00000001"))
-FULL = frame(bytes.fromhex("82" "036d7831" "0000000000000001" "00000001" "00000003" "00000003"))
-SETTLE = bytes.fromhex("0027" "02" "036d7831" "0000000000000001" "00000002" "00000001" "000000005df21459" "05616c696365" "00000001")
-SETTLED = frame(bytes.fromhex("83" "036d7831" "0000000000000001" "00000002" "00000001"))
-RELEASE = bytes.fromhex("0023" "03" "036d7831" "0000000000000001" "00000002" "00000001" "000000005df21459" "05616c696365")
-RELEASED = frame(bytes.fromhex("84" "036d7831" "0000000000000001" "00000002" "00000001"))
+RESERVE = bytes.fromhex(
+    "002701036d783100000000000000010000000100000001000000005df2145905616c69636500000001"
+)
+GRANTED = frame(bytes.fromhex("81036d783100000000000000010000000100000001"))
+FULL = frame(bytes.fromhex("82036d78310000000000000001000000010000000300000003"))
+SETTLE = bytes.fromhex(
+    "002702036d783100000000000000010000000200000001000000005df2145905616c69636500000001"
+)
+SETTLED = frame(bytes.fromhex("83036d783100000000000000010000000200000001"))
+RELEASE = bytes.fromhex(
+    "002303036d783100000000000000010000000200000001000000005df2145905616c696365"
+)
+RELEASED = frame(bytes.fromhex("84036d783100000000000000010000000200000001"))
 MX1 = {"host": b"mx1"}
 
 
@@ -48,19 +65,32 @@ LIMIT = b"reject|550 daily recipient limit reached"
 SERVICE = b"reject|451 quota service unavailable"
 # what the log has of a login whose limit is reached, and of a server that gives no answer
 NAMED = "(host mx1, session 7641df9771b4ed00, login alice)"
-REFUSED_BY_LIMIT = f"[WARN  mq_client::tries] reserve 1 of transaction 1 {NAMED}: refused by the limit, 3 used of 3\n"
+REFUSED_BY_LIMIT = (
+    f"[WARN  mq_client::tries] reserve 1 of transaction 1 {NAMED}: refused by the limit, 3 used"
+    " of 3\n"
+)
 WHY_CLOSED = "[ERROR mq_link::logged] quota server ADDRESS: closed before its reply was whole"
 SERVER = "[WARN  mq_link::logged] quota server ADDRESS:"
-UNANSWERED_RESERVE = f"[INFO  mq_client::tries] reserve 1 of transaction 1 {NAMED}: no answer in 3 tries"
-UNANSWERED_RELEASE = f"[INFO  mq_client::tries] release 2 of transaction 1 {NAMED}: no answer in 3 tries, it waits"
+UNANSWERED_RESERVE = (
+    f"[INFO  mq_client::tries] reserve 1 of transaction 1 {NAMED}: no answer in 3 tries"
+)
+UNANSWERED_RELEASE = (
+    f"[INFO  mq_client::tries] release 2 of transaction 1 {NAMED}: no answer in 3 tries, it waits"
+)
 LEFT = "[WARN  mq_client::filter] the input ends, closings without an answer: 1"
 # replies that refuse a request, and what is logged of them
 OTHER_ANSWERS = {
-    "closed": (b"\x87", "the transaction was closed before"), "mismatch": (b"\x88", "the transaction has another login or moment"),
+    "closed": (b"\x87", "the transaction was closed before"),
+    "mismatch": (b"\x88", "the transaction has another login or moment"),
     "conflict": (b"\x8a", "the number was used by another request"),
 }
 # replies to other requests
-OTHER_REPLIES = {"a reply of another number", "a reply of another host", "a reply of another run", "a reply of another kind"}
+OTHER_REPLIES = {
+    "a reply of another number",
+    "a reply of another host",
+    "a reply of another run",
+    "a reply of another kind",
+}
 # the status and lines of a filter whose reserve got no reply
 UNANSWERED = 0, REGISTRATION + answer(SERVICE)
 
@@ -78,9 +108,12 @@ def run(world, checks):
     a_thousand_recipients(world, checks)
 
 
-def scripted(world, checks, what, text, script, *, results, frames, status=0, errors=None, **settings):
-    """Runs the filter; compares lines written, frames heard and the status, and the errors where they are given. At level info the first line of the log
-    says what begins; it isn't given here."""
+def scripted(
+    world, checks, what, text, script, *, results, frames, status=0, errors=None, **settings
+):
+    """Runs the filter; compares lines written, frames heard and the status, and the errors where
+    they are given. At level info the first line of the log says what begins; it isn't given
+    here."""
     with Script(script) as server:
         came_status, output, came_errors = world.filter(server.address, text, **settings)
     if settings.get("log") == "info":
@@ -96,22 +129,88 @@ def scripted(world, checks, what, text, script, *, results, frames, status=0, er
 def after_the_start(checks, what, errors, address):
     """The log of level info after its first line."""
     first, _, rest = errors.partition("\n")
-    wanted = f"[INFO  mq_remote::subcommands::filter] the filter of host mx1 begins its run 1, with the server {address}"
+    wanted = (
+        "[INFO  mq_remote::subcommands::filter] the filter of host mx1 begins its run 1, with the"
+        f" server {address}"
+    )
     checks.equal(f"{what}: the log's first line", first, wanted)
     return rest
 
 
 def one_recipient(world, checks):
-    scripted(world, checks, "one recipient, granted", INPUT, [GRANTED], results=[answer(PROCEED)], frames=[RESERVE], errors="")
-    scripted(world, checks, "one recipient, full", INPUT, [FULL], results=[answer(LIMIT)], frames=[RESERVE], errors=REFUSED_BY_LIMIT)
+    scripted(
+        world,
+        checks,
+        "one recipient, granted",
+        INPUT,
+        [GRANTED],
+        results=[answer(PROCEED)],
+        frames=[RESERVE],
+        errors="",
+    )
+    scripted(
+        world,
+        checks,
+        "one recipient, full",
+        INPUT,
+        [FULL],
+        results=[answer(LIMIT)],
+        frames=[RESERVE],
+        errors=REFUSED_BY_LIMIT,
+    )
     text = INPUT + COMMIT + RESET_LINE
-    scripted(world, checks, "a commit settles, the reset after it does nothing", text, [GRANTED, SETTLED], results=[answer(PROCEED)], frames=[RESERVE, SETTLE], errors="")
-    scripted(world, checks, "a reset releases", INPUT + RESET_LINE, [GRANTED, RELEASED], results=[answer(PROCEED)], frames=[RESERVE, RELEASE], errors="")
-    scripted(world, checks, "a commit after a full answer releases", INPUT + COMMIT, [FULL, RELEASED], results=[answer(LIMIT)], frames=[RESERVE, RELEASE], errors=REFUSED_BY_LIMIT)
+    scripted(
+        world,
+        checks,
+        "a commit settles, the reset after it does nothing",
+        text,
+        [GRANTED, SETTLED],
+        results=[answer(PROCEED)],
+        frames=[RESERVE, SETTLE],
+        errors="",
+    )
+    scripted(
+        world,
+        checks,
+        "a reset releases",
+        INPUT + RESET_LINE,
+        [GRANTED, RELEASED],
+        results=[answer(PROCEED)],
+        frames=[RESERVE, RELEASE],
+        errors="",
+    )
+    scripted(
+        world,
+        checks,
+        "a commit after a full answer releases",
+        INPUT + COMMIT,
+        [FULL, RELEASED],
+        results=[answer(LIMIT)],
+        frames=[RESERVE, RELEASE],
+        errors=REFUSED_BY_LIMIT,
+    )
     swapped = INPUT.replace(b"|pass|alice", b"|alice|pass")
-    scripted(world, checks, "name before result", swapped, [GRANTED], results=[answer(PROCEED)], frames=[RESERVE], errors="")
+    scripted(
+        world,
+        checks,
+        "name before result",
+        swapped,
+        [GRANTED],
+        results=[answer(PROCEED)],
+        frames=[RESERVE],
+        errors="",
+    )
     again = CONFIG + AUTH.replace(b"alice", b"carol") + AUTH + BEGIN + RCPT
-    scripted(world, checks, "a session that logs in again", again, [GRANTED], results=[answer(PROCEED)], frames=[RESERVE], errors="")
+    scripted(
+        world,
+        checks,
+        "a session that logs in again",
+        again,
+        [GRANTED],
+        results=[answer(PROCEED)],
+        frames=[RESERVE],
+        errors="",
+    )
 
 
 def tries(world, checks):
@@ -139,62 +238,284 @@ def tries(world, checks):
     for what, first in good:
         timeout = 2_000 if first is SILENCE else LONG
         scripted(
-            world, checks, f"{what}, then the grant", INPUT, [first, GRANTED], results=[answer(PROCEED)], frames=[RESERVE] * 2, errors="",
+            world,
+            checks,
+            f"{what}, then the grant",
+            INPUT,
+            [first, GRANTED],
+            results=[answer(PROCEED)],
+            frames=[RESERVE] * 2,
+            errors="",
             timeout=timeout,
         )
     for what, first in good:
         timeout = 300 if first is SILENCE else LONG
         errors = scripted(
-            world, checks, f"{what}, twice, with tries = 2", INPUT, [first, first], results=[answer(SERVICE)], frames=[RESERVE] * 2,
-            timeout=timeout, tries=2, log="info",
+            world,
+            checks,
+            f"{what}, twice, with tries = 2",
+            INPUT,
+            [first, first],
+            results=[answer(SERVICE)],
+            frames=[RESERVE] * 2,
+            timeout=timeout,
+            tries=2,
+            log="info",
         )
         other = what in OTHER_REPLIES
-        said = "no answer in 2 tries, but a reply of another kind or number" if other else "no answer in 2 tries"
-        told(checks, f"{what}, twice", errors, [of_a_try("reserve", 1, said, "WARN " if other else "INFO ")])
-    for what, script in (("a reply of another kind, then none", [settled(1, 1, **MX1), b""]), ("no reply, then one of another kind", [b"", settled(1, 1, **MX1)])):
-        errors = scripted(world, checks, f"{what}, with tries = 2", INPUT, script, results=[answer(SERVICE)], frames=[RESERVE] * 2, tries=2)
-        told(checks, f"{what}, with tries = 2", errors, [of_a_try("reserve", 1, "no answer in 2 tries, but a reply of another kind or number", "WARN ")])
-    scripted(world, checks, "a grant and more bytes", INPUT, [GRANTED + b"more"], results=[answer(PROCEED)], frames=[RESERVE], errors="")
-    scripted(world, checks, "ten tries, the tenth granted", INPUT, [b""] * 9 + [GRANTED], results=[answer(PROCEED)], frames=[RESERVE] * 10, errors="", tries=10)
+        said = (
+            "no answer in 2 tries, but a reply of another kind or number"
+            if other
+            else "no answer in 2 tries"
+        )
+        told(
+            checks,
+            f"{what}, twice",
+            errors,
+            [of_a_try("reserve", 1, said, "WARN " if other else "INFO ")],
+        )
+    for what, script in (
+        ("a reply of another kind, then none", [settled(1, 1, **MX1), b""]),
+        ("no reply, then one of another kind", [b"", settled(1, 1, **MX1)]),
+    ):
+        errors = scripted(
+            world,
+            checks,
+            f"{what}, with tries = 2",
+            INPUT,
+            script,
+            results=[answer(SERVICE)],
+            frames=[RESERVE] * 2,
+            tries=2,
+        )
+        told(
+            checks,
+            f"{what}, with tries = 2",
+            errors,
+            [
+                of_a_try(
+                    "reserve",
+                    1,
+                    "no answer in 2 tries, but a reply of another kind or number",
+                    "WARN ",
+                )
+            ],
+        )
+    scripted(
+        world,
+        checks,
+        "a grant and more bytes",
+        INPUT,
+        [GRANTED + b"more"],
+        results=[answer(PROCEED)],
+        frames=[RESERVE],
+        errors="",
+    )
+    scripted(
+        world,
+        checks,
+        "ten tries, the tenth granted",
+        INPUT,
+        [b""] * 9 + [GRANTED],
+        results=[answer(PROCEED)],
+        frames=[RESERVE] * 10,
+        errors="",
+        tries=10,
+    )
     for what, body in [("closed", b"\x87"), ("mismatch", b"\x88"), ("conflict", b"\x8a")]:
         reply = frame(body + identity(1, **MX1))
-        scripted(world, checks, f"a reserve answered {what}: no second try", INPUT, [reply, GRANTED], results=[answer(SERVICE)], frames=[RESERVE])
+        scripted(
+            world,
+            checks,
+            f"a reserve answered {what}: no second try",
+            INPUT,
+            [reply, GRANTED],
+            results=[answer(SERVICE)],
+            frames=[RESERVE],
+        )
 
 
 def closings(world, checks):
     """A closing waits until a reply decides it, and is sent again with its own bytes."""
     text = INPUT + COMMIT
-    scripted(world, checks, "a settle lost twice", text, [GRANTED, b"", b"", SETTLED], results=[answer(PROCEED)], frames=[RESERVE] + [SETTLE] * 3, errors="")
-    scripted(world, checks, "a settle lost three times is sent at the end", text, [GRANTED, b"", b"", b"", SETTLED], results=[answer(PROCEED)], frames=[RESERVE] + [SETTLE] * 4)
+    scripted(
+        world,
+        checks,
+        "a settle lost twice",
+        text,
+        [GRANTED, b"", b"", SETTLED],
+        results=[answer(PROCEED)],
+        frames=[RESERVE] + [SETTLE] * 3,
+        errors="",
+    )
+    scripted(
+        world,
+        checks,
+        "a settle lost three times is sent at the end",
+        text,
+        [GRANTED, b"", b"", b"", SETTLED],
+        results=[answer(PROCEED)],
+        frames=[RESERVE] + [SETTLE] * 4,
+    )
     lost = [RESERVE] * 3 + [RELEASE] * 6
-    errors = scripted(world, checks, "every reply lost", text, [b""] * 9, results=[answer(SERVICE)], frames=lost, log="info")
-    checks.equal("every reply lost: the log", without_address(errors), [WHY_CLOSED, UNANSWERED_RESERVE, UNANSWERED_RELEASE, UNANSWERED_RELEASE, LEFT])
-    errors = scripted(world, checks, "every reply lost, by the default level", text, [b""] * 9, results=[answer(SERVICE)], frames=lost)
-    checks.equal("every reply lost, by the default level: the log", without_address(errors), [WHY_CLOSED, LEFT])
+    errors = scripted(
+        world,
+        checks,
+        "every reply lost",
+        text,
+        [b""] * 9,
+        results=[answer(SERVICE)],
+        frames=lost,
+        log="info",
+    )
+    checks.equal(
+        "every reply lost: the log",
+        without_address(errors),
+        [WHY_CLOSED, UNANSWERED_RESERVE, UNANSWERED_RELEASE, UNANSWERED_RELEASE, LEFT],
+    )
+    errors = scripted(
+        world,
+        checks,
+        "every reply lost, by the default level",
+        text,
+        [b""] * 9,
+        results=[answer(SERVICE)],
+        frames=lost,
+    )
+    checks.equal(
+        "every reply lost, by the default level: the log",
+        without_address(errors),
+        [WHY_CLOSED, LEFT],
+    )
 
 
 def warnings(world, checks):
     for what, (body, said) in OTHER_ANSWERS.items():
         reply = frame(body + identity(2, **MX1))
-        errors = scripted(world, checks, f"a settle answered {what}", INPUT + COMMIT, [GRANTED, reply], results=[answer(PROCEED)], frames=[RESERVE, SETTLE])
+        errors = scripted(
+            world,
+            checks,
+            f"a settle answered {what}",
+            INPUT + COMMIT,
+            [GRANTED, reply],
+            results=[answer(PROCEED)],
+            frames=[RESERVE, SETTLE],
+        )
         told(checks, f"a settle answered {what}", errors, [of_a_try("settle", 2, said)])
     reply = frame(b"\x89" + identity(2, **MX1) + number(0))
-    errors = scripted(world, checks, "a settle answered too many", INPUT + COMMIT, [GRANTED, reply], results=[answer(PROCEED)], frames=[RESERVE, SETTLE])
-    told(checks, "a settle answered too many", errors, [of_a_try("settle", 2, "the transaction holds 0 only, the server's address may have moved")])
-    scripted(world, checks, 'a lost reserve with log = "off"', INPUT, [b""] * 3, results=[answer(SERVICE)], frames=[RESERVE] * 3, errors="", log="off")
-    errors = scripted(world, checks, 'a lost reserve with log = "error"', INPUT, [b""] * 3, results=[answer(SERVICE)], frames=[RESERVE] * 3, log="error")
-    good = re.fullmatch(r"\[ERROR mq_link::logged\] quota server 127.0.0.1:\d+: closed before its reply was whole\n", errors)
-    checks.holds('a lost reserve with log = "error": the log', good, "one line with the address and why no answer came", errors)
+    errors = scripted(
+        world,
+        checks,
+        "a settle answered too many",
+        INPUT + COMMIT,
+        [GRANTED, reply],
+        results=[answer(PROCEED)],
+        frames=[RESERVE, SETTLE],
+    )
+    told(
+        checks,
+        "a settle answered too many",
+        errors,
+        [
+            of_a_try(
+                "settle", 2, "the transaction holds 0 only, the server's address may have moved"
+            )
+        ],
+    )
+    scripted(
+        world,
+        checks,
+        'a lost reserve with log = "off"',
+        INPUT,
+        [b""] * 3,
+        results=[answer(SERVICE)],
+        frames=[RESERVE] * 3,
+        errors="",
+        log="off",
+    )
+    errors = scripted(
+        world,
+        checks,
+        'a lost reserve with log = "error"',
+        INPUT,
+        [b""] * 3,
+        results=[answer(SERVICE)],
+        frames=[RESERVE] * 3,
+        log="error",
+    )
+    good = re.fullmatch(
+        (
+            r"\[ERROR mq_link::logged\] quota server 127.0.0.1:\d+: closed before its reply was"
+            r" whole\n"
+        ),
+        errors,
+    )
+    checks.holds(
+        'a lost reserve with log = "error": the log',
+        good,
+        "one line with the address and why no answer came",
+        errors,
+    )
     away = INPUT + RCPT * 2
-    errors = scripted(world, checks, "a server that is away for two recipients, by the default level", away, [b""] * 6 + [granted(3, 1, **MX1), RELEASED], results=[answer(SERVICE)] * 2 + [answer(PROCEED)], frames=[RESERVE] * 3 + [reserve(2, login=b"alice", at=1_576_146_009, **MX1)] * 3 + [reserve(3, login=b"alice", at=1_576_146_009, **MX1)])
-    checks.equal("a server that is away for two recipients, by the default level: its beginning and its end", without_address(errors), [WHY_CLOSED, f"{SERVER} answers again, requests without an answer: 2"])
-    errors = scripted(world, checks, "a server that is away for two recipients", away, [b""] * 6 + [granted(3, 1, **MX1), RELEASED], results=[answer(SERVICE)] * 2 + [answer(PROCEED)], frames=[RESERVE] * 3 + [reserve(2, login=b"alice", at=1_576_146_009, **MX1)] * 3 + [reserve(3, login=b"alice", at=1_576_146_009, **MX1)], log="info")
+    errors = scripted(
+        world,
+        checks,
+        "a server that is away for two recipients, by the default level",
+        away,
+        [b""] * 6 + [granted(3, 1, **MX1), RELEASED],
+        results=[answer(SERVICE)] * 2 + [answer(PROCEED)],
+        frames=[RESERVE] * 3
+        + [reserve(2, login=b"alice", at=1_576_146_009, **MX1)] * 3
+        + [reserve(3, login=b"alice", at=1_576_146_009, **MX1)],
+    )
+    checks.equal(
+        "a server that is away for two recipients, by the default level: its beginning and its end",
+        without_address(errors),
+        [WHY_CLOSED, f"{SERVER} answers again, requests without an answer: 2"],
+    )
+    errors = scripted(
+        world,
+        checks,
+        "a server that is away for two recipients",
+        away,
+        [b""] * 6 + [granted(3, 1, **MX1), RELEASED],
+        results=[answer(SERVICE)] * 2 + [answer(PROCEED)],
+        frames=[RESERVE] * 3
+        + [reserve(2, login=b"alice", at=1_576_146_009, **MX1)] * 3
+        + [reserve(3, login=b"alice", at=1_576_146_009, **MX1)],
+        log="info",
+    )
     marks = [line.split("]")[0] for line in errors.splitlines()]
-    wanted = ["[ERROR mq_link::logged", "[INFO  mq_client::tries", "[INFO  mq_client::tries", "[WARN  mq_link::logged"]
-    checks.equal("a server that is away for two recipients: why once, each recipient, and that it answers again", marks, wanted)
+    wanted = [
+        "[ERROR mq_link::logged",
+        "[INFO  mq_client::tries",
+        "[INFO  mq_client::tries",
+        "[WARN  mq_link::logged",
+    ]
+    checks.equal(
+        (
+            "a server that is away for two recipients: why once, each recipient, and that it"
+            " answers again"
+        ),
+        marks,
+        wanted,
+    )
     asked = [reserve(n, login=b"alice", at=1_576_146_009, **MX1) for n in range(1, 252)]
-    errors = scripted(world, checks, "a server that is away for 250 recipients", INPUT + RCPT * 250, [b""] * 250 + [granted(251, 1, **MX1), RELEASED], results=[answer(SERVICE)] * 250 + [answer(PROCEED)], frames=asked, tries=1)
-    checks.equal("a server that is away for 250 recipients: its beginning and its end", without_address(errors), [WHY_CLOSED, f"{SERVER} answers again, requests without an answer: 250"])
+    errors = scripted(
+        world,
+        checks,
+        "a server that is away for 250 recipients",
+        INPUT + RCPT * 250,
+        [b""] * 250 + [granted(251, 1, **MX1), RELEASED],
+        results=[answer(SERVICE)] * 250 + [answer(PROCEED)],
+        frames=asked,
+        tries=1,
+    )
+    checks.equal(
+        "a server that is away for 250 recipients: its beginning and its end",
+        without_address(errors),
+        [WHY_CLOSED, f"{SERVER} answers again, requests without an answer: 250"],
+    )
     refusals(world, checks)
     warnings_of_many_sessions(world, checks)
     closings_of_two_sessions(world, checks)
@@ -203,8 +524,22 @@ def warnings(world, checks):
     login = b"a\x1b[2J \\" + b"x" * 200
     long = INPUT.replace(b"alice", login)
     asked = reserve(1, login=login, at=1_576_146_009, **MX1)
-    errors = scripted(world, checks, "a login with bytes for a terminal", long, [b""] * 3, results=[answer(SERVICE)], frames=[asked] * 3, log="info")
-    checks.holds("a login with bytes for a terminal: the log", "\x1b" not in errors and "a\\x1b[2J\\x20\\x5cx" in errors, "a\\x1b[2J\\x20\\x5cx.. and no byte of it raw", errors)
+    errors = scripted(
+        world,
+        checks,
+        "a login with bytes for a terminal",
+        long,
+        [b""] * 3,
+        results=[answer(SERVICE)],
+        frames=[asked] * 3,
+        log="info",
+    )
+    checks.holds(
+        "a login with bytes for a terminal: the log",
+        "\x1b" not in errors and "a\\x1b[2J\\x20\\x5cx" in errors,
+        "a\\x1b[2J\\x20\\x5cx.. and no byte of it raw",
+        errors,
+    )
 
 
 def without_address(errors):
@@ -219,34 +554,89 @@ def of_a_try(kind, number, said, level="WARN "):
 
 def told(checks, what, errors, lines):
     """These lines, next to what the link says of the server."""
-    came = [line for line in errors.splitlines() if not line.startswith("[ERROR mq_link::logged] quota server ")]
+    came = [
+        line
+        for line in errors.splitlines()
+        if not line.startswith("[ERROR mq_link::logged] quota server ")
+    ]
     checks.equal(f"{what}: the log", came, lines)
 
 
 def refusals(world, checks):
-    """What is logged with a 550, and with the 451s that the filter gives by itself: the first of a cause in a session."""
-    errors = scripted(world, checks, 'a full answer with log = "info"', INPUT, [FULL], results=[answer(LIMIT)], frames=[RESERVE], log="info")
+    """What is logged with a 550, and with the 451s that the filter gives by itself: the first of a
+    cause in a session."""
+    errors = scripted(
+        world,
+        checks,
+        'a full answer with log = "info"',
+        INPUT,
+        [FULL],
+        results=[answer(LIMIT)],
+        frames=[RESERVE],
+        log="info",
+    )
     checks.equal('a full answer with log = "info": the log', errors, REFUSED_BY_LIMIT)
     second = frame(b"\x82" + identity(2, **MX1) + number(3) + number(3))
-    for log, more in [("info", REFUSED_BY_LIMIT.replace("WARN ", "INFO ").replace("reserve 1", "reserve 2")), ("warn", "")]:
+    for log, more in [
+        ("info", REFUSED_BY_LIMIT.replace("WARN ", "INFO ").replace("reserve 1", "reserve 2")),
+        ("warn", ""),
+    ]:
         scripted(
-            world, checks, f'two full answers of a login with log = "{log}"', INPUT + RCPT, [FULL, second], results=[answer(LIMIT)] * 2,
-            frames=[RESERVE, reserve(2, login=b"alice", at=1_576_146_009, **MX1)], errors=REFUSED_BY_LIMIT + more, log=log,
+            world,
+            checks,
+            f'two full answers of a login with log = "{log}"',
+            INPUT + RCPT,
+            [FULL, second],
+            results=[answer(LIMIT)] * 2,
+            frames=[RESERVE, reserve(2, login=b"alice", at=1_576_146_009, **MX1)],
+            errors=REFUSED_BY_LIMIT + more,
+            log=log,
         )
     for what, (body, said) in OTHER_ANSWERS.items():
         reply = frame(body + identity(1, **MX1))
-        errors = scripted(world, checks, f"a reserve answered {what}", INPUT, [reply], results=[answer(SERVICE)], frames=[RESERVE])
+        errors = scripted(
+            world,
+            checks,
+            f"a reserve answered {what}",
+            INPUT,
+            [reply],
+            results=[answer(SERVICE)],
+            frames=[RESERVE],
+        )
         told(checks, f"a reserve answered {what}", errors, [of_a_try("reserve", 1, said)])
     other = b"0123456789abcdef"
-    came = world.filter("127.0.0.1:1", CONFIG + AUTH + RCPT * 3 + of_session(AUTH + RCPT, other) + RCPT + of_session(RCPT, other))
-    results = answer(SERVICE) * 3 + answer(SERVICE, session=other) + answer(SERVICE) + answer(SERVICE, session=other)
-    checks.equal("no transaction in two sessions: status and lines", came[:2], (0, REGISTRATION + results))
+    came = world.filter(
+        "127.0.0.1:1",
+        CONFIG + AUTH + RCPT * 3 + of_session(AUTH + RCPT, other) + RCPT + of_session(RCPT, other),
+    )
+    results = (
+        answer(SERVICE) * 3
+        + answer(SERVICE, session=other)
+        + answer(SERVICE)
+        + answer(SERVICE, session=other)
+    )
+    checks.equal(
+        "no transaction in two sessions: status and lines", came[:2], (0, REGISTRATION + results)
+    )
     lines = came[2].splitlines()
-    good = len(lines) == 2 and "session 7641df9771b4ed00" in lines[0] and other.decode() in lines[1] and all("no transaction" in line for line in lines)
-    checks.holds("no transaction in two sessions: the log", good, "one line for each session", lines)
-    lines = world.filter("127.0.0.1:1", CONFIG + AUTH + RCPT * 2 + BEGIN.replace(b"1576146009", b"9") + RCPT * 2)[2].splitlines()
+    good = (
+        len(lines) == 2
+        and "session 7641df9771b4ed00" in lines[0]
+        and other.decode() in lines[1]
+        and all("no transaction" in line for line in lines)
+    )
+    checks.holds(
+        "no transaction in two sessions: the log", good, "one line for each session", lines
+    )
+    lines = world.filter(
+        "127.0.0.1:1", CONFIG + AUTH + RCPT * 2 + BEGIN.replace(b"1576146009", b"9") + RCPT * 2
+    )[2].splitlines()
     causes = [line.partition("recipients are refused, ")[2] for line in lines]
-    checks.equal("no transaction, then one of a second out of range, in one session: the log", causes, ["smtpd reported no transaction", "the transaction's second is out of range"])
+    checks.equal(
+        "no transaction, then one of a second out of range, in one session: the log",
+        causes,
+        ["smtpd reported no transaction", "the transaction's second is out of range"],
+    )
 
 
 def of_session(text, name):
@@ -258,54 +648,123 @@ def warnings_of_many_sessions(world, checks):
     names = [b"%016x" % n for n in range(70)]
     text = b"".join(of_session(AUTH + RCPT * 2, name) for name in names)
     again = of_session(RCPT, names[-1]) + of_session(RCPT, names[0])
-    warned = re.findall(r"session ([0-9a-f]{16}) \(login alice\): recipients are refused", world.filter("127.0.0.1:1", CONFIG + text + again)[2])
-    checks.equal("no transaction in 70 sessions, then in the last and the first again: the log", warned, [name.decode() for name in [*names, names[0]]])
+    warned = re.findall(
+        r"session ([0-9a-f]{16}) \(login alice\): recipients are refused",
+        world.filter("127.0.0.1:1", CONFIG + text + again)[2],
+    )
+    checks.equal(
+        "no transaction in 70 sessions, then in the last and the first again: the log",
+        warned,
+        [name.decode() for name in [*names, names[0]]],
+    )
     long = "a.of.accounting@outgoing.example.org"
-    for login, named in [(long.encode(), long), (b"a" * 255, "a" * 255), (b"a" * 300, "a" * 255), (b"\\" * 256, r"\x5c" * 255)]:
+    for login, named in [
+        (long.encode(), long),
+        (b"a" * 255, "a" * 255),
+        (b"a" * 300, "a" * 255),
+        (b"\\" * 256, r"\x5c" * 255),
+    ]:
         errors = world.filter("127.0.0.1:1", CONFIG + AUTH.replace(b"alice", login) + RCPT)[2]
-        checks.equal(f"a 451 to a login of {len(login)} bytes: how the log names it", re.findall(r"\(login (.*?)\): recipients are refused", errors), [named])
+        checks.equal(
+            f"a 451 to a login of {len(login)} bytes: how the log names it",
+            re.findall(r"\(login (.*?)\): recipients are refused", errors),
+            [named],
+        )
 
 
 def closings_of_two_sessions(world, checks):
     """Each line has the session of its own transaction, whichever session asked last."""
+
     def of_bob(text):
         return of_session(text, b"0123456789abcdef").replace(b"alice", b"bob")
 
     with nobody_there() as address:
-        errors = world.filter(address, INPUT + of_bob(AUTH + BEGIN + RCPT) + COMMIT + of_bob(COMMIT), tries=1, log="info")[2]
-    named = re.findall(r"(reserve|release) (\d) of transaction (\d) \(host mx1, session (\w+), login (\w+)\)", errors)
+        errors = world.filter(
+            address,
+            INPUT + of_bob(AUTH + BEGIN + RCPT) + COMMIT + of_bob(COMMIT),
+            tries=1,
+            log="info",
+        )[2]
+    named = re.findall(
+        r"(reserve|release) (\d) of transaction (\d) \(host mx1, session (\w+), login (\w+)\)",
+        errors,
+    )
     alice, bob = ("7641df9771b4ed00", "alice"), ("0123456789abcdef", "bob")
     # (the second closing waits after the first, which is sent at each closing and at the end)
-    wanted = [("reserve", "1", "1", *alice), ("reserve", "2", "2", *bob), *[("release", "3", "1", *alice)] * 3]
+    wanted = [
+        ("reserve", "1", "1", *alice),
+        ("reserve", "2", "2", *bob),
+        *[("release", "3", "1", *alice)] * 3,
+    ]
     checks.equal("closings of two sessions: whom the log names", named, wanted)
 
 
 def moves_of_the_address(world, checks):
-    """Of the messages that were open as the address moved one is warned of, and one that began after that warning again."""
+    """Of the messages that were open as the address moved one is warned of, and one that began
+    after that warning again."""
     bob = of_session(AUTH + BEGIN + RCPT, b"0123456789abcdef").replace(b"alice", b"bob")
     text = INPUT + bob + COMMIT + of_session(COMMIT, b"0123456789abcdef") + BEGIN + RCPT + COMMIT
     too_many = [frame(b"\x89" + identity(n, **MX1) + number(0)) for n in (3, 4, 6)]
-    with Script([GRANTED, granted(2, 1, **MX1), *too_many[:2], granted(5, 1, **MX1), too_many[2]]) as server:
+    with Script(
+        [GRANTED, granted(2, 1, **MX1), *too_many[:2], granted(5, 1, **MX1), too_many[2]]
+    ) as server:
         errors = world.filter(server.address, text, log="info")[2]
-    said = re.findall(r"\[(\w+) +mq_client::tries\] settle (\d) of transaction (\d) .*: the transaction holds 0 only, the server's address may have moved\n", errors)
-    checks.equal("two messages that were open as the address moved, and one of later: the log", said, [("WARN", "3", "1"), ("INFO", "4", "2"), ("WARN", "6", "3")])
+    said = re.findall(
+        (
+            r"\[(\w+) +mq_client::tries\] settle (\d) of transaction (\d) .*: the transaction holds"
+            r" 0 only, the server's address may have moved\n"
+        ),
+        errors,
+    )
+    checks.equal(
+        "two messages that were open as the address moved, and one of later: the log",
+        said,
+        [("WARN", "3", "1"), ("INFO", "4", "2"), ("WARN", "6", "3")],
+    )
 
 
 def logins_that_are_full(world, checks):
     """The first 550 of a login on a day is warned of, beside those of 700 others."""
+
     def full(heard):
         # (of a request's frame the number, as its host and its run are)
         return frame(b"\x82" + heard[3:19] + number(3) + number(3))
 
     def asked(login, day):
         name = b"%016x" % login
-        return of_session(AUTH.replace(b"alice", b"u%d" % login) + BEGIN.replace(b"1576146009", b"%d" % (86_400 * day + 9)) + RCPT + RESET_LINE, name)
+        return of_session(
+            AUTH.replace(b"alice", b"u%d" % login)
+            + BEGIN.replace(b"1576146009", b"%d" % (86_400 * day + 9))
+            + RCPT
+            + RESET_LINE,
+            name,
+        )
 
-    wanted = [(0, 10), (0, 10), (0, 11), (0, 10), *((login, 10) for login in range(1, 700)), (0, 10), (0, 12)]
+    wanted = [
+        (0, 10),
+        (0, 10),
+        (0, 11),
+        (0, 10),
+        *((login, 10) for login in range(1, 700)),
+        (0, 10),
+        (0, 12),
+    ]
     with Script([], otherwise=full) as server:
-        errors = world.filter(server.address, CONFIG + b"".join(asked(*it) for it in wanted), log="info")[2]
-    levels = re.findall(r"\[(\w+) +mq_client::tries\] reserve \d+ of transaction \d+ .*: refused by the limit, 3 used of 3\n", errors)
-    checks.equal("logins whose limit is reached, on days", levels, ["WARN" if it not in wanted[:place] else "INFO" for place, it in enumerate(wanted)])
+        errors = world.filter(
+            server.address, CONFIG + b"".join(asked(*it) for it in wanted), log="info"
+        )[2]
+    levels = re.findall(
+        (
+            r"\[(\w+) +mq_client::tries\] reserve \d+ of transaction \d+ .*: refused by the limit,"
+            r" 3 used of 3\n"
+        ),
+        errors,
+    )
+    checks.equal(
+        "logins whose limit is reached, on days",
+        levels,
+        ["WARN" if it not in wanted[:place] else "INFO" for place, it in enumerate(wanted)],
+    )
 
 
 def no_server(world, checks):
@@ -316,20 +775,34 @@ def no_server(world, checks):
     errors = after_the_start(checks, "no server", errors, address)
     refused = "[ERROR mq_link::logged] quota server ADDRESS: Connection refused (os error 111)"
     wanted = [refused, UNANSWERED_RESERVE, UNANSWERED_RELEASE, UNANSWERED_RELEASE, LEFT]
-    checks.equal("no server: reserve, release at the commit, release at the end", without_address(errors), wanted)
+    checks.equal(
+        "no server: reserve, release at the commit, release at the end",
+        without_address(errors),
+        wanted,
+    )
     came, took = soon(lambda: not_accepted(world), 4)
     checks.equal("a server that accepts nothing: lines and status", came, UNANSWERED)
-    checks.holds("a server that accepts nothing: the timeout of a connect", 0.59 < took < 4, "2 tries of 300 ms", f"{took:.2f} s")
+    checks.holds(
+        "a server that accepts nothing: the timeout of a connect",
+        0.59 < took < 4,
+        "2 tries of 300 ms",
+        f"{took:.2f} s",
+    )
     came, took = soon(lambda: scripted_end(world, [SILENCE] * 3, timeout=200), 4)
     good = came == UNANSWERED and 0.59 < took < 4
-    checks.holds("a silent server: 3 tries of 200 ms", good, "451 after 600 ms", (came, f"{took:.2f} s"))
+    checks.holds(
+        "a silent server: 3 tries of 200 ms", good, "451 after 600 ms", (came, f"{took:.2f} s")
+    )
     came, took = soon(lambda: scripted_end(world, [DRIP] * 2, tries=2, timeout=300), 4)
     good = came == UNANSWERED and 0.59 < took < 4
-    checks.holds("a server that drips: 2 tries of 300 ms", good, "451 after 600 ms", (came, f"{took:.2f} s"))
+    checks.holds(
+        "a server that drips: 2 tries of 300 ms", good, "451 after 600 ms", (came, f"{took:.2f} s")
+    )
 
 
 def not_accepted(world):
-    """The status and lines of a filter that asks a server which accepts nothing and has as many waiting as it lets wait."""
+    """The status and lines of a filter that asks a server which accepts nothing and has as many
+    waiting as it lets wait."""
     with crowded_port() as address:
         return world.filter(address, INPUT, tries=2, timeout=300)[:2]
 
@@ -344,7 +817,10 @@ def scripted_end(world, script, **settings):
 REFUSED = {
     "smtpd reported no transaction": ["no transaction", "a transaction that ended"],
     "the login is empty or longer than 255 bytes": ["an empty login", "a login of 256 bytes"],
-    "the transaction's second is out of range": ["a transaction before the first day", "a transaction after the year 3000"],
+    "the transaction's second is out of range": [
+        "a transaction before the first day",
+        "a transaction after the year 3000",
+    ],
 }
 
 
@@ -354,32 +830,76 @@ def without_a_question(world, checks):
         ("no login", CONFIG + BEGIN + RCPT, PROCEED),
         ("a login that failed", CONFIG + AUTH.replace(b"pass", b"fail") + BEGIN + RCPT, PROCEED),
         ("an empty login", CONFIG + AUTH.replace(b"|alice", b"") + BEGIN + RCPT, SERVICE),
-        ("a login of 256 bytes", CONFIG + AUTH.replace(b"alice", b"a" * 256) + BEGIN + RCPT, SERVICE),
+        (
+            "a login of 256 bytes",
+            CONFIG + AUTH.replace(b"alice", b"a" * 256) + BEGIN + RCPT,
+            SERVICE,
+        ),
         ("no transaction", CONFIG + AUTH + RCPT, SERVICE),
         ("a transaction that ended", CONFIG + AUTH + BEGIN + RESET_LINE + RCPT, SERVICE),
-        ("a transaction before the first day", CONFIG + AUTH + BEGIN.replace(b"1576146009", b"0000086399") + RCPT, SERVICE),
-        ("a transaction after the year 3000", CONFIG + AUTH + BEGIN.replace(b"1576146009", b"32503680001") + RCPT, SERVICE),
-        ("a config line once it is ready", CONFIG + b"config|subsystem|smtp-in\n" + BEGIN + RCPT, PROCEED),
+        (
+            "a transaction before the first day",
+            CONFIG + AUTH + BEGIN.replace(b"1576146009", b"0000086399") + RCPT,
+            SERVICE,
+        ),
+        (
+            "a transaction after the year 3000",
+            CONFIG + AUTH + BEGIN.replace(b"1576146009", b"32503680001") + RCPT,
+            SERVICE,
+        ),
+        (
+            "a config line once it is ready",
+            CONFIG + b"config|subsystem|smtp-in\n" + BEGIN + RCPT,
+            PROCEED,
+        ),
         ("another phase", INPUT.replace(b"rcpt-to", b"mail-from"), PROCEED),
-        ("another subsystem", INPUT.replace(b"filter|0.7|1576146010.006099|smtp-in", b"filter|0.7|1576146010.006099|smtp-out"), PROCEED),
-        ("a session that went", CONFIG + AUTH + BEGIN + b"report|0.7|1576146009.1|smtp-in|link-disconnect|7641df9771b4ed00\n" + RCPT, PROCEED),
+        (
+            "another subsystem",
+            INPUT.replace(
+                b"filter|0.7|1576146010.006099|smtp-in", b"filter|0.7|1576146010.006099|smtp-out"
+            ),
+            PROCEED,
+        ),
+        (
+            "a session that went",
+            CONFIG
+            + AUTH
+            + BEGIN
+            + b"report|0.7|1576146009.1|smtp-in|link-disconnect|7641df9771b4ed00\n"
+            + RCPT,
+            PROCEED,
+        ),
     ]
     for what, text, result in cases:
         with Script([GRANTED]) as server:
             came = world.filter(server.address, text)
-        checks.equal(f"{what}: status, lines, frames", (*came[:2], server.heard), (0, REGISTRATION + answer(result), []))
+        checks.equal(
+            f"{what}: status, lines, frames",
+            (*came[:2], server.heard),
+            (0, REGISTRATION + answer(result), []),
+        )
         if result is PROCEED:
             checks.equal(f"{what}: the log", came[2], "")
         else:
             login = re.search(rb"\|pass\|(\w*)\n|\|pass\n", text)[1] or b""
             why = next(said for said, whats in REFUSED.items() if what in whats)
-            line = f"[WARN  mq_client::client] session 7641df9771b4ed00 (login {login[:255].decode()}): recipients are refused, {why}\n"
+            line = (
+                "[WARN  mq_client::client] session 7641df9771b4ed00 (login"
+                f" {login[:255].decode()}): recipients are refused, {why}\n"
+            )
             checks.equal(f"{what}: the log", came[2], line)
     with Script([GRANTED]) as server:
         came = world.filter(server.address, INPUT + AUTH.replace(b"alice", b"bob") + RCPT)
     said = "the transaction began with another login or at another second"
-    line = f"[WARN  mq_client::client] session 7641df9771b4ed00 (login bob): recipients are refused, {said}\n"
-    checks.equal("another login within a transaction", (*came, server.heard), (0, REGISTRATION + answer(PROCEED) + answer(SERVICE), line, [RESERVE]))
+    line = (
+        "[WARN  mq_client::client] session 7641df9771b4ed00 (login bob): recipients are refused,"
+        f" {said}\n"
+    )
+    checks.equal(
+        "another login within a transaction",
+        (*came, server.heard),
+        (0, REGISTRATION + answer(PROCEED) + answer(SERVICE), line, [RESERVE]),
+    )
 
 
 def faults(world, checks):
@@ -387,38 +907,101 @@ def faults(world, checks):
     ready = CONFIG
     cases = [
         ("an empty input", b"", b"", "input ended before config ready"),
-        ("an end before ready", b"config|subsystem|smtp-in\n", b"", "input ended before config ready"),
+        (
+            "an end before ready",
+            b"config|subsystem|smtp-in\n",
+            b"",
+            "input ended before config ready",
+        ),
         ("a report before ready", AUTH + CONFIG, b"", "line before config ready"),
         ("a request before ready", RCPT, b"", "line before config ready"),
         ("an end inside a line", ready + AUTH[:-1], REGISTRATION, "input ends inside a line"),
-        ("another version", ready + AUTH + BEGIN + RCPT.replace(b"0.7", b"0.6").replace(b"rcpt-to", b"mail-from"), REGISTRATION, "line refused: version"),
-        ("a report with five fields", ready + b"report|0.7|1.0|smtp-in|link-auth\n", REGISTRATION, "line refused: short"),
-        ("a time without a point", ready + AUTH.replace(b".006099", b""), REGISTRATION, "line refused: time"),
-        ("an empty session", ready + AUTH.replace(b"7641df9771b4ed00", b""), REGISTRATION, "line refused: empty field"),
-        ("an auth without a result", ready + AUTH.replace(b"pass|alice", b"a|b"), REGISTRATION, "report refused: auth"),
-        ("an auth with its result in the middle", ready + AUTH.replace(b"pass|alice", b"a|pass|b"), REGISTRATION, "report refused: auth"),
-        ("a begin without a message", ready + BEGIN.replace(b"|4c56d3a1", b""), REGISTRATION, "report refused: message"),
+        (
+            "another version",
+            ready + AUTH + BEGIN + RCPT.replace(b"0.7", b"0.6").replace(b"rcpt-to", b"mail-from"),
+            REGISTRATION,
+            "line refused: version",
+        ),
+        (
+            "a report with five fields",
+            ready + b"report|0.7|1.0|smtp-in|link-auth\n",
+            REGISTRATION,
+            "line refused: short",
+        ),
+        (
+            "a time without a point",
+            ready + AUTH.replace(b".006099", b""),
+            REGISTRATION,
+            "line refused: time",
+        ),
+        (
+            "an empty session",
+            ready + AUTH.replace(b"7641df9771b4ed00", b""),
+            REGISTRATION,
+            "line refused: empty field",
+        ),
+        (
+            "an auth without a result",
+            ready + AUTH.replace(b"pass|alice", b"a|b"),
+            REGISTRATION,
+            "report refused: auth",
+        ),
+        (
+            "an auth with its result in the middle",
+            ready + AUTH.replace(b"pass|alice", b"a|pass|b"),
+            REGISTRATION,
+            "report refused: auth",
+        ),
+        (
+            "a begin without a message",
+            ready + BEGIN.replace(b"|4c56d3a1", b""),
+            REGISTRATION,
+            "report refused: message",
+        ),
         ("65,537 bytes without an end", ready + b"x" * 65_537, REGISTRATION, "line too long"),
     ]
     for what, text, written, error in cases:
         came = world.filter("127.0.0.1:1", text)
-        checks.equal(f"{what}: status, lines, errors", came, (1, written, f"{ended_by(error)}mailquota: {error}\n"))
+        checks.equal(
+            f"{what}: status, lines, errors",
+            came,
+            (1, written, f"{ended_by(error)}mailquota: {error}\n"),
+        )
     quiet = world.filter("127.0.0.1:1", b"", log="off")
-    checks.equal('an empty input with log = "off"', quiet, (1, b"", "mailquota: input ended before config ready\n"))
+    checks.equal(
+        'an empty input with log = "off"',
+        quiet,
+        (1, b"", "mailquota: input ended before config ready\n"),
+    )
     came = world.filter("127.0.0.1:1", ready + b"x" * 65_536 + b"\n" + b"\n" + b"anything|else\n")
-    checks.equal("a line of 65,536 bytes, an empty and a strange one: passed over", came, (0, REGISTRATION, ""))
+    checks.equal(
+        "a line of 65,536 bytes, an empty and a strange one: passed over",
+        came,
+        (0, REGISTRATION, ""),
+    )
     with open("/dev/full", "wb") as device:
         file = world.filter_file("127.0.0.1:1")
         status, _, errors = world.run("filter", "--config", file, text=CONFIG, output=device)
-    checks.equal("an output that takes nothing", (status, errors), (1, f"{ended_by('write failed')}mailquota: write failed\n"))
+    checks.equal(
+        "an output that takes nothing",
+        (status, errors),
+        (1, f"{ended_by('write failed')}mailquota: write failed\n"),
+    )
     with Script([GRANTED]) as server:
         status, output, errors = world.filter(server.address, INPUT + b"report|0.6|")
     error = "input ends inside a line"
     wanted = f"{ended_by(error)}{left_by(closings=0, transactions=1)}mailquota: {error}\n"
-    checks.equal("an end inside a line after an answer", (status, output, errors), (1, REGISTRATION + answer(PROCEED), wanted))
+    checks.equal(
+        "an end inside a line after an answer",
+        (status, output, errors),
+        (1, REGISTRATION + answer(PROCEED), wanted),
+    )
     with nobody_there() as address:
         came = world.filter(address, INPUT + COMMIT + b"report|0.6|", tries=1)
-    wanted = f"{unreached(address)}{ended_by(error)}{left_by(closings=1, transactions=0)}mailquota: {error}\n"
+    wanted = (
+        f"{unreached(address)}{ended_by(error)}{left_by(closings=1, transactions=0)}mailquota:"
+        f" {error}\n"
+    )
     checks.equal("an end inside a line with a closing that waits", (came[0], came[2]), (1, wanted))
 
 
@@ -429,14 +1012,25 @@ def its_run(world, checks):
     def run_of(*words):
         """The run in the first line of a filter that is given nothing to answer."""
         first = world.run("filter", "--config", config, *words, text=CONFIG)[2].partition("\n")[0]
-        found = re.fullmatch(r"\[INFO  mq_remote::subcommands::filter\] the filter of host mx1 begins its run (\d+), with the server 127\.0\.0\.1:1", first)
+        found = re.fullmatch(
+            (
+                r"\[INFO  mq_remote::subcommands::filter\] the filter of host mx1 begins its run"
+                r" (\d+), with the server 127\.0\.0\.1:1"
+            ),
+            first,
+        )
         return int(found[1]) if found else first
 
     checks.equal("the first line of a filter of run 7", run_of("--run", "7"), 7)
     # (what `smtpd` has for it stands above this file)
     before = time.time_ns() // 1_000_000
     run = run_of()
-    checks.holds("the first line of a filter without a number", run in range(before, time.time_ns() // 1_000_000 + 1), f"a run from {before} on, and not later", run)
+    checks.holds(
+        "the first line of a filter without a number",
+        run in range(before, time.time_ns() // 1_000_000 + 1),
+        f"a run from {before} on, and not later",
+        run,
+    )
 
 
 def ended_by(error):
@@ -446,11 +1040,15 @@ def ended_by(error):
 
 def left_by(closings, transactions):
     """What it has after that, where the filter leaves something."""
-    return f"[WARN  mq_remote::subcommands::filter] closings without an answer: {closings}, open transactions: {transactions}\n"
+    return (
+        f"[WARN  mq_remote::subcommands::filter] closings without an answer: {closings}, open"
+        f" transactions: {transactions}\n"
+    )
 
 
 def a_socket_that_breaks(world, checks):
-    """smtpd's end is one socket pair: where it goes with lines unread, the filter's next read fails."""
+    """smtpd's end is one socket pair: where it goes with lines unread, the filter's next read
+    fails."""
     ours, theirs = socket.socketpair()
     words = [world.program, "filter", "--config", world.filter_file("127.0.0.1:1"), "--run", "1"]
     process = subprocess.Popen(words, stdin=theirs, stdout=theirs, stderr=subprocess.PIPE)
@@ -460,7 +1058,11 @@ def a_socket_that_breaks(world, checks):
     ours.close()
     _, errors = process.communicate(timeout=SECONDS)
     came = process.returncode, errors.decode()
-    checks.equal("a socket pair whose other end went", came, (1, f"{ended_by('read failed')}mailquota: read failed\n"))
+    checks.equal(
+        "a socket pair whose other end went",
+        came,
+        (1, f"{ended_by('read failed')}mailquota: read failed\n"),
+    )
 
 
 def a_thousand_recipients(world, checks):
@@ -471,4 +1073,12 @@ def a_thousand_recipients(world, checks):
         return granted(sequence, sequence, **MX1)
 
     wanted = [reserve(n, login=b"alice", at=1_576_146_009, **MX1) for n in range(1, 1001)]
-    scripted(world, checks, "1,001 recipients", CONFIG + AUTH + BEGIN + RCPT * 1001, [grant] * 1000, results=[answer(PROCEED)] * 1000 + [answer(SERVICE)], frames=wanted)
+    scripted(
+        world,
+        checks,
+        "1,001 recipients",
+        CONFIG + AUTH + BEGIN + RCPT * 1001,
+        [grant] * 1000,
+        results=[answer(PROCEED)] * 1000 + [answer(SERVICE)],
+        frames=wanted,
+    )

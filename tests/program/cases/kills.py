@@ -1,8 +1,9 @@
 """The server over a file, killed under load, and what it answers after each start.
 
-Four hosts send numbered requests, each again until its reply was read, and the server is killed by SIGKILL again and again. After each
-start every reply that was read has to be the answer to its number still, and what each login has used on each day what was granted.
-Now and then `audit` is asked of the file in between.
+Four hosts send numbered requests, each again until its reply was read, and the server is killed by
+SIGKILL again and again. After each start every reply that was read has to be the answer to its
+number still, and what each login has used on each day what was granted. Now and then `audit` is
+asked of the file in between.
 """
 import itertools
 import os
@@ -40,7 +41,13 @@ class FileServer:
 
     def settings(self):
         """A file of settings."""
-        whole = {"listen": "127.0.0.1:0", "store": self.store, "default": DEFAULT, "offset": 0, "timeout": 20_000}
+        whole = {
+            "listen": "127.0.0.1:0",
+            "store": self.store,
+            "default": DEFAULT,
+            "offset": 0,
+            "timeout": 20_000,
+        }
         return self.world.new_file(toml(whole))
 
     def start(self, *options):
@@ -54,7 +61,9 @@ class FileServer:
         self.port = wait_for_listener(self.process)
         if self.process.poll() is not None:
             with open(self.log, errors="replace") as log:
-                raise AssertionError(f"the server ended with status {self.process.returncode}: {log.read()[-500:]}")
+                raise AssertionError(
+                    f"the server ended with status {self.process.returncode}: {log.read()[-500:]}"
+                )
 
     def kill(self):
         if self.process.poll() is None:
@@ -66,9 +75,12 @@ class FileServer:
         return self.world.run("audit", "--config", self.settings())
 
     def replies(self, frames):
-        """What comes back for these frames, whole frame by whole frame, until the connection breaks."""
+        """What comes back for these frames, whole frame by whole frame, until the connection
+        breaks."""
         try:
-            with socket.create_connection(("127.0.0.1", self.port), timeout=SECONDS) as peer, peer.makefile("rb") as back:
+            with socket.create_connection(
+                ("127.0.0.1", self.port), timeout=SECONDS
+            ) as peer, peer.makefile("rb") as back:
                 sending = threading.Thread(target=send, args=(peer, frames), daemon=True)
                 sending.start()
                 for _ in frames:
@@ -115,7 +127,8 @@ class Gate:
 
 
 class Host(threading.Thread):
-    """Sends mails of its own: some reserves, then a settle, a release or neither, each again until its reply was read."""
+    """Sends mails of its own: some reserves, then a settle, a release or neither, each again until
+    its reply was read."""
 
     def __init__(self, name, server, gate):
         super().__init__(daemon=True)
@@ -140,7 +153,9 @@ class Host(threading.Thread):
         login, day = self.chance.choice(LOGINS), self.chance.choice(DAYS)
         sender = {"txn": txn, "login": login, "at": 86_400 * day, "host": self.host}
         counts = [self.chance.randint(1, 3) for _ in range(self.chance.randint(1, 4))]
-        replies = self.deliver([wire.reserve(next(self.sequence), count=count, **sender) for count in counts])
+        replies = self.deliver(
+            [wire.reserve(next(self.sequence), count=count, **sender) for count in counts]
+        )
         self.mails += 1
         granted = sum(count for count, reply in zip(counts, replies) if reply[2] == GRANTED)
         settled, reserved = 0, granted
@@ -164,7 +179,7 @@ class Host(threading.Thread):
             read = list(self.server.replies(left))
             for frame, reply in zip(left, read):
                 self.answered[frame] = reply
-            left = left[len(read):]
+            left = left[len(read) :]
             if not left:
                 break
             self.cut += turn == 0
@@ -187,34 +202,43 @@ class Watch:
             if again != reply:
                 self.changed.append((kill, reply.hex(), again.hex()))
         keys = list(itertools.product(LOGINS, DAYS))
-        for (login, day), reply in zip(keys, self.ask([wire.usage(login, day) for login, day in keys])):
+        for (login, day), reply in zip(
+            keys, self.ask([wire.usage(login, day) for login, day in keys])
+        ):
             totals = [host.totals.get((login, day), (0, 0)) for host in self.hosts]
             settled, reserved = map(sum, zip(*totals))
-            wanted = b"\x8b" + wire.text(login) + b"".join(map(wire.number, (day, settled, reserved, DEFAULT)))
+            wanted = (
+                b"\x8b"
+                + wire.text(login)
+                + b"".join(map(wire.number, (day, settled, reserved, DEFAULT)))
+            )
             if reply != wire.frame(wanted) or settled + reserved > DEFAULT:
                 self.miscounted.append((kill, login, day, settled, reserved, reply.hex()))
 
     def audit(self, kill):
-        """It finds the transactions whose reserves were answered, and at most the one more that each host had begun."""
+        """It finds the transactions whose reserves were answered, and at most the one more that
+        each host had begun."""
         status, output, errors = self.server.audit()
         found, answered = SOUND.fullmatch(output), sum(host.mails for host in self.hosts)
         days, transactions = map(int, found.groups()) if found else (0, 0)
-        good = 0 < days <= len(LOGINS) * len(DAYS) and answered <= transactions <= answered + len(self.hosts)
+        good = 0 < days <= len(LOGINS) * len(DAYS) and answered <= transactions <= answered + len(
+            self.hosts
+        )
         if not good or status != 0 or errors:
             self.unsound.append((kill, answered, status, output, errors))
 
     def ask(self, frames):
         replies = []
         for start in range(0, len(frames), MOST_FRAMES):
-            replies += self.server.replies(frames[start:start + MOST_FRAMES])
+            replies += self.server.replies(frames[start : start + MOST_FRAMES])
         if len(replies) != len(frames):
             raise AssertionError(f"{len(replies)} replies to {len(frames)} requests")
         return replies
 
 
 def kill_again_and_again(server, hosts, gate, watch, kills):
-    """Each time a while of load, a kill, a start, and a look while nobody sends; now and then a kill while it starts,
-    and an audit."""
+    """Each time a while of load, a kill, a start, and a look while nobody sends; now and then a
+    kill while it starts, and an audit."""
     chance = random.Random(kills)
     for kill in range(1, kills + 1):
         gate.set(True)
@@ -251,9 +275,25 @@ def run(world, checks, kills=KILLS):
         server.kill()
     read, cut = sum(len(host.answered) for host in hosts), sum(host.cut for host in hosts)
     grants = {reply[2] for host in hosts for reply in host.answered.values()}
-    checks.holds("the load", read > 10 * kills and cut >= kills and {GRANTED, SETTLED, RELEASED} <= grants,
-                 "many replies, and requests that a kill cut off", f"{read} replies read, {cut} times cut off")
-    checks.equal(f"replies of {watch.asked} that were asked for again which changed", watch.changed, [])
-    checks.equal(f"audits behind each fourth of {kills} kills that don't find what was answered", watch.unsound, [])
+    checks.holds(
+        "the load",
+        read > 10 * kills and cut >= kills and {GRANTED, SETTLED, RELEASED} <= grants,
+        "many replies, and requests that a kill cut off",
+        f"{read} replies read, {cut} times cut off",
+    )
+    checks.equal(
+        f"replies of {watch.asked} that were asked for again which changed", watch.changed, []
+    )
+    checks.equal(
+        f"audits behind each fourth of {kills} kills that don't find what was answered",
+        watch.unsound,
+        [],
+    )
     checks.equal("days of logins whose totals aren't what was granted", watch.miscounted, [])
-    print(f"    {kills} kills, {read} replies read, {cut} times cut off, {watch.asked} asked for again", flush=True)
+    print(
+        (
+            f"    {kills} kills, {read} replies read, {cut} times cut off, {watch.asked} asked for"
+            " again"
+        ),
+        flush=True,
+    )

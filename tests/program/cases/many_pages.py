@@ -1,4 +1,5 @@
-"""A report that has no end: 100,000 full pages, each in order. It takes minutes, and runs only where it is named."""
+"""A report that has no end: 100,000 full pages, each in order. It takes minutes, and runs only
+where it is named."""
 import subprocess
 
 from ends import Script
@@ -17,6 +18,12 @@ def run(world, checks):
 
     with Script([answer] * PAGES) as server:
         words = [world.program, "report", "--server", server.address, "--day", "1"]
-        run = subprocess.run(words, stdout=subprocess.DEVNULL, stderr=subprocess.PIPE, timeout=SECONDS)
+        run = subprocess.run(
+            words, stdout=subprocess.DEVNULL, stderr=subprocess.PIPE, timeout=SECONDS
+        )
     came = (run.returncode, run.stderr, len(server.heard))
-    checks.equal("100,000 full pages: status, errors, questions", came, (1, b"mailquota: too many pages\n", PAGES))
+    checks.equal(
+        "100,000 full pages: status, errors, questions",
+        came,
+        (1, b"mailquota: too many pages\n", PAGES),
+    )

@@ -1,5 +1,6 @@
-"""A start over a file that may not fit into the memory that the process may have: the server says so first, and starts all the same. The groups of
-the system are files of this test, in a name space of their own, so it wants root."""
+"""A start over a file that may not fit into the memory that the process may have: the server says
+so first, and starts all the same. The groups of the system are files of this test, in a name space
+of their own, so it wants root."""
 import os
 import re
 import subprocess
@@ -10,8 +11,11 @@ from cases.retiring import of_version, written
 from ends import listening_port, toml, wait_until
 
 LINE = re.compile(r"\[WARN  mq_program::memory\] (.*)")
-# in a name space of its own: this file for that of the process's group, this folder for the system's groups, and then the words
-APART = 'mount --bind "$1" /proc/$$/cgroup && mount --bind "$2" /sys/fs/cgroup && shift 2 && exec "$@"'
+# in a name space of its own: this file for that of the process's group, this folder for the
+# system's groups, and then the words
+APART = (
+    'mount --bind "$1" /proc/$$/cgroup && mount --bind "$2" /sys/fs/cgroup && shift 2 && exec "$@"'
+)
 
 
 def run(world, checks):
@@ -19,15 +23,28 @@ def run(world, checks):
         print("    (left out: it wants root)", flush=True)
         return
     # (of so many limits that half of the file would take less)
-    path = written(world, "fits", *of_version(3, taken(3, (wire.limit(n, 1, 5, login=b"%05d" % n) for n in range(1, 6_001)))))
+    path = written(
+        world,
+        "fits",
+        *of_version(3, taken(3, (wire.limit(n, 1, 5, login=b"%05d" % n) for n in range(1, 6_001)))),
+    )
     bytes_of = os.path.getsize(path)
     most = bytes_of // 333_333 + 14
-    warned = f"{path}: a start takes up to about {most} MB, and this process may have %d bytes; if it is killed, set MemoryMax={most}M"
+    warned = (
+        f"{path}: a start takes up to about {most} MB, and this process may have %d bytes; if it is"
+        f" killed, set MemoryMax={most}M"
+    )
     own, below = "0::/system.slice/mailquota.service\n", "system.slice/mailquota.service"
     for what, groups, folder, limit, wanted in [
         ("no limit", own, below, "max\n", []),
         ("as much as it takes", own, below, f"{most * 1_000_000}\n", []),
-        ("one byte less", own, below, f"{most * 1_000_000 - 1}\n", [warned % (most * 1_000_000 - 1)]),
+        (
+            "one byte less",
+            own,
+            below,
+            f"{most * 1_000_000 - 1}\n",
+            [warned % (most * 1_000_000 - 1)],
+        ),
         ("a limit of nothing", own, below, "0\n", [warned % 0]),
         ("the group at the top", "0::/\n", "", "1048576\n", [warned % 1_048_576]),
         ("another group's limit", own, "user.slice", "0\n", []),
@@ -36,7 +53,11 @@ def run(world, checks):
     ]:
         checks.equal(f"a start, {what}", lines_of_start(world, path, groups, folder, limit), wanted)
     less = most * 1_000_000 - 1
-    checks.equal("a start with keep, one byte less", lines_of_start(world, path, own, below, f"{less}\n", keep=2), [warned % less])
+    checks.equal(
+        "a start with keep, one byte less",
+        lines_of_start(world, path, own, below, f"{less}\n", keep=2),
+        [warned % less],
+    )
 
 
 def lines_of_start(world, path, groups, folder, limit, **more):
@@ -45,8 +66,23 @@ def lines_of_start(world, path, groups, folder, limit, **more):
     os.makedirs(os.path.join(top, folder))
     with open(os.path.join(top, folder, "memory.max"), "w", encoding="ascii") as it:
         it.write(limit)
-    settings = world.new_file(toml({"listen": "127.0.0.1:0", "store": path, "default": 3, "offset": 0, **more}))
-    words = ["unshare", "--mount", "sh", "-c", APART, "sh", world.new_file(groups), top, world.program, "server", "--config", settings]
+    settings = world.new_file(
+        toml({"listen": "127.0.0.1:0", "store": path, "default": 3, "offset": 0, **more})
+    )
+    words = [
+        "unshare",
+        "--mount",
+        "sh",
+        "-c",
+        APART,
+        "sh",
+        world.new_file(groups),
+        top,
+        world.program,
+        "server",
+        "--config",
+        settings,
+    ]
     with open(world.new_file(""), "w+b") as log:
         server = subprocess.Popen(words, stdin=subprocess.DEVNULL, stdout=log, stderr=log)
         wait_until(lambda: listening_port(server) or server.poll() is not None)

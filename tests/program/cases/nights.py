@@ -1,8 +1,11 @@
-"""`server` with `keep`: days leave the ledger while it is served. What a kill leaves at each step of the switch to the new file, and who repairs it; a new
-file that can't be made, or on a full disk, and the next attempt; a switch that fails, and in which order its names come to the disk; thousands of answers,
-and a peer that asks all the while; clocks that differ, and jump; `status` and `audit` beside a renewal; filters of two hosts over ten nights.
+"""`server` with `keep`: days leave the ledger while it is served. What a kill leaves at each step
+of the switch to the new file, and who repairs it; a new file that can't be made, or on a full disk,
+and the next attempt; a switch that fails, and in which order its names come to the disk; thousands
+of answers, and a peer that asks all the while; clocks that differ, and jump; `status` and `audit`
+beside a renewal; filters of two hosts over ten nights.
 
-What is kept is said by the ledger of tests/model. The new file has each of the names that docs/OPERATING.md has for it.
+What is kept is said by the ledger of tests/model. The new file has each of the names that
+docs/OPERATING.md has for it.
 """
 import collections
 import contextlib
@@ -26,7 +29,20 @@ from cases.filters import LIMIT, PROCEED
 from cases.full_disks import FULL
 from cases.retiring import of_version, written
 from ends import (
-    LOCKED, LONG, NO_FILE, OPENED_IN, SECONDS, Server, begun, copied, fault, ledger_settings, of_store, wait_past_midnight, wait_until, without_time
+    LOCKED,
+    LONG,
+    NO_FILE,
+    OPENED_IN,
+    SECONDS,
+    Server,
+    begun,
+    copied,
+    fault,
+    ledger_settings,
+    of_store,
+    wait_past_midnight,
+    wait_until,
+    without_time,
 )
 from random_inputs import body
 from rows import rows_in, same_rows
@@ -92,14 +108,28 @@ def days_of(number):
 
 
 def request(number, day, host=b"mx1"):
-    return wire.reserve(number, txn=number, login=b"u%d" % (number % 40), at=day * DAY + number, host=host)
+    return wire.reserve(
+        number, txn=number, login=b"u%d" % (number % 40), at=day * DAY + number, host=host
+    )
 
 
 def requests(count):
     """Reserves of six days and some of their closings, and limits."""
     made = [request(number, days_of(number)) for number in range(1, count + 1)]
-    made += [wire.settle(count + number, txn=number, login=b"u%d" % (number % 40), at=days_of(number) * DAY + number, host=b"mx1") for number in range(1, count, 3)]
-    return made + [wire.limit(number, today() - number % 6, 50 + number, login=b"u%d" % number, host=b"adm") for number in range(1, 12)]
+    made += [
+        wire.settle(
+            count + number,
+            txn=number,
+            login=b"u%d" % (number % 40),
+            at=days_of(number) * DAY + number,
+            host=b"mx1",
+        )
+        for number in range(1, count, 3)
+    ]
+    return made + [
+        wire.limit(number, today() - number % 6, 50 + number, login=b"u%d" % number, host=b"adm")
+        for number in range(1, 12)
+    ]
 
 
 def whole_reply(back):
@@ -128,15 +158,17 @@ def asked(server, frames):
 
 
 def all_asked(server, frames):
-    """The same, where a switch to the new file may cut a connection off: what got no reply is asked again on another one."""
+    """The same, where a switch to the new file may cut a connection off: what got no reply is asked
+    again on another one."""
     came, ends = [], time.monotonic() + SECONDS
     while len(came) < len(frames) and server.process.poll() is None and time.monotonic() < ends:
-        came += asked(server, frames[len(came):])
+        came += asked(server, frames[len(came) :])
     return came
 
 
 def filled(world, path, count=60):
-    """A file whose server took requests of six days and was killed, so that its log has commits; gives the books."""
+    """A file whose server took requests of six days and was killed, so that its log has commits;
+    gives the books."""
     books, frames = Books(0, DEFAULT), requests(count)
     with Server(world, words=["--create"], store=path, default=DEFAULT) as server:
         came = server.ask(b"".join(frames))
@@ -157,7 +189,13 @@ def is_through(server):
 def names(path):
     """What stands beside a ledger."""
     folder, name = os.path.split(path)
-    return sorted(it.removeprefix(name) for it in os.listdir(folder) if it == name or it.startswith((f"{name}-", f"{name}.")) and not it.endswith((".read", ".read-wal", ".read-shm")))
+    return sorted(
+        it.removeprefix(name)
+        for it in os.listdir(folder)
+        if it == name
+        or it.startswith((f"{name}-", f"{name}."))
+        and not it.endswith((".read", ".read-wal", ".read-shm"))
+    )
 
 
 # after a switch, and where a night was over then
@@ -166,15 +204,24 @@ NOTED = ["", "-wal", ".night", ".old"]
 
 
 def a_new_ledger(world, checks):
-    """Its start says how long it took, what is kept, and by --endless that it serves any number of connections."""
+    """Its start says how long it took, what is kept, and by --endless that it serves any number of
+    connections."""
     path = f"{world.folder}/new"
     with nightly(world, path, words=["--create", "--endless"], connections=0) as server:
         lines = server.log_lines()
         wanted = [
-            begun(path, default=DEFAULT), f"[INFO  mq_program::nights] ledger {path}: keeps {KEEP} days before today",
-            f"[INFO  mq_program::nights] listening on {server.listen} for any number of connections",
+            begun(path, default=DEFAULT),
+            f"[INFO  mq_program::nights] ledger {path}: keeps {KEEP} days before today",
+            (
+                f"[INFO  mq_program::nights] listening on {server.listen} for any number of"
+                " connections"
+            ),
         ]
-        checks.equal("a new ledger: the log, and that it has the time of the start", (without_time(lines), bool(OPENED_IN.search(lines[0]))), (wanted, True))
+        checks.equal(
+            "a new ledger: the log, and that it has the time of the start",
+            (without_time(lines), bool(OPENED_IN.search(lines[0]))),
+            (wanted, True),
+        )
 
 
 def forgets_at_a_start(world, checks):
@@ -192,24 +239,44 @@ def forgets_at_a_start(world, checks):
             sent += [(frame, it) for it in asked(server, [frame])]
         after = [request(number + more, today(), host=b"mx2") for more in range(1, 20)]
         later = asked(server, after)
-        checks.equal("a start: replies while days are forgotten", [reply for _, reply in sent], [old.serve(frame) for frame, _ in sent])
+        checks.equal(
+            "a start: replies while days are forgotten",
+            [reply for _, reply in sent],
+            [old.serve(frame) for frame, _ in sent],
+        )
         books = old.remembered(day)
         checks.equal("a start: replies after it", later, [books.serve(it) for it in after])
-        checks.equal("a start: a number that was forgotten is new", len(books.answers) < len(old.answers) + len(after), True)
-        again = [frame for frame, _ in sent] + [b"".join([wire.number(len(body), 2), body]) for _, body, _ in before]
-        checks.equal("a start: each number again", asked(server, again), [books.serve(it) for it in again])
+        checks.equal(
+            "a start: a number that was forgotten is new",
+            len(books.answers) < len(old.answers) + len(after),
+            True,
+        )
+        again = [frame for frame, _ in sent] + [
+            b"".join([wire.number(len(body), 2), body]) for _, body, _ in before
+        ]
+        checks.equal(
+            "a start: each number again", asked(server, again), [books.serve(it) for it in again]
+        )
         lines = [line for line in server.log_lines() if "are forgotten" in line]
-        checks.holds("a start: what is logged", len(lines) == 1 and f"the days before {day} " in lines[0], "one line with the day", lines)
+        checks.holds(
+            "a start: what is logged",
+            len(lines) == 1 and f"the days before {day} " in lines[0],
+            "one line with the day",
+            lines,
+        )
         server.process.kill()
         server.status()
     checks.equal("a start: files", names(path), NOTED)
     same_rows(checks, "a start", path, books)
     checks.equal("a start: audit", audit(world, path, default=DEFAULT), sound(books))
-    checks.equal("a start: audit of the former file", audit(world, f"{path}.old", default=DEFAULT)[0], 0)
+    checks.equal(
+        "a start: audit of the former file", audit(world, f"{path}.old", default=DEFAULT)[0], 0
+    )
 
 
 def is_noted(world, checks, path, day):
-    """The last night is noted beside the ledger, for `status` and a later start. Who may not read the note does without."""
+    """The last night is noted beside the ledger, for `status` and a later start. Who may not read
+    the note does without."""
     with open(f"{path}.night", encoding="ascii") as file:
         note = file.read()
     good = re.fullmatch(rf"forgot the days before {day} on day {today()}, in \d+ ms\n", note)
@@ -217,18 +284,28 @@ def is_noted(world, checks, path, day):
     line = f"ledger {path}: {note}"
     config = ledger_settings(world, path, default=DEFAULT)
     came = world.run("status", "--config", config)
-    checks.equal("a night's note: status, where nobody answers", (came[0], came[1].endswith(line.encode())), (3, True))
+    checks.equal(
+        "a night's note: status, where nobody answers",
+        (came[0], came[1].endswith(line.encode())),
+        (3, True),
+    )
     with nightly(world, path) as server:
         asked(server, [wire.page()])
         config = ledger_settings(world, path, default=DEFAULT, listen=server.address, timeout=LONG)
         came = world.run("status", "--config", config)
-        checks.equal("a night's note: status of a server", (came[0], came[1].endswith(b"\n" + line.encode())), (0, True))
+        checks.equal(
+            "a night's note: status of a server",
+            (came[0], came[1].endswith(b"\n" + line.encode())),
+            (0, True),
+        )
         told = [it for it in server.all_log_lines() if it.endswith(line.rstrip("\n"))]
         checks.holds("a night's note: a start", len(told) == 1, "a line of the log", told)
     os.rename(f"{path}.night", f"{path}.kept")
     os.mkdir(f"{path}.night")
     came = world.run("status", "--config", ledger_settings(world, path, default=DEFAULT))
-    checks.equal("a night's note that can't be read: status", (came[0], b"forgot" in came[1]), (3, False))
+    checks.equal(
+        "a night's note that can't be read: status", (came[0], b"forgot" in came[1]), (3, False)
+    )
     os.rmdir(f"{path}.night")
     os.rename(f"{path}.kept", f"{path}.night")
 
@@ -236,20 +313,32 @@ def is_noted(world, checks, path, day):
 def keeps_as_long_as_may_be(world, checks):
     """With keep = 366 the day that is so many days back stays, and the one before it goes."""
     what, path, day = "keep = 366", f"{world.folder}/year", first_day(366)
-    books, frames = Books(0, DEFAULT), [request(number, of) for number, of in enumerate((day - 1, day, day + 200, today()), start=1)]
+    books, frames = Books(0, DEFAULT), [
+        request(number, of) for number, of in enumerate((day - 1, day, day + 200, today()), start=1)
+    ]
     with Server(world, words=["--create"], store=path, default=DEFAULT) as server:
         assert asked(server, frames) == [books.serve(it) for it in frames]
     with nightly(world, path, keep=366) as server:
         good = wait_until(lambda: is_through(server))
-        lines = [line.partition(": ")[2].partition(", in ")[0] for line in server.log_lines() if "are forgotten" in line]
-        checks.equal(f"{what}: what is forgotten", (good, lines), (True, [f"the days before {day} are forgotten"]))
+        lines = [
+            line.partition(": ")[2].partition(", in ")[0]
+            for line in server.log_lines()
+            if "are forgotten" in line
+        ]
+        checks.equal(
+            f"{what}: what is forgotten",
+            (good, lines),
+            (True, [f"the days before {day} are forgotten"]),
+        )
     same_rows(checks, what, path, books.remembered(day))
 
 
 # ---- what a kill leaves
 
+
 def two_files(world):
-    """A ledger and the one that a renewal made of it, each with commits in its log, and their books."""
+    """A ledger and the one that a renewal made of it, each with commits in its log, and their
+    books."""
     old, new = f"{world.folder}/two-old", f"{world.folder}/two-new"
     books = filled(world, old)
     settings = ledger_settings(world, old, default=DEFAULT)
@@ -269,21 +358,47 @@ def two_files(world):
     return old, closed, new, books, kept
 
 
-# of each state: what stands where, by the names of `two_files`, whether the former ledger is opened then, and what is left beside it
+# of each state: what stands where, by the names of `two_files`, whether the former ledger is opened
+# then, and what is left beside it
 STATES = {
-    "while the new file is filled": ({"": "old", "-wal": "old-wal", ".part": "new", ".part-wal": "new-wal"}, True, ["", "-wal"]),
-    "a new file without a log": ({"": "old", "-wal": "old-wal", ".part": "new"}, True, ["", "-wal"]),
-    "a log without its new file": ({"": "old", "-wal": "old-wal", ".part-wal": "new-wal"}, True, ["", "-wal", ".part-wal"]),
-    "after the first step": ({".old": "old", "-wal": "old-wal", ".part": "new", ".part-wal": "new-wal"}, True, ["", "-wal"]),
-    "after the second": ({".old": "old", "-wal": "old-wal", ".next": "new", ".part-wal": "new-wal"}, False, SWITCHED),
+    "while the new file is filled": (
+        {"": "old", "-wal": "old-wal", ".part": "new", ".part-wal": "new-wal"},
+        True,
+        ["", "-wal"],
+    ),
+    "a new file without a log": (
+        {"": "old", "-wal": "old-wal", ".part": "new"},
+        True,
+        ["", "-wal"],
+    ),
+    "a log without its new file": (
+        {"": "old", "-wal": "old-wal", ".part-wal": "new-wal"},
+        True,
+        ["", "-wal", ".part-wal"],
+    ),
+    "after the first step": (
+        {".old": "old", "-wal": "old-wal", ".part": "new", ".part-wal": "new-wal"},
+        True,
+        ["", "-wal"],
+    ),
+    "after the second": (
+        {".old": "old", "-wal": "old-wal", ".next": "new", ".part-wal": "new-wal"},
+        False,
+        SWITCHED,
+    ),
     "after the third": ({".old": "old", "-wal": "new-wal", ".next": "new"}, False, SWITCHED),
     "after the last": ({"": "new", "-wal": "new-wal", ".old": "old"}, False, SWITCHED),
 }
 OPENERS = {
     "limits": lambda world, config, _: world.run("limits", "--config", config)[0],
     "status": lambda world, config, _: world.run("status", "--config", config)[0] - 3,
-    "forget": lambda world, config, into: world.run("forget", "--config", config, "--before", "1", "--into", into)[0],
-    "a server": lambda world, config, _: world.run("server", "--config", config, "--connections", "1")[0] - 1,
+    "forget": lambda world, config, into: world.run(
+        "forget", "--config", config, "--before", "1", "--into", into
+    )[0],
+    "a server": (
+        lambda world, config, _: world.run("server", "--config", config, "--connections", "1")[0]
+        - 1
+    ),
 }
 
 
@@ -301,12 +416,23 @@ def repairs(world, checks):
     place = 0
     for row, (state, (files, is_former, left)) in enumerate(STATES.items()):
         sources = {"old": closed if state == "after the second" else old, "new": new}
-        for opener, opens in OPENERS.items() if state in ("after the first step", "after the second") else ():
+        for opener, opens in (
+            OPENERS.items() if state in ("after the first step", "after the second") else ()
+        ):
             place += 1
             what, path = f"{state}: {opener}", put(f"{world.folder}/opened{place}", files, sources)
             with Taken() as address:
-                config = ledger_settings(world, path, default=DEFAULT, listen=address if opener == "a server" else "127.0.0.1:1")
-                checks.equal(f"{what}: its status, and files", (opens(world, config, f"{world.folder}/into{place}"), names(path)), (0, left))
+                config = ledger_settings(
+                    world,
+                    path,
+                    default=DEFAULT,
+                    listen=address if opener == "a server" else "127.0.0.1:1",
+                )
+                checks.equal(
+                    f"{what}: its status, and files",
+                    (opens(world, config, f"{world.folder}/into{place}"), names(path)),
+                    (0, left),
+                )
         what, path = f"{state}: audit", put(f"{world.folder}/state{row}", files, sources)
         checks.equal(what, audit(world, path, default=DEFAULT), sound(books if is_former else kept))
         checks.equal(f"{what}: files", names(path), left)
@@ -314,30 +440,59 @@ def repairs(world, checks):
     notes_of_switches(world, checks, old, new)
     alone = put(f"{world.folder}/alone", {".old": "old"}, {"old": old})
     came = world.run("audit", "--config", ledger_settings(world, alone, default=DEFAULT))
-    checks.equal("a former file alone: audit", came, fault(NOT_OPENED, log=of_store(alone, NO_FILE)))
+    checks.equal(
+        "a former file alone: audit", came, fault(NOT_OPENED, log=of_store(alone, NO_FILE))
+    )
     checks.equal("a former file alone: files", names(alone), [".old"])
     beside = put(f"{world.folder}/beside", STATES["after the third"][0], {"old": old, "new": new})
     came = world.run("init", "--config", ledger_settings(world, beside, default=DEFAULT))
-    checks.equal("after the third: init, which makes none over it", (came[0], names(beside)), (1, SWITCHED))
+    checks.equal(
+        "after the third: init, which makes none over it", (came[0], names(beside)), (1, SWITCHED)
+    )
     same_rows(checks, "after the third: init", beside, kept)
-    noted = put(f"{world.folder}/noted-before", STATES["after the second"][0], {"old": closed, "new": new})
+    noted = put(
+        f"{world.folder}/noted-before", STATES["after the second"][0], {"old": closed, "new": new}
+    )
     with open(f"{noted}.night", "w", encoding="ascii") as file:
         file.write("forgot the days before 1 on day 3, in 7 ms\n")
     came = world.run("status", "--config", ledger_settings(world, noted, default=DEFAULT))
-    checks.equal("after the second, with the note of an earlier night: status, what it says of a night, and files", (came[0], b"forgot" in came[1], names(noted)), (3, False, SWITCHED))
+    checks.equal(
+        (
+            "after the second, with the note of an earlier night: status, what it says of a night,"
+            " and files"
+        ),
+        (came[0], b"forgot" in came[1], names(noted)),
+        (3, False, SWITCHED),
+    )
 
 
 def notes_of_switches(world, checks, old, new):
-    """Where a switch is undone, the last night is the one that is noted; where it is finished, that night has noted nothing. By log = "info" both are told."""
+    """Where a switch is undone, the last night is the one that is noted; where it is finished, that
+    night has noted nothing. By log = "info" both are told."""
     note = "forgot the days before 5 on day 8, in 3 ms"
-    for state, end, told in [("after the first step", "undone", [note]), ("after the third", "finished", [])]:
-        what, path = f"{state}, with the note of an earlier night", put(f"{world.folder}/noted-{end}", STATES[state][0], {"old": old, "new": new})
+    for state, end, told in [
+        ("after the first step", "undone", [note]),
+        ("after the third", "finished", []),
+    ]:
+        what, path = f"{state}, with the note of an earlier night", put(
+            f"{world.folder}/noted-{end}", STATES[state][0], {"old": old, "new": new}
+        )
         with open(f"{path}.night", "w", encoding="ascii") as file:
             file.write(f"{note}\n")
-        status, output, errors = world.run("status", "--config", ledger_settings(world, path, default=DEFAULT, log="info"))
-        checks.equal(f"{what}: status", (status, [it for it in output.decode().splitlines() if "forgot" in it]), (3, [f"ledger {path}: {it}" for it in told]))
+        status, output, errors = world.run(
+            "status", "--config", ledger_settings(world, path, default=DEFAULT, log="info")
+        )
+        checks.equal(
+            f"{what}: status",
+            (status, [it for it in output.decode().splitlines() if "forgot" in it]),
+            (3, [f"ledger {path}: {it}" for it in told]),
+        )
         lines = [line for line in errors.splitlines() if line.startswith("[INFO")]
-        checks.equal(f"{what}: the log", lines, [f"[INFO  mq_program::switching] {path}: an interrupted switch to a new file is {end}"])
+        checks.equal(
+            f"{what}: the log",
+            lines,
+            [f"[INFO  mq_program::switching] {path}: an interrupted switch to a new file is {end}"],
+        )
 
 
 class Taken:
@@ -345,6 +500,7 @@ class Taken:
 
     def __enter__(self):
         import socket
+
         self.listening = socket.create_server(("127.0.0.1", 0))
         return f"127.0.0.1:{self.listening.getsockname()[1]}"
 
@@ -355,18 +511,28 @@ class Taken:
 def leaves_what_is_locked(world, checks):
     """While the process lives that switches, nobody else touches its files."""
     old, new = f"{world.folder}/two-old", f"{world.folder}/two-new"
-    for state, locked in [("after the first step", ".part"), ("after the second", ".next"), ("after the third", ".next")]:
+    for state, locked in [
+        ("after the first step", ".part"),
+        ("after the second", ".next"),
+        ("after the third", ".next"),
+    ]:
         what = f"{state}, in another process"
-        path = put(f"{world.folder}/locked{locked}{state[-3:]}", STATES[state][0], {"old": old, "new": new})
+        path = put(
+            f"{world.folder}/locked{locked}{state[-3:]}", STATES[state][0], {"old": old, "new": new}
+        )
         before = names(path)
         with open(path + locked, "r+b") as file:
             fcntl.lockf(file, fcntl.LOCK_EX | fcntl.LOCK_NB, LOCK[1], LOCK[0])
             came = world.run("audit", "--config", ledger_settings(world, path, default=DEFAULT))
-            checks.equal(f"{what}: audit", came, fault(NOT_OPENED, log=of_store(path + locked, LOCKED)))
+            checks.equal(
+                f"{what}: audit", came, fault(NOT_OPENED, log=of_store(path + locked, LOCKED))
+            )
             checks.equal(f"{what}: files", names(path), before)
         checks.equal(f"{what}, which has ended: audit", audit(world, path, default=DEFAULT)[0], 0)
     what = "a new file that another process has open"
-    path = put(f"{world.folder}/held", STATES["while the new file is filled"][0], {"old": old, "new": new})
+    path = put(
+        f"{world.folder}/held", STATES["while the new file is filled"][0], {"old": old, "new": new}
+    )
     with open(f"{path}.part", "r+b") as file:
         fcntl.lockf(file, fcntl.LOCK_EX | fcntl.LOCK_NB, LOCK[1], LOCK[0])
         checks.equal(f"{what}: audit", audit(world, path, default=DEFAULT)[0], 0)
@@ -375,6 +541,7 @@ def leaves_what_is_locked(world, checks):
 
 # ---- servers
 
+
 def counts_on(world, checks):
     """A server ends after so many connections, whether days were forgotten between them or not."""
     path = f"{world.folder}/counted"
@@ -382,38 +549,72 @@ def counts_on(world, checks):
     with nightly(world, path, connections=5) as server:
         came = asked(server, [request(900, today())])
         good = wait_until(lambda: is_through(server))
-        came += [it for number in range(901, 905) for it in asked(server, [request(number, today())])]
-        checks.equal("five connections: days were forgotten, and the status", (good, server.status()), (True, 0))
-        lines, day = [re.sub(r"[0-9]+ ms", "N ms", line) for line in server.log_lines()], first_day()
+        came += [
+            it for number in range(901, 905) for it in asked(server, [request(number, today())])
+        ]
+        checks.equal(
+            "five connections: days were forgotten, and the status",
+            (good, server.status()),
+            (True, 0),
+        )
+        lines, day = [
+            re.sub(r"[0-9]+ ms", "N ms", line) for line in server.log_lines()
+        ], first_day()
         wanted = [
-            f"[INFO  mq_program::nights] ledger {path}: has days from {today() - 5} on, keeps {KEEP} before today",
+            (
+                f"[INFO  mq_program::nights] ledger {path}: has days from {today() - 5} on, keeps"
+                f" {KEEP} before today"
+            ),
             f"[INFO  mq_program::nights] listening on {server.listen} for 5 connections",
             f"[INFO  mq_nights::evening] forgetting the days before {day}",
-            f"[INFO  mq_program::nights] ledger {path}: the days before {day} are forgotten, in N ms, the last N ms without an answer",
+            (
+                f"[INFO  mq_program::nights] ledger {path}: the days before {day} are forgotten, in"
+                " N ms, the last N ms without an answer"
+            ),
             "[INFO  mq_program::nights] ending after 5 connections",
         ]
         checks.equal("five connections: the log behind its first line", lines[1:], wanted)
-    checks.equal("five connections: replies", came, [books.serve(request(number, today())) for number in range(900, 905)])
+    checks.equal(
+        "five connections: replies",
+        came,
+        [books.serve(request(number, today())) for number in range(900, 905)],
+    )
     with nightly(world, path) as server:
-        checks.equal("five connections, then a start without days to be forgotten: files", (len(asked(server, [wire.page()])), names(path)), (1, NOTED))
+        checks.equal(
+            "five connections, then a start without days to be forgotten: files",
+            (len(asked(server, [wire.page()])), names(path)),
+            (1, NOTED),
+        )
     is_noted(world, checks, path, first_day())
     path = f"{world.folder}/empty"
     with nightly(world, path, words=["--create"]) as server:
-        wanted = [f"[INFO  mq_program::nights] ledger {path}: keeps {KEEP} days before today", f"[INFO  mq_program::nights] listening on {server.listen} for 1000000 connections"]
-        checks.equal("a ledger without days: the log behind its first line", server.log_lines()[1:], wanted)
+        wanted = [
+            f"[INFO  mq_program::nights] ledger {path}: keeps {KEEP} days before today",
+            f"[INFO  mq_program::nights] listening on {server.listen} for 1000000 connections",
+        ]
+        checks.equal(
+            "a ledger without days: the log behind its first line", server.log_lines()[1:], wanted
+        )
 
 
 def clocks_that_differ(world, checks):
     for what, newest in [("four days ago", today() - 4), ("in five days", today() + 5)]:
         path, what = f"{world.folder}/clock{newest}", f"a newest day {what}"
-        books, frames = Books(0, DEFAULT), [request(number, newest - number % 9) for number in range(1, 40)]
+        books, frames = Books(0, DEFAULT), [
+            request(number, newest - number % 9) for number in range(1, 40)
+        ]
         with Server(world, words=["--create"], store=path, default=DEFAULT) as server:
             assert asked(server, frames) == [books.serve(it) for it in frames]
         with nightly(world, path) as server:
-            checks.equal(f"{what}: replies", asked(server, frames), [books.serve(it) for it in frames])
+            checks.equal(
+                f"{what}: replies", asked(server, frames), [books.serve(it) for it in frames]
+            )
             lines = [line for line in server.log_lines() if line.startswith("[WARN  mq_nights::")]
             night = (int(time.time()) - 10_800) // DAY
-            line = f"[WARN  mq_nights::lookout] nothing is forgotten: it is day {night}, and something was reserved on day {newest} last"
+            line = (
+                f"[WARN  mq_nights::lookout] nothing is forgotten: it is day {night}, and something"
+                f" was reserved on day {newest} last"
+            )
             checks.equal(f"{what}: what is logged", lines, [line])
         checks.equal(f"{what}: files", names(path), ["", "-wal"])
         same_rows(checks, what, path, books)
@@ -426,13 +627,20 @@ def no_new_file(world, checks):
     os.mkdir(f"{path}.part")
     with nightly(world, path) as server:
         frames = [request(number, today(), host=b"mx2") for number in range(1, 30)]
-        checks.equal("no new file: replies", asked(server, frames), [books.serve(it) for it in frames])
+        checks.equal(
+            "no new file: replies", asked(server, frames), [books.serve(it) for it in frames]
+        )
         lines = [line for line in server.log_lines() if line.startswith(("[WARN", "[ERROR"))]
         is_folder = "Is a directory (os error 21)"
         left = f"[WARN  mq_program::switching] {path}.part, which a renewal left: {is_folder}"
         wanted = [
-            left, of_store(f"{path}.part", is_folder).rstrip(), left,
-            f"[WARN  mq_nights::evening] days before {first_day()} stay: no new store; next attempt in an hour",
+            left,
+            of_store(f"{path}.part", is_folder).rstrip(),
+            left,
+            (
+                f"[WARN  mq_nights::evening] days before {first_day()} stay: no new store; next"
+                " attempt in an hour"
+            ),
         ]
         checks.equal("no new file: what is logged", lines, wanted)
     os.rmdir(f"{path}.part")
@@ -440,10 +648,21 @@ def no_new_file(world, checks):
     checks.equal("no new file: files", names(path), ["", "-wal"])
     os.mkdir(f"{path}.old")
     with nightly(world, path) as server:
-        checks.equal("no other name for the former file: replies", asked(server, frames), [books.serve(it) for it in frames])
+        checks.equal(
+            "no other name for the former file: replies",
+            asked(server, frames),
+            [books.serve(it) for it in frames],
+        )
         lines = [line for line in server.log_lines() if line.startswith(("[WARN", "[ERROR"))]
-        good = any(f"{path}.old: not a plain file" in line for line in lines) and any("next attempt in an hour" in line for line in lines)
-        checks.holds("no other name for the former file: what is logged", good and len(lines) == 2, "why, and the next attempt", lines)
+        good = any(f"{path}.old: not a plain file" in line for line in lines) and any(
+            "next attempt in an hour" in line for line in lines
+        )
+        checks.holds(
+            "no other name for the former file: what is logged",
+            good and len(lines) == 2,
+            "why, and the next attempt",
+            lines,
+        )
     os.rmdir(f"{path}.old")
     checks.equal("no other name for the former file: files", names(path), ["", "-wal"])
     link = f"{world.folder}/link"
@@ -451,7 +670,12 @@ def no_new_file(world, checks):
     with nightly(world, link) as server:
         checks.equal("a link: replies", asked(server, frames), [books.serve(it) for it in frames])
         lines = [line for line in server.log_lines() if line.startswith("[ERROR")]
-        checks.holds("a link: what is logged", len(lines) == 1 and f"{link}: not a plain file" in lines[0], "why", lines)
+        checks.holds(
+            "a link: what is logged",
+            len(lines) == 1 and f"{link}: not a plain file" in lines[0],
+            "why",
+            lines,
+        )
     checks.equal("a link: files", (names(path), os.path.islink(link)), (["", "-wal"], True))
 
 
@@ -461,39 +685,69 @@ def warned_of(server):
 
 
 def names_that_are_folders(world, checks):
-    """The note and a log of before can't be written or removed: that is logged, and days are forgotten all the same."""
-    what, path = "folders in place of a night's note and of a log of before", f"{world.folder}/folders"
+    """The note and a log of before can't be written or removed: that is logged, and days are
+    forgotten all the same."""
+    what, path = (
+        "folders in place of a night's note and of a log of before",
+        f"{world.folder}/folders",
+    )
     books = filled(world, path)
     for it in (".night", ".old-wal"):
         os.mkdir(f"{path}{it}")
     with nightly(world, path) as server:
         good = wait_until(lambda: is_through(server))
         is_folder = "Is a directory (os error 21)"
-        wanted = [f"[WARN  mq_program::switching] {path}.old-wal: {is_folder}", f"[WARN  mq_program::last_night] {path}.night: {is_folder}"]
+        wanted = [
+            f"[WARN  mq_program::switching] {path}.old-wal: {is_folder}",
+            f"[WARN  mq_program::last_night] {path}.night: {is_folder}",
+        ]
         # (it answers once the note is written)
         asked(server, [wire.page()])
-        checks.equal(f"{what}: days are forgotten, and what is logged", (good, warned_of(server)), (True, wanted))
+        checks.equal(
+            f"{what}: days are forgotten, and what is logged",
+            (good, warned_of(server)),
+            (True, wanted),
+        )
     for it in (".night", ".old-wal"):
         os.rmdir(f"{path}{it}")
     same_rows(checks, what, path, books.remembered(first_day()))
 
 
 def a_switch_that_fails(world, checks):
-    """The new ledger's log was removed by somebody, or a folder has the name that its file gets: the server ends, says of which file and why, and the
-    former ledger is whole."""
+    """The new ledger's log was removed by somebody, or a folder has the name that its file gets:
+    the server ends, says of which file and why, and the former ledger is whole."""
     source = f"{world.folder}/to-be-switched"
     books = filled(world, source, MANY)
-    for place, (what, change, undo, of, why, left) in enumerate([
-        ("a new ledger without its log", lambda path: os.remove(f"{path}.part-wal"), lambda path: None, ".part-wal", "it was removed", ["", "-wal", ".part"]),
-        ("a folder in the new ledger's way", lambda path: os.mkdir(f"{path}.next"), lambda path: os.rmdir(f"{path}.next"), ".part", "Is a directory (os error 21)",
-         ["-wal", ".next", ".old", ".part", ".part-wal"]),
-    ]):
+    for place, (what, change, undo, of, why, left) in enumerate(
+        [
+            (
+                "a new ledger without its log",
+                lambda path: os.remove(f"{path}.part-wal"),
+                lambda path: None,
+                ".part-wal",
+                "it was removed",
+                ["", "-wal", ".part"],
+            ),
+            (
+                "a folder in the new ledger's way",
+                lambda path: os.mkdir(f"{path}.next"),
+                lambda path: os.rmdir(f"{path}.next"),
+                ".part",
+                "Is a directory (os error 21)",
+                ["-wal", ".next", ".old", ".part", ".part-wal"],
+            ),
+        ]
+    ):
         path = copied(source, f"{world.folder}/switched{place}")
         with nightly(world, path) as server:
             there = wait_until(lambda path=path: os.path.exists(f"{path}.part-wal"))
             change(path)
-            wait_until(lambda server=server: server.process.poll() is not None or is_through(server))
-            ended, lines = server.process.poll(), [line for line in server.log_lines() if not line.startswith("[INFO")]
+            wait_until(
+                lambda server=server: server.process.poll() is not None or is_through(server)
+            )
+            ended, lines = server.process.poll(), [
+                line for line in server.log_lines() if not line.startswith("[INFO")
+            ]
         wanted = True, 1, [of_store(f"{path}{of}", why).rstrip(), f"mailquota: {NOT_OPENED}"]
         checks.equal(f"{what}: the status, and what is said", (there, ended, lines), wanted)
         checks.equal(f"{what}: files", names(path), left)
@@ -503,7 +757,8 @@ def a_switch_that_fails(world, checks):
 
 
 def catches_up(world, checks):
-    """A peer has sent thousands of requests as a night begins: the new ledger takes over what comes meanwhile, too, and doesn't wait for its end."""
+    """A peer has sent thousands of requests as a night begins: the new ledger takes over what comes
+    meanwhile, too, and doesn't wait for its end."""
     what, path, day, count = "a night under load", f"{world.folder}/load", today(), 5_000
     books = filled(world, path, 240)
     server, clock = by_clock(world, path, DAY * day + 7_200)
@@ -514,13 +769,22 @@ def catches_up(world, checks):
         with server.stopped():
             clock.pass_to(DAY * day + 10_830)
             peer = server.connect()
-            threading.Thread(target=sent_as_far_as_it_goes, args=(peer, b"".join(frames)), daemon=True).start()
+            threading.Thread(
+                target=sent_as_far_as_it_goes, args=(peer, b"".join(frames)), daemon=True
+            ).start()
             time.sleep(0.1)
         with peer, peer.makefile("rb") as back:
             came = list(iter(lambda: whole_reply(back), b""))
         good = wait_until(lambda: is_through(server))
-    checks.equal(f"{what}: replies until it", came == [books.serve(it) for it in frames[:len(came)]], True)
-    checks.holds(f"{what}: days are forgotten before all are answered", good and 0 < len(came) < count, f"fewer than {count:,} replies", len(came))
+    checks.equal(
+        f"{what}: replies until it", came == [books.serve(it) for it in frames[: len(came)]], True
+    )
+    checks.holds(
+        f"{what}: days are forgotten before all are answered",
+        good and 0 < len(came) < count,
+        f"fewer than {count:,} replies",
+        len(came),
+    )
 
 
 def sent_as_far_as_it_goes(peer, text):
@@ -534,20 +798,37 @@ THOUSANDS = 12_000
 
 def of_thousands(world, checks):
     """A ledger of thousands of answers, of which some are forgotten, is renewed."""
-    what, path, books = f"a night over {THOUSANDS:,} answers", f"{world.folder}/thousands", Books(0, DEFAULT)
+    what, path, books = (
+        f"a night over {THOUSANDS:,} answers",
+        f"{world.folder}/thousands",
+        Books(0, DEFAULT),
+    )
     for number in range(1, THOUSANDS + 1):
         books.apply(request(number, days_of(number))[2:])
     written(world, "thousands", *of_version(3, books))
     with nightly(world, path) as server:
         good = wait_until(lambda: is_through(server) or warned_of(server))
-        checks.equal(f"{what}: days are forgotten, and what is logged", (good, warned_of(server)), (True, []))
+        checks.equal(
+            f"{what}: days are forgotten, and what is logged", (good, warned_of(server)), (True, [])
+        )
         # (it answers once the note is written)
         asked(server, [wire.page()])
-        times = re.search(r"are forgotten, in (\d+) ms, the last (\d+) ms", "\n".join(server.all_log_lines()))
+        times = re.search(
+            r"are forgotten, in (\d+) ms, the last (\d+) ms", "\n".join(server.all_log_lines())
+        )
         took, last = map(int, times.groups()) if times else (0, 0)
-    checks.holds(f"{what}: how long it took, and how long of that nobody was answered", took > last, "the longer time first", (took, last))
+    checks.holds(
+        f"{what}: how long it took, and how long of that nobody was answered",
+        took > last,
+        "the longer time first",
+        (took, last),
+    )
     with open(f"{path}.night", encoding="ascii") as file:
-        checks.equal(f"{what}: its note", file.read(), f"forgot the days before {first_day()} on day {today()}, in {took} ms\n")
+        checks.equal(
+            f"{what}: its note",
+            file.read(),
+            f"forgot the days before {first_day()} on day {today()}, in {took} ms\n",
+        )
     same_rows(checks, what, path, books.remembered(first_day()))
 
 
@@ -572,7 +853,11 @@ def again_in_an_hour(world, checks):
         for passed, seconds in ((3_500, 0.5), (3_700, 20)):
             clock.pass_to(DAY * day + 10_830 + passed)
             came.append(through(seconds))
-        checks.equal(f"{what}: a warning, and whether days are forgotten 3,500 s and 3,700 s later", (warned, came), (True, [False, True]))
+        checks.equal(
+            f"{what}: a warning, and whether days are forgotten 3,500 s and 3,700 s later",
+            (warned, came),
+            (True, [False, True]),
+        )
         checks.equal(f"{what}: what is forgotten", forgotten_from(server), [day - KEEP])
 
 
@@ -581,7 +866,8 @@ WRITTEN, SYNCED, RENAMED, REMOVED, OWNED = 18, 74, 82, 87, 93
 
 
 def on_the_disk_in_order(world, checks):
-    """What a power cut leaves of a night says how far it came, since each name is on the disk before the next step: the folder is synced."""
+    """What a power cut leaves of a night says how far it came, since each name is on the disk
+    before the next step: the folder is synced."""
     what, path, noted = "the files of a night", f"{world.folder}/ordered", Noted(world)
     filled(world, path)
     for it in (".part", ".part-wal", ".old-wal"):
@@ -590,14 +876,28 @@ def on_the_disk_in_order(world, checks):
         good = wait_until(lambda: is_through(server))
         server.process.kill()
         server.status()
-    steps = [call.number for call in noted.calls() if call.number in (WRITTEN, SYNCED, RENAMED, REMOVED, OWNED) and call.result >= 0]
+    steps = [
+        call.number
+        for call in noted.calls()
+        if call.number in (WRITTEN, SYNCED, RENAMED, REMOVED, OWNED) and call.result >= 0
+    ]
 
     def are_synced(step):
         return [after == SYNCED for it, after in itertools.pairwise([*steps, None]) if it == step]
 
     # (the first file that is made is the new one)
-    came = {"days are forgotten": good, "the new file": are_synced(OWNED)[:1], "names that are given": are_synced(RENAMED), "files that are removed": are_synced(REMOVED)}
-    wanted = {"days are forgotten": True, "the new file": [True], "names that are given": [True] * RENAMES, "files that are removed": [True] * 3}
+    came = {
+        "days are forgotten": good,
+        "the new file": are_synced(OWNED)[:1],
+        "names that are given": are_synced(RENAMED),
+        "files that are removed": are_synced(REMOVED),
+    }
+    wanted = {
+        "days are forgotten": True,
+        "the new file": [True],
+        "names that are given": [True] * RENAMES,
+        "files that are removed": [True] * 3,
+    }
     checks.equal(f"{what}: those that are on the disk before the next step", came, wanted)
 
 
@@ -610,46 +910,116 @@ def beside_a_renewal(world, checks):
         came = [world.run(word, "--config", config) for word in ("status", "audit")]
         there = os.path.exists(f"{path}.part")
         is_early = not is_through(server)
-        checks.equal("a renewal: it goes on, and its file is there", (good, is_early, there), (True, True, True))
+        checks.equal(
+            "a renewal: it goes on, and its file is there",
+            (good, is_early, there),
+            (True, True, True),
+        )
         checks.equal("a renewal: status", came[0][0], 0)
         checks.equal("a renewal: audit", came[1], fault(NOT_OPENED, log=of_store(path, LOCKED)))
-        checks.holds("a renewal: then it is through", wait_until(lambda: is_through(server)), "a line of the log", server.log_lines()[-2:])
+        checks.holds(
+            "a renewal: then it is through",
+            wait_until(lambda: is_through(server)),
+            "a line of the log",
+            server.log_lines()[-2:],
+        )
         came = world.run("audit", "--config", config)
         checks.equal("after a renewal: audit", came, fault(NOT_OPENED, log=of_store(path, LOCKED)))
-        took = [re.search(r"are forgotten, in (\d+) ms, the last (\d+) ms without an answer$", line) for line in server.all_log_lines() if "are forgotten" in line]
+        took = [
+            re.search(r"are forgotten, in (\d+) ms, the last (\d+) ms without an answer$", line)
+            for line in server.all_log_lines()
+            if "are forgotten" in line
+        ]
         good = len(took) == 1 and took[0] and int(took[0][2]) < int(took[0][1])
-        checks.holds("after a renewal: how long it took, and how long without an answer", good, "a part of it", server.all_log_lines()[-2:])
+        checks.holds(
+            "after a renewal: how long it took, and how long without an answer",
+            good,
+            "a part of it",
+            server.all_log_lines()[-2:],
+        )
     same_rows(checks, "after a renewal", path, books.remembered(first_day()))
 
 
 def notes_of_nights(world, checks):
-    """The note of a night has today's number by the ledger's zone, where that isn't UTC's, and as long a time as the log. One that can't be written is
-    logged, and so is a log that can't be removed, which would stand beside the former ledger."""
+    """The note of a night has today's number by the ledger's zone, where that isn't UTC's, and as
+    long a time as the log. One that can't be written is logged, and so is a log that can't be
+    removed, which would stand beside the former ledger."""
     offset = 720 if int(time.time()) % DAY >= DAY // 2 else -720
     wait_past_midnight(offset)
     wait_past_midnight(offset - 180)
     there = (int(time.time()) + 60 * offset) // DAY
     first = min((int(time.time()) + 60 * offset - 10_800) // DAY, there) - KEEP
-    frames = [wire.reserve(number, txn=number, at=DAY * (there - number % 6) - 60 * offset + 1, host=b"mx1") for number in range(1, 60)]
-    for what, is_folder in [("a night's note by another zone", False), ("a night's note that can't be written", True)]:
+    frames = [
+        wire.reserve(
+            number, txn=number, at=DAY * (there - number % 6) - 60 * offset + 1, host=b"mx1"
+        )
+        for number in range(1, 60)
+    ]
+    for what, is_folder in [
+        ("a night's note by another zone", False),
+        ("a night's note that can't be written", True),
+    ]:
         path = f"{world.folder}/zone-{is_folder}"
-        with Server(world, words=["--create"], store=path, default=DEFAULT, offset=offset) as server:
+        with Server(
+            world, words=["--create"], store=path, default=DEFAULT, offset=offset
+        ) as server:
             assert len(asked(server, frames)) == len(frames)
         if is_folder:
             os.mkdir(f"{path}.night")
             os.mkdir(f"{path}.old-wal")
         with nightly(world, path, offset=offset) as server:
-            good = wait_until(lambda: is_through(server) and os.path.exists(f"{path}.night") and os.path.getsize(f"{path}.night"))
+            good = wait_until(
+                lambda: is_through(server)
+                and os.path.exists(f"{path}.night")
+                and os.path.getsize(f"{path}.night")
+            )
             lines = server.all_log_lines()
-            said = next((it for line in lines if (it := re.search(r"the days before (\d+) are forgotten, in (\d+ ms), the last \d+ ms", line))), None)
-            checks.holds(f"{what}: the log", good and said and int(said[1]) == first, f"the days before {first}", lines)
+            said = next(
+                (
+                    it
+                    for line in lines
+                    if (
+                        it := re.search(
+                            r"the days before (\d+) are forgotten, in (\d+ ms), the last \d+ ms",
+                            line,
+                        )
+                    )
+                ),
+                None,
+            )
+            checks.holds(
+                f"{what}: the log",
+                good and said and int(said[1]) == first,
+                f"the days before {first}",
+                lines,
+            )
             if is_folder:
                 why = "Is a directory (os error 21)"
-                wanted = [f"[WARN  mq_program::switching] {path}.old-wal: {why}", f"[WARN  mq_program::last_night] {path}.night: {why}"]
-                checks.holds(f"{what}: why", wait_until(lambda: [line for line in server.all_log_lines() if line.startswith("[WARN")] == wanted), wanted, server.all_log_lines()[-2:])
+                wanted = [
+                    f"[WARN  mq_program::switching] {path}.old-wal: {why}",
+                    f"[WARN  mq_program::last_night] {path}.night: {why}",
+                ]
+                checks.holds(
+                    f"{what}: why",
+                    wait_until(
+                        lambda: [
+                            line for line in server.all_log_lines() if line.startswith("[WARN")
+                        ]
+                        == wanted
+                    ),
+                    wanted,
+                    server.all_log_lines()[-2:],
+                )
             else:
                 with open(f"{path}.night", encoding="ascii") as file:
-                    checks.equal(f"{what}: what it says", file.read(), f"forgot the days before {first} on day {there}, in {said[2] if said else 'N ms'}\n")
+                    checks.equal(
+                        f"{what}: what it says",
+                        file.read(),
+                        (
+                            f"forgot the days before {first} on day {there}, in"
+                            f" {said[2] if said else 'N ms'}\n"
+                        ),
+                    )
 
 
 def tries_again_in_an_hour(world, checks):
@@ -667,38 +1037,61 @@ def tries_again_in_an_hour(world, checks):
             asked(server, [wire.usage()] * 3)
             good = wait_until(lambda: len(warnings(server)) >= wanted)
             asked(server, [wire.usage()] * 20)
-            line = f"[WARN  mq_nights::evening] days before {day - KEEP} stay: no new store; next attempt in an hour"
-            checks.equal(f"{what} {hour}:{minute:02}: what is logged", (good, warnings(server)), (True, [line] * wanted))
+            line = (
+                f"[WARN  mq_nights::evening] days before {day - KEEP} stay: no new store; next"
+                " attempt in an hour"
+            )
+            checks.equal(
+                f"{what} {hour}:{minute:02}: what is logged",
+                (good, warnings(server)),
+                (True, [line] * wanted),
+            )
     checks.equal("no new file for two hours: files", names(path), ["", "-wal", ".part"])
 
 
 def warns_once_over_a_night(world, checks):
     """What was warned of is warned of once, also where days were forgotten since."""
-    what, path, day = "a login that nears its limit before a night and after it", f"{world.folder}/once", today()
+    what, path, day = (
+        "a login that nears its limit before a night and after it",
+        f"{world.folder}/once",
+        today(),
+    )
     with Server(world, words=["--create"], store=path, default=DEFAULT) as server:
         frames = [request(number, day - number % (KEEP + 2)) for number in range(1, 20)]
         assert len(asked(server, frames)) == len(frames)
     server, clock = by_clock(world, path, DAY * day + 3_600)
     with server:
-        near = [wire.reserve(number, txn=number, login=b"near", count=count, at=DAY * day + 60, host=b"mx9") for number, count in ((1, 800), (2, 1))]
+        near = [
+            wire.reserve(
+                number, txn=number, login=b"near", count=count, at=DAY * day + 60, host=b"mx9"
+            )
+            for number, count in ((1, 800), (2, 1))
+        ]
         asked(server, near[:1])
         clock.pass_to(DAY * day + 10_860)
         asked(server, [wire.usage()] * 3)
         good = wait_until(lambda: is_through(server))
         came = asked(server, near[1:])
-        lines = [line.partition(": login ")[2] for line in server.all_log_lines() if ": login near " in line]
+        lines = [
+            line.partition(": login ")[2]
+            for line in server.all_log_lines()
+            if ": login near " in line
+        ]
         wanted = f"near has used 800 of its limit of {DEFAULT} on day {day}"
         checks.equal(f"{what}: the log", (good, len(came), lines), (True, 1, [wanted]))
 
 
 def a_new_file_that_is_removed(world, checks):
-    """Somebody removes the new file while it is filled: the server ends, and the ledger is what it was."""
+    """Somebody removes the new file while it is filled: the server ends, and the ledger is what it
+    was."""
     what, path = "a new file that was removed", f"{world.folder}/removed"
     books = filled(world, path, MANY)
     with nightly(world, path) as server:
         good = wait_until(lambda: os.path.exists(f"{path}.part-wal"))
         os.remove(f"{path}.part")
-        ended = server.status(), [line for line in server.log_lines() if not line.startswith("[INFO")]
+        ended = server.status(), [
+            line for line in server.log_lines() if not line.startswith("[INFO")
+        ]
     wanted = [of_store(f"{path}.part", "it was removed").rstrip("\n"), f"mailquota: {NOT_OPENED}"]
     checks.equal(f"{what}: the end", (good, ended), (True, (1, wanted)))
     checks.equal(f"{what}: audit", audit(world, path, default=DEFAULT), sound(books))
@@ -729,7 +1122,9 @@ def killed_at_a_rename(world, checks):
     for place in range(1, RENAMES + 1):
         what, path = f"killed before rename {place}", f"{world.folder}/rename{place}"
         filled(world, path)
-        with nightly(world, path, limit=("strace", f"rename,renameat,renameat2:signal=KILL:when={place}")) as server:
+        with nightly(
+            world, path, limit=("strace", f"rename,renameat,renameat2:signal=KILL:when={place}")
+        ) as server:
             client = Client(server)
             client.start()
             try:
@@ -740,9 +1135,17 @@ def killed_at_a_rename(world, checks):
         left = names(path)
         with nightly(world, path) as server:
             frames = [frame for frame, _ in client.read]
-            checks.equal(f"{what}: each reply again, with {' '.join(left)} there", all_asked(server, frames), [reply for _, reply in client.read])
+            checks.equal(
+                f"{what}: each reply again, with {' '.join(left)} there",
+                all_asked(server, frames),
+                [reply for _, reply in client.read],
+            )
             good = place > 2 or wait_until(lambda: is_through(server))
-            checks.equal(f"{what}: then days are forgotten, and again", (good, asked(server, frames)), (True, [reply for _, reply in client.read]))
+            checks.equal(
+                f"{what}: then days are forgotten, and again",
+                (good, asked(server, frames)),
+                (True, [reply for _, reply in client.read]),
+            )
         checks.equal(f"{what}: files then", names(path), NOTED if place <= 2 else SWITCHED)
         checks.equal(f"{what}: audit", audit(world, path, default=DEFAULT)[0], 0)
 
@@ -791,7 +1194,9 @@ def killed_at(world, checks, source, place):
         client = Client(server)
         client.start()
         # (where it made fewer changes this time, it is killed after its night)
-        wait_until(lambda: server.process.poll() is not None or is_through(server) and client.read[20:])
+        wait_until(
+            lambda: server.process.poll() is not None or is_through(server) and client.read[20:]
+        )
         server.process.kill()
         server.status()
         client.join(timeout=SECONDS)
@@ -802,8 +1207,11 @@ def killed_at(world, checks, source, place):
         came = all_asked(server, frames)
         good = wait_until(lambda: is_renewed(server))
         found = [reply for _, reply in client.read], came, good, asked(server, frames)
-        checks.equal(f"{what}, with {left} there: replies, those then, and once days are forgotten",
-                     found, (wanted[:-1], wanted, True, wanted))
+        checks.equal(
+            f"{what}, with {left} there: replies, those then, and once days are forgotten",
+            found,
+            (wanted[:-1], wanted, True, wanted),
+        )
         server.process.kill()
         server.status()
     same_rows(checks, what, path, books.remembered(first_day()))
@@ -812,6 +1220,7 @@ def killed_at(world, checks, source, place):
 
 
 # ---- by a clock that is set
+
 
 def by_clock(world, path, moment, **more):
     """A server whose clock shows this moment, and the clock."""
@@ -840,8 +1249,8 @@ def warnings(server):
 
 
 def wrong_clocks(world, checks):
-    """Before a night the server's clock jumps ten years ahead, back, ten years back, and back again:
-    nothing is forgotten, and each request answered as before. Then the night is as ever."""
+    """Before a night the server's clock jumps ten years ahead, back, ten years back, and back
+    again: nothing is forgotten, and each request answered as before. Then the night is as ever."""
     what, path, day = "a clock that jumps", f"{world.folder}/jumps", today()
     books, sent = Books(0, DEFAULT), itertools.count(1)
 
@@ -849,7 +1258,9 @@ def wrong_clocks(world, checks):
         new, day_asked = request(next(sent), of, host=b"mx5"), day - KEEP - 1
         frames = [new, wire.usage(b"u1", day_asked), wire.page(b"", day_asked)][:count]
         wanted = [books.serve(it) for it in frames]
-        checks.equal(f"{what}: replies as it shows {clock_shows}", all_asked(server, frames), wanted)
+        checks.equal(
+            f"{what}: replies as it shows {clock_shows}", all_asked(server, frames), wanted
+        )
 
     with Server(world, words=["--create"], store=path, default=DEFAULT) as server:
         frames = [request(number, day - number % (KEEP + 2)) for number in range(1, 80)]
@@ -1066,7 +1477,18 @@ def exchanged(peer, back, frame):
 
 # bytes that a disk has beyond a ledger and its log, where days are to be forgotten: too few to make
 # a new file, too few for all of it, and enough
-ROOMS = [10_000, 100_000, 200_000, 270_000, 300_000, 350_000, 400_000, 450_000, 2 * 10**6, 6 * 10**6]
+ROOMS = [
+    10_000,
+    100_000,
+    200_000,
+    270_000,
+    300_000,
+    350_000,
+    400_000,
+    450_000,
+    2 * 10**6,
+    6 * 10**6,
+]
 # reserves of a ledger whose log has the size that it keeps
 FILLING = 300
 
@@ -1106,15 +1528,28 @@ def on_a_full_disk(world, checks, source, room):
         checks.equal(f"{what}: it goes on", ended, None)
         checks.equal(f"{what}: replies", came, [books.serve(frame) for frame in sent + last])
         why = "|".join(["no new store", *FULL])
-        full = len(lines) == 1 and re.fullmatch(rf"\[WARN  mq_nights::evening\] days before {first_day()} stay: ({why}); next attempt in an hour", lines[0])
-        checks.holds(f"{what}: what is logged", is_forgotten != bool(full), "a day, or why days stay", lines)
-        checks.equal(f"{what}: files", [it for it in names(path) if it != ".night"], SWITCHED if is_forgotten else ["", "-wal"])
+        full = len(lines) == 1 and re.fullmatch(
+            (
+                rf"\[WARN  mq_nights::evening\] days before {first_day()} stay: ({why}); next"
+                r" attempt in an hour"
+            ),
+            lines[0],
+        )
+        checks.holds(
+            f"{what}: what is logged", is_forgotten != bool(full), "a day, or why days stay", lines
+        )
+        checks.equal(
+            f"{what}: files",
+            [it for it in names(path) if it != ".night"],
+            SWITCHED if is_forgotten else ["", "-wal"],
+        )
         kept = copied(path, f"{world.folder}/of-disk{room}")
     same_rows(checks, what, kept, books.remembered(first_day()) if is_forgotten else books)
     return is_forgotten
 
 
 # ---- a host whose clock is slow
+
 
 def a_slow_host(world, checks):
     """A host whose clock is five days slow asks all the time: days are forgotten once a night."""

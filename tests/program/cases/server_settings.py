@@ -1,14 +1,28 @@
-"""Settings of the server: accepted ones end in the refusal of a port that is in use, so that nothing is served."""
+"""Settings of the server: accepted ones end in the refusal of a port that is in use, so that
+nothing is served."""
 import socket
 
 from cases.rules import CENTRAL_EUROPE, NO_RULES, RULES
 from cases.texts_of_settings import NOT_TOML, is_no_toml, log_of
-from ends import NO_FILE, NO_NUMERIC_ADDRESS, NO_PORT, PORT_TOO_LARGE, begun, fault, of_settings, without_time
+from ends import (
+    NO_FILE,
+    NO_NUMERIC_ADDRESS,
+    NO_PORT,
+    PORT_TOO_LARGE,
+    begun,
+    fault,
+    of_settings,
+    without_time,
+)
 
 ACCEPTED = "listen failed"
 # addresses that none can listen at, and what each lacks
 ADDRESSES = {
-    '"localhost:7025"': NO_NUMERIC_ADDRESS, '"127.0.0.1"': NO_PORT, '"*:7025"': NO_NUMERIC_ADDRESS, '"127.0.0.1:65536"': PORT_TOO_LARGE, "7025": None,
+    '"localhost:7025"': NO_NUMERIC_ADDRESS,
+    '"127.0.0.1"': NO_PORT,
+    '"*:7025"': NO_NUMERIC_ADDRESS,
+    '"127.0.0.1:65536"': PORT_TOO_LARGE,
+    "7025": None,
     '""': NO_PORT,
 }
 
@@ -26,17 +40,29 @@ class Cases:
         self.world = world
         self.checks = checks
         self.address = f"127.0.0.1:{port}"
-        self.good = {"listen": f'"{self.address}"', "store": '"memory"', "default": "3", "offset": "0"}
+        self.good = {
+            "listen": f'"{self.address}"',
+            "store": '"memory"',
+            "default": "3",
+            "offset": "0",
+        }
 
     def text_of(self, **settings):
-        return "".join(f"{key} = {value}\n" for key, value in {**self.good, **settings}.items() if value is not None)
+        return "".join(
+            f"{key} = {value}\n"
+            for key, value in {**self.good, **settings}.items()
+            if value is not None
+        )
 
     def expect(self, what, content, wanted, *words, lacks=None, log=None):
-        """What a server comes to by this file of settings, and what its log says before: of an address its fault, where it is a text, or this log."""
+        """What a server comes to by this file of settings, and what its log says before: of an
+        address its fault, where it is a text, or this log."""
         path = self.world.new_file(content)
         came = self.world.run("server", "--config", path, *words)
         if wanted == NOT_TOML:
-            self.checks.holds(f"server settings, {what}", is_no_toml(path, came), "refused, with the place", came)
+            self.checks.holds(
+                f"server settings, {what}", is_no_toml(path, came), "refused, with the place", came
+            )
             return
         came = *came[:2], "".join(f"{line}\n" for line in without_time(came[2].splitlines()))
         if log is None:
@@ -52,7 +78,11 @@ class Cases:
             ("a folder", self.world.folder, "Is a directory (os error 21)"),
         ]:
             came = self.world.run("server", "--config", path)
-            self.checks.equal(f"server settings, {what}", came, fault("settings can't be read", log=of_settings(path, cause)))
+            self.checks.equal(
+                f"server settings, {what}",
+                came,
+                fault("settings can't be read", log=of_settings(path, cause)),
+            )
         text = self.text_of()
         self.expect("65,536 bytes", text + "#" * (65_536 - len(text)), ACCEPTED)
         self.expect("65,537 bytes", text + "#" * (65_537 - len(text)), "settings too large")
@@ -71,17 +101,45 @@ class Cases:
         self.expect("a key of the filter", self.text_of(host='"mx1"'), "setting host: unknown")
         for first in range(len(keys)):
             bad = {key: "{}" for key in keys[first:]}
-            self.expect(f"{', '.join(bad)} bad", self.text_of(**bad), f"setting {keys[first]}: bad value")
+            self.expect(
+                f"{', '.join(bad)} bad", self.text_of(**bad), f"setting {keys[first]}: bad value"
+            )
         self.expect("a rule in place of an offset", self.text_of(offset=None, rule=rule), ACCEPTED)
         self.expect("an offset and a rule", self.text_of(rule=rule), "setting rule: bad value")
-        self.expect("an offset and no rule's text", self.text_of(rule='"CET"'), "setting rule: bad value")
-        self.expect("a bad offset and a rule", self.text_of(offset=1440, rule=rule), "setting offset: bad value")
-        self.expect("default and rule bad", self.text_of(default=-1, offset=None, rule='"CET"'), "setting default: bad value")
-        self.expect("rule and timeout bad", self.text_of(offset=None, rule='"CET"', timeout=0), "setting rule: bad value")
-        self.expect("rule and keep bad", self.text_of(offset=None, rule='"CET"', keep=0), "setting rule: bad value")
-        self.expect("keep and timeout bad", self.text_of(keep=0, timeout=0), "setting keep: bad value")
-        self.expect("timeout and log bad", self.text_of(timeout=0, log=0), "setting timeout: bad value")
-        self.expect("store missing, default bad", self.text_of(store=None, default='"x"'), "setting store: missing")
+        self.expect(
+            "an offset and no rule's text", self.text_of(rule='"CET"'), "setting rule: bad value"
+        )
+        self.expect(
+            "a bad offset and a rule",
+            self.text_of(offset=1440, rule=rule),
+            "setting offset: bad value",
+        )
+        self.expect(
+            "default and rule bad",
+            self.text_of(default=-1, offset=None, rule='"CET"'),
+            "setting default: bad value",
+        )
+        self.expect(
+            "rule and timeout bad",
+            self.text_of(offset=None, rule='"CET"', timeout=0),
+            "setting rule: bad value",
+        )
+        self.expect(
+            "rule and keep bad",
+            self.text_of(offset=None, rule='"CET"', keep=0),
+            "setting rule: bad value",
+        )
+        self.expect(
+            "keep and timeout bad", self.text_of(keep=0, timeout=0), "setting keep: bad value"
+        )
+        self.expect(
+            "timeout and log bad", self.text_of(timeout=0, log=0), "setting timeout: bad value"
+        )
+        self.expect(
+            "store missing, default bad",
+            self.text_of(store=None, default='"x"'),
+            "setting store: missing",
+        )
 
     def values(self):
         accepted = [
@@ -102,16 +160,39 @@ class Cases:
         ]
         # (with "info" it says first what it has opened, and with "off" nothing)
         logs = {'"off"': "", '"info"': f"{begun('memory')}\n{self.in_use()}"}
-        logs |= dict.fromkeys(["1", "366"], f"[WARN  mq_program::serving] a ledger in memory forgets nothing, whatever `keep` says\n{self.in_use()}")
+        logs |= dict.fromkeys(
+            ["1", "366"],
+            (
+                "[WARN  mq_program::serving] a ledger in memory forgets nothing, whatever `keep`"
+                f" says\n{self.in_use()}"
+            ),
+        )
         for key, spellings in accepted:
             for value in spellings:
-                self.expect(f"{key} = {value}", self.text_of(**{key: value}), ACCEPTED, log=logs.get(value) if key in ("keep", "log") else None)
+                self.expect(
+                    f"{key} = {value}",
+                    self.text_of(**{key: value}),
+                    ACCEPTED,
+                    log=logs.get(value) if key in ("keep", "log") else None,
+                )
         for key, spellings in refused:
             for value in spellings:
-                self.expect(f"{key} = {value}", self.text_of(**{key: value}), f"setting {key}: bad value", lacks=ADDRESSES.get(value) if key == "listen" else None)
+                self.expect(
+                    f"{key} = {value}",
+                    self.text_of(**{key: value}),
+                    f"setting {key}: bad value",
+                    lacks=ADDRESSES.get(value) if key == "listen" else None,
+                )
         for value in RULES:
             self.expect(f"rule = {value}", self.text_of(offset=None, rule=f'"{value}"'), ACCEPTED)
         for value in [f'"{it}"' for it in NO_RULES] + ["60", "true", "{}"]:
-            self.expect(f"rule = {value}", self.text_of(offset=None, rule=value), "setting rule: bad value")
+            self.expect(
+                f"rule = {value}", self.text_of(offset=None, rule=value), "setting rule: bad value"
+            )
         log = self.in_use("192.0.2.1:7025", "Cannot assign requested address (os error 99)")
-        self.expect("an address of another machine", self.text_of(listen='"192.0.2.1:7025"'), ACCEPTED, log=log)
+        self.expect(
+            "an address of another machine",
+            self.text_of(listen='"192.0.2.1:7025"'),
+            ACCEPTED,
+            log=log,
+        )

@@ -13,8 +13,17 @@ def run(world, checks):
     for name in ("SIGTERM", "SIGINT", "SIGHUP"):
         number = signal.Signals[name]
         with Server(world) as server:
-            words = [world.program, "filter", "--config", world.filter_file(server.address), "--run", "1"]
-            process = subprocess.Popen(words, stdin=subprocess.PIPE, stdout=subprocess.PIPE, stderr=subprocess.DEVNULL)
+            words = [
+                world.program,
+                "filter",
+                "--config",
+                world.filter_file(server.address),
+                "--run",
+                "1",
+            ]
+            process = subprocess.Popen(
+                words, stdin=subprocess.PIPE, stdout=subprocess.PIPE, stderr=subprocess.DEVNULL
+            )
             wanted = REGISTRATION + answer(PROCEED)
             process.stdin.write(INPUT)
             process.stdin.flush()
@@ -24,6 +33,8 @@ def run(world, checks):
             process.stdin.close()
             process.stdout.close()
             stays = page_reply([row(b"alice", 0, 1, 3)], day=DAY)
-            checks.equal(f"a filter at {name}: what it reserved stays", server.ask(page(day=DAY)), stays)
+            checks.equal(
+                f"a filter at {name}: what it reserved stays", server.ask(page(day=DAY)), stays
+            )
             server.process.send_signal(number)
             checks.equal(f"a server at {name}: its end", server.status(), -number)

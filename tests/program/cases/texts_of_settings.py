@@ -1,4 +1,5 @@
-"""What the log says of a file of settings that can't be used: mailquota.toml(5) has what each value has to be."""
+"""What the log says of a file of settings that can't be used: mailquota.toml(5) has what each value
+has to be."""
 import re
 
 from ends import of_settings
@@ -22,15 +23,24 @@ NOT_TOML = "settings are not TOML"
 
 
 def log_of(path, said, lacks=None):
-    """The line for a file of which the last line says this; `lacks` is what an address lacks, where its value is a text."""
+    """The line for a file of which the last line says this; `lacks` is what an address lacks, where
+    its value is a text."""
     bad = re.fullmatch(r"setting (\w+): bad value", said)
     if bad:
-        return of_settings(path, f"setting {bad[1]}: {lacks}" if lacks else f"{said}, it has to be {WANTED[bad[1]]}")
+        return of_settings(
+            path,
+            f"setting {bad[1]}: {lacks}" if lacks else f"{said}, it has to be {WANTED[bad[1]]}",
+        )
     return of_settings(path, said)
 
 
 def is_no_toml(path, came):
-    """Whether a file is refused since it isn't TOML, with the place where it isn't, counted from 1."""
+    """Whether a file is refused since it isn't TOML, with the place where it isn't, counted from
+    1."""
     status, output, errors = came
     begins = re.escape(of_settings(path, "")[:-1])
-    return (status, output) == (1, b"") and bool(re.fullmatch(rf"{begins}line [1-9]\d*, column [1-9]\d*: \S.*\nmailquota: {NOT_TOML}\n", errors))
+    return (status, output) == (1, b"") and bool(
+        re.fullmatch(
+            rf"{begins}line [1-9]\d*, column [1-9]\d*: \S.*\nmailquota: {NOT_TOML}\n", errors
+        )
+    )

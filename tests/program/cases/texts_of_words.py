@@ -2,7 +2,9 @@
 
 # words and the help for them
 HELPS = [
-    (["--help"], """Daily recipient limits for smtpd, shared by all outgoing hosts
+    (
+        ["--help"],
+        """Daily recipient limits for smtpd, shared by all outgoing hosts
 
 Usage: mailquota <COMMAND>
 
@@ -25,8 +27,11 @@ Commands:
 Options:
   -h, --help     Print help
   -V, --version  Print version
-"""),
-    (["replay", "--help"], """Answer frames in hexadecimal from standard input over a new ledger
+""",
+    ),
+    (
+        ["replay", "--help"],
+        """Answer frames in hexadecimal from standard input over a new ledger
 
 Usage: mailquota replay [OPTIONS]
 
@@ -37,8 +42,11 @@ Options:
       --rule <RULE>  Zone rule of the days, such as CET-1CEST,M3.5.0,M10.5.0/3
       --sql          Keep the ledger in tables in memory
   -h, --help         Print help
-"""),
-    (["filter", "--help"], """Answer smtpd on standard input and output
+""",
+    ),
+    (
+        ["filter", "--help"],
+        """Answer smtpd on standard input and output
 
 Usage: mailquota filter [OPTIONS]
 
@@ -47,8 +55,11 @@ Options:
       --run <N>        Number of the run; else the clock's milliseconds
       --check          Check the settings, ask the server, and end
   -h, --help           Print help
-"""),
-    (["server", "--help"], """Serve the ledger to filters
+""",
+    ),
+    (
+        ["server", "--help"],
+        """Serve the ledger to filters
 
 Usage: mailquota server [OPTIONS]
 
@@ -58,16 +69,22 @@ Options:
       --connections <N>  End after so many connections [default: 1000000]
       --endless          Serve any number of connections
   -h, --help             Print help
-"""),
-    (["init", "--help"], """Make the ledger of a server's settings
+""",
+    ),
+    (
+        ["init", "--help"],
+        """Make the ledger of a server's settings
 
 Usage: mailquota init [OPTIONS]
 
 Options:
       --config <FILE>  Settings [default: /etc/mailquota/server.toml]
   -h, --help           Print help
-"""),
-    (["status", "--help"], """Say whether the quota server answers
+""",
+    ),
+    (
+        ["status", "--help"],
+        """Say whether the quota server answers
 
 Usage: mailquota status [OPTIONS]
 
@@ -76,16 +93,22 @@ Options:
       --host <HOST>       Also ask whether this mail host's requests are taken
       --config <FILE>     Settings of the server: read its file if it's silent
   -h, --help              Print help
-"""),
-    (["limits", "--help"], """Print the limits that are set in the ledger in a file
+""",
+    ),
+    (
+        ["limits", "--help"],
+        """Print the limits that are set in the ledger in a file
 
 Usage: mailquota limits [OPTIONS]
 
 Options:
       --config <FILE>  Settings [default: /etc/mailquota/server.toml]
   -h, --help           Print help
-"""),
-    (["forget", "--help"], """Make a new ledger file without the days before a day
+""",
+    ),
+    (
+        ["forget", "--help"],
+        """Make a new ledger file without the days before a day
 
 Usage: mailquota forget [OPTIONS] --before <DAY> --into <FILE>
 
@@ -94,8 +117,11 @@ Options:
       --before <DAY>   First day number that is kept
       --into <FILE>    Database file to make, which must not be there
   -h, --help           Print help
-"""),
-    (["limit", "--help"], """Set the limit of a login from a day on
+""",
+    ),
+    (
+        ["limit", "--help"],
+        """Set the limit of a login from a day on
 
 Usage: mailquota limit [OPTIONS] <LOGIN> <CAP>
 
@@ -114,8 +140,11 @@ Options:
       --cap <N>            Recipients a day, in place of CAP
       --run <N>            Number of the run; else the clock's milliseconds
   -h, --help               Print help
-"""),
-    (["stop", "--help"], """Let a login have nothing more, today and on each later day
+""",
+    ),
+    (
+        ["stop", "--help"],
+        """Let a login have nothing more, today and on each later day
 
 Usage: mailquota stop [OPTIONS] <LOGIN>
 
@@ -133,8 +162,11 @@ Options:
       --force              Also on another day, or if it sent nothing lately
       --all                Also from each later day with a limit of its own
   -h, --help               Print help
-"""),
-    (["resume", "--help"], """Let a login have more again, today and on each later day
+""",
+    ),
+    (
+        ["resume", "--help"],
+        """Let a login have more again, today and on each later day
 
 Usage: mailquota resume [OPTIONS] <LOGIN>
 
@@ -151,8 +183,11 @@ Options:
       --ago <N>            That many days before today
       --cap <N>            Recipients more, each day; else the limit it had
   -h, --help               Print help
-"""),
-    (["day", "--help"], """Print today's day number by a server's settings
+""",
+    ),
+    (
+        ["day", "--help"],
+        """Print today's day number by a server's settings
 
 Usage: mailquota day [OPTIONS]
 
@@ -160,8 +195,11 @@ Options:
       --config <FILE>  Settings [default: /etc/mailquota/server.toml]
       --at <SECONDS>   Second since 1970-01-01 UTC; else now
   -h, --help           Print help
-"""),
-    (["retire", "--help"], """Retire a host's earlier filters: what they reserved counts as sent
+""",
+    ),
+    (
+        ["retire", "--help"],
+        """Retire a host's earlier filters: what they reserved counts as sent
 
 Usage: mailquota retire [OPTIONS]
 
@@ -171,8 +209,11 @@ Options:
       --host <HOST>       Mail host; else that of /etc/mailquota/filter.toml
       --run <N>           Retire runs below this; else below the clock's time
   -h, --help              Print help
-"""),
-    (["report", "--help"], """Print what logins used on a day
+""",
+    ),
+    (
+        ["report", "--help"],
+        """Print what logins used on a day
 
 Usage: mailquota report [OPTIONS] [LOGIN]
 
@@ -188,185 +229,272 @@ Options:
       --login-text <TEXT>  Login as a report prints it, in place of LOGIN
       --top <N>            The N logins that used most, most first
   -h, --help               Print help
-"""),
-    (["audit", "--help"], """Check the books of the ledger in a file
+""",
+    ),
+    (
+        ["audit", "--help"],
+        """Check the books of the ledger in a file
 
 Usage: mailquota audit [OPTIONS]
 
 Options:
       --config <FILE>  Settings [default: /etc/mailquota/server.toml]
   -h, --help           Print help
-"""),
+""",
+    ),
 ]
 
 # words and what is said of them
 FAULTS = [
-    (["check"], """error: unrecognized subcommand 'check'
+    (
+        ["check"],
+        """error: unrecognized subcommand 'check'
 
 Usage: mailquota <COMMAND>
 
 For more information, try '--help'.
-"""),
-    (["audit", "--config=s", "--create"], """error: unexpected argument '--create' found
+""",
+    ),
+    (
+        ["audit", "--config=s", "--create"],
+        """error: unexpected argument '--create' found
 
 Usage: mailquota audit --config <FILE>
 
 For more information, try '--help'.
-"""),
-    (["forget", "--config=s", "--before=1"], """error: the following required arguments were not provided:
+""",
+    ),
+    (
+        ["forget", "--config=s", "--before=1"],
+        """error: the following required arguments were not provided:
   --into <FILE>
 
 Usage: mailquota forget --before <DAY> --into <FILE> --config <FILE>
 
 For more information, try '--help'.
-"""),
-    (["forget", "--into=f"], """error: the following required arguments were not provided:
+""",
+    ),
+    (
+        ["forget", "--into=f"],
+        """error: the following required arguments were not provided:
   --before <DAY>
 
 Usage: mailquota forget --before <DAY> --into <FILE>
 
 For more information, try '--help'.
-"""),
-    (["status", "--server=a", "--config=s"], """error: the argument '--server <ADDRESS>' cannot be used with '--config <FILE>'
+""",
+    ),
+    (
+        ["status", "--server=a", "--config=s"],
+        """error: the argument '--server <ADDRESS>' cannot be used with '--config <FILE>'
 
 Usage: mailquota status --server <ADDRESS>
 
 For more information, try '--help'.
-"""),
-    (["status", "--config=s", "--host=h"], """error: the argument '--config <FILE>' cannot be used with '--host <HOST>'
+""",
+    ),
+    (
+        ["status", "--config=s", "--host=h"],
+        """error: the argument '--config <FILE>' cannot be used with '--host <HOST>'
 
 Usage: mailquota status --config <FILE>
 
 For more information, try '--help'.
-"""),
-    (["replay", "--list"], """error: unexpected argument '--list' found
+""",
+    ),
+    (
+        ["replay", "--list"],
+        """error: unexpected argument '--list' found
 
 Usage: mailquota replay [OPTIONS]
 
 For more information, try '--help'.
-"""),
-    (["server", "--endless", "--connections=4"], """error: the argument '--endless' cannot be used with '--connections <N>'
+""",
+    ),
+    (
+        ["server", "--endless", "--connections=4"],
+        """error: the argument '--endless' cannot be used with '--connections <N>'
 
 Usage: mailquota server --endless
 
 For more information, try '--help'.
-"""),
-    (["server", "--connections=4", "--endless"], """error: the argument '--connections <N>' cannot be used with '--endless'
+""",
+    ),
+    (
+        ["server", "--connections=4", "--endless"],
+        """error: the argument '--connections <N>' cannot be used with '--endless'
 
 Usage: mailquota server --connections <N>
 
 For more information, try '--help'.
-"""),
-    (["limit", "--host=mx1", "--from=1", "u"], """error: the following required arguments were not provided:
+""",
+    ),
+    (
+        ["limit", "--host=mx1", "--from=1", "u"],
+        """error: the following required arguments were not provided:
   <CAP|--cap <N>>
 
 Usage: mailquota limit [OPTIONS] <LOGIN> <CAP>
 
 For more information, try '--help'.
-"""),
-    (["limit", "--cap=1"], """error: the following required arguments were not provided:
+""",
+    ),
+    (
+        ["limit", "--cap=1"],
+        """error: the following required arguments were not provided:
   <LOGIN|--login <LOGIN>|--login-text <TEXT>>
 
 Usage: mailquota limit [OPTIONS] <LOGIN> <CAP>
 
 For more information, try '--help'.
-"""),
-    (["limit", "u", "5", "--cap=6"], """error: the argument '[CAP]' cannot be used with '--cap <N>'
+""",
+    ),
+    (
+        ["limit", "u", "5", "--cap=6"],
+        """error: the argument '[CAP]' cannot be used with '--cap <N>'
 
 Usage: mailquota limit [OPTIONS] <LOGIN> <CAP>
 
 For more information, try '--help'.
-"""),
-    (["limit", "5", "--login=u"], """error: the argument '[LOGIN]' cannot be used with '--login <LOGIN>'
+""",
+    ),
+    (
+        ["limit", "5", "--login=u"],
+        """error: the argument '[LOGIN]' cannot be used with '--login <LOGIN>'
 
 Usage: mailquota limit [OPTIONS] <LOGIN> <CAP>
 
 For more information, try '--help'.
-"""),
-    (["limit", "u", "1000001"], """error: invalid value '1000001' for '[CAP]': 1000001 is not in 0..=1000000
+""",
+    ),
+    (
+        ["limit", "u", "1000001"],
+        """error: invalid value '1000001' for '[CAP]': 1000001 is not in 0..=1000000
 
 For more information, try '--help'.
-"""),
-    (["limit", "u", "many"], """error: invalid value 'many' for '[CAP]': invalid digit found in string
+""",
+    ),
+    (
+        ["limit", "u", "many"],
+        """error: invalid value 'many' for '[CAP]': invalid digit found in string
 
 For more information, try '--help'.
-"""),
-    (["limit", "u", "5", "--from=1", "--ago=1"], """error: the argument '--from <DAY>' cannot be used with '--ago <N>'
+""",
+    ),
+    (
+        ["limit", "u", "5", "--from=1", "--ago=1"],
+        """error: the argument '--from <DAY>' cannot be used with '--ago <N>'
 
 Usage: mailquota limit [OPTIONS] <LOGIN> <CAP>
 
 For more information, try '--help'.
-"""),
-    (["limit", "u", "5", "6"], """error: unexpected argument '6' found
+""",
+    ),
+    (
+        ["limit", "u", "5", "6"],
+        """error: unexpected argument '6' found
 
 Usage: mailquota limit [OPTIONS] <LOGIN> <CAP>
 
 For more information, try '--help'.
-"""),
-    (["stop", "--server=a", "--host=mx1", "--day=1"], """error: the following required arguments were not provided:
+""",
+    ),
+    (
+        ["stop", "--server=a", "--host=mx1", "--day=1"],
+        """error: the following required arguments were not provided:
   <LOGIN|--login <LOGIN>|--login-text <TEXT>>
 
 Usage: mailquota stop [OPTIONS] <LOGIN>
 
 For more information, try '--help'.
-"""),
-    (["stop", "--server=a", "--host=mx1", "--day=1", "--login=u", "--login-text=u"], """error: the argument '--login <LOGIN>' cannot be used with '--login-text <TEXT>'
+""",
+    ),
+    (
+        ["stop", "--server=a", "--host=mx1", "--day=1", "--login=u", "--login-text=u"],
+        """error: the argument '--login <LOGIN>' cannot be used with '--login-text <TEXT>'
 
 Usage: mailquota stop [OPTIONS] <LOGIN>
 
 For more information, try '--help'.
-"""),
-    (["stop", "u", "--login=u"], """error: the argument '[LOGIN]' cannot be used with '--login <LOGIN>'
+""",
+    ),
+    (
+        ["stop", "u", "--login=u"],
+        """error: the argument '[LOGIN]' cannot be used with '--login <LOGIN>'
 
 Usage: mailquota stop [OPTIONS] <LOGIN>
 
 For more information, try '--help'.
-"""),
-    (["stop", "u", "--login-text=u"], """error: the argument '[LOGIN]' cannot be used with '--login-text <TEXT>'
+""",
+    ),
+    (
+        ["stop", "u", "--login-text=u"],
+        """error: the argument '[LOGIN]' cannot be used with '--login-text <TEXT>'
 
 Usage: mailquota stop [OPTIONS] <LOGIN>
 
 For more information, try '--help'.
-"""),
-    (["stop", "u", "--day=1", "--ago=1"], """error: the argument '--day <DAY>' cannot be used with '--ago <N>'
+""",
+    ),
+    (
+        ["stop", "u", "--day=1", "--ago=1"],
+        """error: the argument '--day <DAY>' cannot be used with '--ago <N>'
 
 Usage: mailquota stop [OPTIONS] <LOGIN>
 
 For more information, try '--help'.
-"""),
-    (["stop", "u", "v"], """error: unexpected argument 'v' found
+""",
+    ),
+    (
+        ["stop", "u", "v"],
+        """error: unexpected argument 'v' found
 
 Usage: mailquota stop [OPTIONS] <LOGIN>
 
 For more information, try '--help'.
-"""),
-    (["resume", "-x"], """error: unexpected argument '-x' found
+""",
+    ),
+    (
+        ["resume", "-x"],
+        """error: unexpected argument '-x' found
 
   tip: to pass '-x' as a value, use '-- -x'
 
 Usage: mailquota resume [OPTIONS] <LOGIN>
 
 For more information, try '--help'.
-"""),
-    (["resume", "u", "--ago=1", "--day=1"], """error: the argument '--ago <N>' cannot be used with '--day <DAY>'
+""",
+    ),
+    (
+        ["resume", "u", "--ago=1", "--day=1"],
+        """error: the argument '--ago <N>' cannot be used with '--day <DAY>'
 
 Usage: mailquota resume [OPTIONS] <LOGIN>
 
 For more information, try '--help'.
-"""),
-    (["report", "--server=a", "--day=1", "--login-text=u", "--login=u"], """error: the argument '--login-text <TEXT>' cannot be used with '--login <LOGIN>'
+""",
+    ),
+    (
+        ["report", "--server=a", "--day=1", "--login-text=u", "--login=u"],
+        """error: the argument '--login-text <TEXT>' cannot be used with '--login <LOGIN>'
 
 Usage: mailquota report --server <ADDRESS> --day <DAY> --login-text <TEXT> [LOGIN]
 
 For more information, try '--help'.
-"""),
-    (["report", "u", "--login=u"], """error: the argument '[LOGIN]' cannot be used with '--login <LOGIN>'
+""",
+    ),
+    (
+        ["report", "u", "--login=u"],
+        """error: the argument '[LOGIN]' cannot be used with '--login <LOGIN>'
 
 Usage: mailquota report <LOGIN>
 
 For more information, try '--help'.
-"""),
-    (["report", "u", "--top=5"], """error: the argument '--top <N>' cannot be used with:
+""",
+    ),
+    (
+        ["report", "u", "--top=5"],
+        """error: the argument '--top <N>' cannot be used with:
   [LOGIN]
   --login <LOGIN>
   --login-text <TEXT>
@@ -374,8 +502,11 @@ For more information, try '--help'.
 Usage: mailquota report --top <N> [LOGIN]
 
 For more information, try '--help'.
-"""),
-    (["report", "--top=5", "--login=u"], """error: the argument '--top <N>' cannot be used with:
+""",
+    ),
+    (
+        ["report", "--top=5", "--login=u"],
+        """error: the argument '--top <N>' cannot be used with:
   [LOGIN]
   --login <LOGIN>
   --login-text <TEXT>
@@ -383,8 +514,11 @@ For more information, try '--help'.
 Usage: mailquota report --top <N> [LOGIN]
 
 For more information, try '--help'.
-"""),
-    (["report", "--top=5", "--login-text=u"], """error: the argument '--top <N>' cannot be used with:
+""",
+    ),
+    (
+        ["report", "--top=5", "--login-text=u"],
+        """error: the argument '--top <N>' cannot be used with:
   [LOGIN]
   --login <LOGIN>
   --login-text <TEXT>
@@ -392,30 +526,43 @@ For more information, try '--help'.
 Usage: mailquota report --top <N> [LOGIN]
 
 For more information, try '--help'.
-"""),
-    (["report", "--day=1", "--day=2"], """error: the argument '--day <DAY>' cannot be used multiple times
+""",
+    ),
+    (
+        ["report", "--day=1", "--day=2"],
+        """error: the argument '--day <DAY>' cannot be used multiple times
 
 Usage: mailquota report [OPTIONS] [LOGIN]
 
 For more information, try '--help'.
-"""),
-    (["report", "--day=1", "--ago=2"], """error: the argument '--day <DAY>' cannot be used with '--ago <N>'
+""",
+    ),
+    (
+        ["report", "--day=1", "--ago=2"],
+        """error: the argument '--day <DAY>' cannot be used with '--ago <N>'
 
 Usage: mailquota report --day <DAY> [LOGIN]
 
 For more information, try '--help'.
-"""),
-    (["retire", "mx1"], """error: unexpected argument 'mx1' found
+""",
+    ),
+    (
+        ["retire", "mx1"],
+        """error: unexpected argument 'mx1' found
 
 Usage: mailquota retire [OPTIONS]
 
 For more information, try '--help'.
-"""),
-    (["retire", "--config=f"], """error: the following required arguments were not provided:
+""",
+    ),
+    (
+        ["retire", "--config=f"],
+        """error: the following required arguments were not provided:
   --host <HOST>
 
 Usage: mailquota retire --host <HOST> --config <FILE>
 
 For more information, try '--help'.
-"""),
+""",
+    ),
 ]

@@ -16,10 +16,16 @@ class Host:
         file = world.filter_file(address, host=name)
         self.log = open(world.new_file(""), "wb")
         self.process = subprocess.Popen(
-            [world.program, "filter", "--config", file, "--run", "1"], stdin=subprocess.PIPE, stdout=subprocess.PIPE, stderr=self.log, bufsize=0
+            [world.program, "filter", "--config", file, "--run", "1"],
+            stdin=subprocess.PIPE,
+            stdout=subprocess.PIPE,
+            stderr=self.log,
+            bufsize=0,
         )
         self.say(CONFIG)
-        self.registration = b"".join(self.process.stdout.readline() for _ in REGISTRATION.splitlines())
+        self.registration = b"".join(
+            self.process.stdout.readline() for _ in REGISTRATION.splitlines()
+        )
 
     def say(self, text):
         self.process.stdin.write(text if isinstance(text, bytes) else text.encode())
@@ -50,7 +56,11 @@ def said(result, session):
 def run(world, checks):
     with Server(world) as server:
         one, two = Host(world, "mx1", server.address), Host(world, "mx2", server.address)
-        checks.equal("both hosts register", (one.registration, two.registration), (REGISTRATION, REGISTRATION))
+        checks.equal(
+            "both hosts register",
+            (one.registration, two.registration),
+            (REGISTRATION, REGISTRATION),
+        )
         one.begin("s1", "alice", "m1")
         two.begin("s2", "alice", "m2")
         for what, host, session, result in [
@@ -63,19 +73,59 @@ def run(world, checks):
             checks.equal(what, host.recipient(session), said(result, session))
         two.begin("s3", "bob", "m3")
         checks.equal("host 2, another login", two.recipient("s3"), said(PROCEED, "s3"))
-        reports(world, checks, server, "while all is open", "      0       3       3 alice\n      0       1       3 bob\n")
+        reports(
+            world,
+            checks,
+            server,
+            "while all is open",
+            "      0       3       3 alice\n      0       1       3 bob\n",
+        )
         two.report("tx-rollback", "s2", "m2")
         two.report("tx-reset", "s2", "m2")
-        checks.equal("host 2, bob's next recipient, behind the rollback", two.recipient("s3"), said(PROCEED, "s3"))
-        checks.equal("host 1, recipient 4 after host 2's rollback", one.recipient("s1"), said(PROCEED, "s1"))
+        checks.equal(
+            "host 2, bob's next recipient, behind the rollback",
+            two.recipient("s3"),
+            said(PROCEED, "s3"),
+        )
+        checks.equal(
+            "host 1, recipient 4 after host 2's rollback", one.recipient("s1"), said(PROCEED, "s1")
+        )
         checks.equal("host 1, recipient 5", one.recipient("s1"), said(LIMIT, "s1"))
         one.report("tx-commit", "s1", "m1|1200")
-        checks.equal("host 2, the next transaction after host 1's commit", next_transaction(two, "s2", "m4"), said(LIMIT, "s2"))
-        reports(world, checks, server, "after host 1's commit", "      3       0       3 alice\n      0       2       3 bob\n")
+        checks.equal(
+            "host 2, the next transaction after host 1's commit",
+            next_transaction(two, "s2", "m4"),
+            said(LIMIT, "s2"),
+        )
+        reports(
+            world,
+            checks,
+            server,
+            "after host 1's commit",
+            "      3       0       3 alice\n      0       2       3 bob\n",
+        )
         two.report("link-disconnect", "s3", "")
         two.recipient("s2")
-        reports(world, checks, server, "after bob's session went", "      3       0       3 alice\n      0       0       3 bob\n")
-        came = world.run("limit", "--server", server.address, "--host", "admin", "--login", "alice", "--from", DAY, "--cap", "4")
+        reports(
+            world,
+            checks,
+            server,
+            "after bob's session went",
+            "      3       0       3 alice\n      0       0       3 bob\n",
+        )
+        came = world.run(
+            "limit",
+            "--server",
+            server.address,
+            "--host",
+            "admin",
+            "--login",
+            "alice",
+            "--from",
+            DAY,
+            "--cap",
+            "4",
+        )
         checks.equal("alice's limit set to 4", came, (0, b"set\n", ""))
         checks.equal("host 2, recipient 4 of 4", two.recipient("s2"), said(PROCEED, "s2"))
         server.process.terminate()
@@ -90,4 +140,8 @@ def next_transaction(host, session, message):
 
 
 def reports(world, checks, server, what, wanted):
-    checks.equal(f"report {what}", world.run("report", "--server", server.address, "--day", DAY), (0, wanted.encode(), ""))
+    checks.equal(
+        f"report {what}",
+        world.run("report", "--server", server.address, "--day", DAY),
+        (0, wanted.encode(), ""),
+    )

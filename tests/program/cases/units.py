@@ -1,4 +1,5 @@
-"""What the units, the drop-in and the settings of contrib have to say, and what systemd says of them where it is there."""
+"""What the units, the drop-in and the settings of contrib have to say, and what systemd says of
+them where it is there."""
 import os
 import re
 import shutil
@@ -8,10 +9,12 @@ from cases.contrib import text_of
 from cases.rules import CENTRAL_EUROPE
 from ends import TOP, Server
 
-# The values of a key, in their order: a later one would count in place of an earlier one, or in addition.
+# The values of a key, in their order: a later one would count in place of an earlier one, or in
+# addition.
 SERVER = {
     "Unit": {
-        "Wants": ["network-online.target"], "After": ["network-online.target"],
+        "Wants": ["network-online.target"],
+        "After": ["network-online.target"],
         # it is restarted however often it ends
         "StartLimitIntervalSec": ["0"],
     },
@@ -20,31 +23,63 @@ SERVER = {
         "Type": ["exec"],
         # started once it answers, and never killed while it reads its ledger
         "ExecStart": ["/usr/sbin/mailquota server --config /etc/mailquota/server.toml --endless"],
-        "ExecStartPost": ["/usr/libexec/mailquota/await-server /etc/mailquota/server.toml"], "TimeoutStartSec": ["infinity"],
+        "ExecStartPost": ["/usr/libexec/mailquota/await-server /etc/mailquota/server.toml"],
+        "TimeoutStartSec": ["infinity"],
         # it ends only by a fault or a signal
-        "Restart": ["always"], "RestartSec": ["1"],
-        # nobody else reaches it, whatever the packet filter lets through, but whom addresses.conf adds
-        "IPAddressDeny": ["any"], "IPAddressAllow": ["localhost"],
+        "Restart": ["always"],
+        "RestartSec": ["1"],
+        # nobody else reaches it, whatever the packet filter lets through, but whom addresses.conf
+        # adds
+        "IPAddressDeny": ["any"],
+        "IPAddressAllow": ["localhost"],
         # the ledger belongs to it alone
-        "DynamicUser": ["yes"], "User": ["mailquota"], "StateDirectory": ["mailquota"], "StateDirectoryMode": ["0700"], "UMask": ["0077"],
+        "DynamicUser": ["yes"],
+        "User": ["mailquota"],
+        "StateDirectory": ["mailquota"],
+        "StateDirectoryMode": ["0700"],
+        "UMask": ["0077"],
         # what it may take of the machine
-        "MemoryMax": ["1G"], "TasksMax": ["8"],
+        "MemoryMax": ["1G"],
+        "TasksMax": ["8"],
         # what it may do there
-        "CapabilityBoundingSet": [""], "NoNewPrivileges": ["yes"], "LockPersonality": ["yes"], "MemoryDenyWriteExecute": ["yes"],
-        "PrivateDevices": ["yes"], "PrivateTmp": ["yes"], "PrivateUsers": ["yes"], "ProcSubset": ["pid"], "ProtectProc": ["invisible"],
-        "ProtectClock": ["yes"], "ProtectControlGroups": ["yes"], "ProtectHome": ["yes"], "ProtectHostname": ["yes"], "ProtectKernelLogs": ["yes"],
-        "ProtectKernelModules": ["yes"], "ProtectKernelTunables": ["yes"], "ProtectSystem": ["strict"],
-        "RestrictAddressFamilies": ["AF_INET AF_INET6"], "RestrictNamespaces": ["yes"], "RestrictRealtime": ["yes"], "RestrictSUIDSGID": ["yes"],
+        "CapabilityBoundingSet": [""],
+        "NoNewPrivileges": ["yes"],
+        "LockPersonality": ["yes"],
+        "MemoryDenyWriteExecute": ["yes"],
+        "PrivateDevices": ["yes"],
+        "PrivateTmp": ["yes"],
+        "PrivateUsers": ["yes"],
+        "ProcSubset": ["pid"],
+        "ProtectProc": ["invisible"],
+        "ProtectClock": ["yes"],
+        "ProtectControlGroups": ["yes"],
+        "ProtectHome": ["yes"],
+        "ProtectHostname": ["yes"],
+        "ProtectKernelLogs": ["yes"],
+        "ProtectKernelModules": ["yes"],
+        "ProtectKernelTunables": ["yes"],
+        "ProtectSystem": ["strict"],
+        "RestrictAddressFamilies": ["AF_INET AF_INET6"],
+        "RestrictNamespaces": ["yes"],
+        "RestrictRealtime": ["yes"],
+        "RestrictSUIDSGID": ["yes"],
         # (a new log gets the owner of its database file)
-        "SystemCallArchitectures": ["native"], "SystemCallFilter": ["@system-service", "~@privileged @resources", "@chown"],
+        "SystemCallArchitectures": ["native"],
+        "SystemCallFilter": ["@system-service", "~@privileged @resources", "@chown"],
     },
     "Install": {"WantedBy": ["multi-user.target"]},
 }
 # smtpd ends with status 0 where its filter ends, and starts also where a retire fails
 RESTARTS = {
-    "Unit": {"Wants": ["network-online.target"], "After": ["network-online.target"], "StartLimitIntervalSec": ["0"]},
+    "Unit": {
+        "Wants": ["network-online.target"],
+        "After": ["network-online.target"],
+        "StartLimitIntervalSec": ["0"],
+    },
     "Service": {
-        "ExecStartPre": ["-/usr/sbin/mailquota retire"], "Restart": ["always"], "RestartSec": ["1"],
+        "ExecStartPre": ["-/usr/sbin/mailquota retire"],
+        "Restart": ["always"],
+        "RestartSec": ["1"],
     },
 }
 UNITS = {
@@ -53,22 +88,53 @@ UNITS = {
     "smtpd-restart.conf": RESTARTS,
 }
 OF_KEEPALIVED = [
-    "enable_script_security", "script_user nobody nogroup", 'script "/usr/libexec/mailquota/keepalived-check"', "interval 1", "timeout 1", "fall 3",
-    "rise 2", "init_fail", "state BACKUP", "virtual_router_id 70", "advert_int 1", "garp_master_refresh 1", "192.0.2.7/24", "answers",
+    "enable_script_security",
+    "script_user nobody nogroup",
+    'script "/usr/libexec/mailquota/keepalived-check"',
+    "interval 1",
+    "timeout 1",
+    "fall 3",
+    "rise 2",
+    "init_fail",
+    "state BACKUP",
+    "virtual_router_id 70",
+    "advert_int 1",
+    "garp_master_refresh 1",
+    "192.0.2.7/24",
+    "answers",
 ]
 LINES = {
-    "keepalived-first.conf": [*OF_KEEPALIVED, "priority 150", "preempt_delay 60", "unicast_src_ip 192.0.2.5", "192.0.2.6"],
-    "keepalived-second.conf": [*OF_KEEPALIVED, "priority 100", "unicast_src_ip 192.0.2.6", "192.0.2.5"],
+    "keepalived-first.conf": [
+        *OF_KEEPALIVED,
+        "priority 150",
+        "preempt_delay 60",
+        "unicast_src_ip 192.0.2.5",
+        "192.0.2.6",
+    ],
+    "keepalived-second.conf": [
+        *OF_KEEPALIVED,
+        "priority 100",
+        "unicast_src_ip 192.0.2.6",
+        "192.0.2.5",
+    ],
 }
 # The first that fits counts.
 RULES = [
-    "type filter hook input priority filter; policy accept;", 'iif "lo" accept', "tcp dport 7025 ip saddr @servers accept",
-    "tcp dport 7025 ip saddr != @mailhosts drop", "ip protocol 112 ip saddr != @servers drop", "tcp dport 7025 meta nfproto ipv6 drop",
+    "type filter hook input priority filter; policy accept;",
+    'iif "lo" accept',
+    "tcp dport 7025 ip saddr @servers accept",
+    "tcp dport 7025 ip saddr != @mailhosts drop",
+    "ip protocol 112 ip saddr != @servers drop",
+    "tcp dport 7025 meta nfproto ipv6 drop",
 ]
 SETS = {"mailhosts": "192.0.2.1, 192.0.2.2, 192.0.2.9", "servers": "192.0.2.5, 192.0.2.6"}
-# How far the server's service may be open by systemd, in tenths: it is 1.3 by systemd 252, and other versions may weigh otherwise.
+# How far the server's service may be open by systemd, in tenths: it is 1.3 by systemd 252, and
+# other versions may weigh otherwise.
 MOST_EXPOSED = 20
-SMTPD = "[Unit]\nDescription=OpenSMTPD SMTP server\n[Service]\nType=forking\nExecStart=/bin/true\n[Install]\nWantedBy=multi-user.target\n"
+SMTPD = (
+    "[Unit]\nDescription=OpenSMTPD SMTP"
+    " server\n[Service]\nType=forking\nExecStart=/bin/true\n[Install]\nWantedBy=multi-user.target\n"
+)
 
 
 def run(world, checks):
@@ -100,13 +166,18 @@ def values_of_units(checks):
         for section, keys in wanted.items():
             its = found.get(section, {})
             other = {key: its.get(key) for key, values in keys.items() if its.get(key) != values}
-            checks.equal(f"contrib/{name}, {section}: keys of {len(keys)} that have other values", other, {})
+            checks.equal(
+                f"contrib/{name}, {section}: keys of {len(keys)} that have other values", other, {}
+            )
 
 
 def both_retires(checks):
-    """The lines for two servers, which are to be uncommented in place of the one, retire the same host at both."""
+    """The lines for two servers, which are to be uncommented in place of the one, retire the same
+    host at both."""
     text = re.sub(r"^ExecStartPre=.*\n", "", text_of("smtpd-restart.conf"), flags=re.MULTILINE)
-    found = assignments(re.sub(r"^#(?=ExecStartPre)", "", text, flags=re.MULTILINE))["Service"]["ExecStartPre"]
+    found = assignments(re.sub(r"^#(?=ExecStartPre)", "", text, flags=re.MULTILINE))["Service"][
+        "ExecStartPre"
+    ]
     wanted = [f"-/usr/sbin/mailquota retire --server 192.0.2.{it}:7025" for it in (5, 6)]
     checks.equal("contrib/smtpd-restart.conf: the lines for two servers", found, wanted)
 
@@ -114,27 +185,51 @@ def both_retires(checks):
 def settings_of_others(checks):
     for name, wanted in LINES.items():
         found = [line.strip() for line in text_of(name).splitlines()]
-        checks.equal(f"contrib/{name}: lines of {len(wanted)} that it lacks", [line for line in wanted if line not in found], [])
+        checks.equal(
+            f"contrib/{name}: lines of {len(wanted)} that it lacks",
+            [line for line in wanted if line not in found],
+            [],
+        )
     first, second = (text_of(f"keepalived-{it}.conf").splitlines() for it in ("first", "second"))
-    differ = {line.split()[0] for line in set(first) ^ set(second) if line.strip() and not line.strip().startswith("#")}
-    checks.equal("the settings of keepalived: what differs", differ, {"priority", "preempt_delay", "unicast_src_ip", "192.0.2.5", "192.0.2.6"})
+    differ = {
+        line.split()[0]
+        for line in set(first) ^ set(second)
+        if line.strip() and not line.strip().startswith("#")
+    }
+    checks.equal(
+        "the settings of keepalived: what differs",
+        differ,
+        {"priority", "preempt_delay", "unicast_src_ip", "192.0.2.5", "192.0.2.6"},
+    )
     rules = text_of("nftables.conf")
     chain = re.search(r"chain input \{\n(.*?)\n\t\}", rules, re.DOTALL)[1]
-    checks.equal("the packet filter: its rules, in their order", [line.strip() for line in chain.splitlines()], RULES)
+    checks.equal(
+        "the packet filter: its rules, in their order",
+        [line.strip() for line in chain.splitlines()],
+        RULES,
+    )
     sets = dict(re.findall(r"set (\w+) \{\n\s*type ipv4_addr\n\s*elements = \{ (.*) \}", rules))
     checks.equal("the packet filter: its addresses", sets, SETS)
     loads = [line for line in rules.splitlines() if line and line[0] not in "#\t}"]
-    checks.equal("the packet filter: what a repeated load does first", loads, ["table inet mailquota", "delete table inet mailquota", "table inet mailquota {"])
+    checks.equal(
+        "the packet filter: what a repeated load does first",
+        loads,
+        ["table inet mailquota", "delete table inet mailquota", "table inet mailquota {"],
+    )
 
 
 def settings_of_smtpd(checks):
-    """A login's spelling is refused before it counts, and who has no login sends nothing; INSTALL shows the same lines of filters."""
+    """A login's spelling is refused before it counts, and who has no login sends nothing; INSTALL
+    shows the same lines of filters."""
     lines = [line for line in text_of("smtpd.conf").splitlines() if line and line[0] != "#"]
     limited = [
         'filter spelling proc-exec "filter-one-spelling"',
         'filter quota proc-exec "filter-mailquota"',
         "filter limited chain { spelling, quota }",
-        "listen on 192.0.2.1 port 587 tls-require pki mx1.example.org auth <credentials> filter limited",
+        (
+            "listen on 192.0.2.1 port 587 tls-require pki mx1.example.org auth <credentials> filter"
+            " limited"
+        ),
     ]
     wanted = [
         'pki mx1.example.org cert "/etc/ssl/mx1.example.org.crt"',
@@ -146,18 +241,53 @@ def settings_of_smtpd(checks):
     ]
     checks.equal("contrib/smtpd.conf: its lines, in their order", lines, wanted)
     with open(f"{TOP}/docs/INSTALL.md", encoding="utf-8") as file:
-        shown = [line[4:] for line in file.read().splitlines() if line.startswith(("    filter ", "    listen "))]
+        shown = [
+            line[4:]
+            for line in file.read().splitlines()
+            if line.startswith(("    filter ", "    listen "))
+        ]
     checks.equal("the filters of smtpd.conf in INSTALL", shown, limited)
 
 
 def settings_of_both(checks):
-    """OPERATING counts with these: a recipient waits for three seconds at most, and a peer of the server for a third of one."""
+    """OPERATING counts with these: a recipient waits for three seconds at most, and a peer of the
+    server for a third of one."""
     for name, wanted in (
-        ("filter.toml", ['host = "mx1.example.org"', 'server = "192.0.2.7:7025"', "tries = 3", "timeout = 1000", "pause = 10", "hold = 5", 'log = "warn"']),
-        ("server.toml", ['listen = "192.0.2.7:7025"', 'store = "/var/lib/mailquota/ledger"', "default = 1000", "offset = 0", "keep = 2", "timeout = 300", 'log = "info"']),
+        (
+            "filter.toml",
+            [
+                'host = "mx1.example.org"',
+                'server = "192.0.2.7:7025"',
+                "tries = 3",
+                "timeout = 1000",
+                "pause = 10",
+                "hold = 5",
+                'log = "warn"',
+            ],
+        ),
+        (
+            "server.toml",
+            [
+                'listen = "192.0.2.7:7025"',
+                'store = "/var/lib/mailquota/ledger"',
+                "default = 1000",
+                "offset = 0",
+                "keep = 2",
+                "timeout = 300",
+                'log = "info"',
+            ],
+        ),
     ):
-        checks.equal(f"contrib/{name}: its settings", [line for line in text_of(name).splitlines() if line[0] != "#"], wanted)
-    checks.equal("contrib/server.toml: the rule that may stand in place of its offset", re.findall(r"^# (rule = .*)$", text_of("server.toml"), re.MULTILINE), [f'rule = "{CENTRAL_EUROPE}"'])
+        checks.equal(
+            f"contrib/{name}: its settings",
+            [line for line in text_of(name).splitlines() if line[0] != "#"],
+            wanted,
+        )
+    checks.equal(
+        "contrib/server.toml: the rule that may stand in place of its offset",
+        re.findall(r"^# (rule = .*)$", text_of("server.toml"), re.MULTILINE),
+        [f'rule = "{CENTRAL_EUROPE}"'],
+    )
 
 
 def settings_of_a_filter(world, checks):
@@ -165,8 +295,13 @@ def settings_of_a_filter(world, checks):
     with Server(world) as server:
         config = world.new_file(text_of("filter.toml").replace("192.0.2.7:7025", server.address))
         came = world.run("filter", "--config", config, "--check")
-    wanted = f"settings are right\nquota server {server.address} answers\nrequests of host mx1.example.org are taken\npause 10 s, hold 5 s\n"
-    checks.equal("contrib/filter.toml: what filter --check says of it", came, (0, wanted.encode(), ""))
+    wanted = (
+        f"settings are right\nquota server {server.address} answers\nrequests of host"
+        " mx1.example.org are taken\npause 10 s, hold 5 s\n"
+    )
+    checks.equal(
+        "contrib/filter.toml: what filter --check says of it", came, (0, wanted.encode(), "")
+    )
 
 
 def of_systemd(checks, what):
@@ -178,34 +313,53 @@ def of_systemd(checks, what):
 
 
 def units_in(folder, changed=lambda name, text: text):
-    """All units in a folder, with programs that are there, and a unit of smtpd as Debian has one, with the drop-ins."""
+    """All units in a folder, with programs that are there, and a unit of smtpd as Debian has one,
+    with the drop-ins."""
     texts = {name: text_of(name) for name in UNITS}
     for unit, its in (("opensmtpd", "smtpd-restart.conf"), ("mailquota", "addresses.conf")):
         os.makedirs(f"{folder}/{unit}.service.d")
         texts[f"{unit}.service.d/{its}"] = texts.pop(its)
     for name, text in {**texts, "opensmtpd.service": SMTPD}.items():
         with open(f"{folder}/{name}", "w", encoding="ascii") as file:
-            file.write(changed(name, re.sub(r"/usr/(?:sbin|libexec/mailquota)/[\w-]+", "/bin/true", text)))
+            file.write(
+                changed(name, re.sub(r"/usr/(?:sbin|libexec/mailquota)/[\w-]+", "/bin/true", text))
+            )
     return [f"{folder}/{name}" for name in (*texts, "opensmtpd.service") if "/" not in name]
 
 
 def said_of(folder, units):
     """What systemd says of these units, without what it says of the machine's own."""
-    run = subprocess.run(["systemd-analyze", "verify", "--man=no", *units], capture_output=True, text=True)
-    return [line for line in (run.stdout + run.stderr).splitlines() if folder in line or re.search(r"mailquota|opensmtpd", line)]
+    run = subprocess.run(
+        ["systemd-analyze", "verify", "--man=no", *units], capture_output=True, text=True
+    )
+    return [
+        line
+        for line in (run.stdout + run.stderr).splitlines()
+        if folder in line or re.search(r"mailquota|opensmtpd", line)
+    ]
 
 
 def verified(world, checks):
     if not of_systemd(checks, "units by systemd-analyze verify"):
         return
     folder = f"{world.folder}/units"
-    checks.equal("units by systemd-analyze verify: what it says of them", said_of(folder, units_in(folder)), [])
+    checks.equal(
+        "units by systemd-analyze verify: what it says of them",
+        said_of(folder, units_in(folder)),
+        [],
+    )
     # (it looks into each of them: a key that isn't one is told)
     folder = f"{world.folder}/units-with-a-fault"
-    units = units_in(folder, lambda name, text: text.replace("[Service]\n", "[Service]\nRestrat=no\n"))
+    units = units_in(
+        folder, lambda name, text: text.replace("[Service]\n", "[Service]\nRestrat=no\n")
+    )
     told = " ".join(said_of(folder, units))
     names = ["mailquota.service", "opensmtpd.service", "smtpd-restart.conf", "addresses.conf"]
-    checks.equal("units with a fault each: those of which it says nothing", [it for it in names if f"/{it}:" not in told], [])
+    checks.equal(
+        "units with a fault each: those of which it says nothing",
+        [it for it in names if f"/{it}:" not in told],
+        [],
+    )
 
 
 def exposed(world, checks):
@@ -215,9 +369,18 @@ def exposed(world, checks):
     path = f"{world.folder}/mailquota.service"
     with open(path, "w", encoding="ascii") as file:
         file.write(text_of("mailquota.service"))
-    run = subprocess.run(["systemd-analyze", "security", "--offline=yes", f"--threshold={MOST_EXPOSED}", path], capture_output=True, text=True)
+    run = subprocess.run(
+        ["systemd-analyze", "security", "--offline=yes", f"--threshold={MOST_EXPOSED}", path],
+        capture_output=True,
+        text=True,
+    )
     if "unrecognized option" in run.stderr:
         checks.skip(what, "this systemd takes no unit's file")
         return
     told = re.search(r"exposure level for mailquota\.service: (\d+\.\d+)", run.stdout)
-    checks.holds(what, run.returncode == 0 and told is not None, f"at most {MOST_EXPOSED / 10}", told and told[1] or run.stderr)
+    checks.holds(
+        what,
+        run.returncode == 0 and told is not None,
+        f"at most {MOST_EXPOSED / 10}",
+        told and told[1] or run.stderr,
+    )

@@ -1,4 +1,5 @@
-"""Words of the command line: help, usage faults, ranges of numbers, and what words ask for, shown by what happens."""
+"""Words of the command line: help, usage faults, ranges of numbers, and what words ask for, shown
+by what happens."""
 import os
 import resource
 import time
@@ -7,10 +8,36 @@ from cases.filters import INPUT, PROCEED, REGISTRATION, answer
 from cases.stopping import caps
 from cases.texts_of_words import FAULTS, HELPS
 from ends import (
-    NO_FILE, NO_NUMERIC_ADDRESS, NO_PORT, PORT_TOO_LARGE, Script, Server, bad_address, begun, fault, loopback_of_6, of_settings, shown as as_logged,
-    toml, wait_until, without_time,
+    NO_FILE,
+    NO_NUMERIC_ADDRESS,
+    NO_PORT,
+    PORT_TOO_LARGE,
+    Script,
+    Server,
+    bad_address,
+    begun,
+    fault,
+    loopback_of_6,
+    of_settings,
+    shown as as_logged,
+    toml,
+    wait_until,
+    without_time,
 )
-from wire import frame, granted, identity, limit, number, page, page_reply, reserve, retire, retired, text, usage
+from wire import (
+    frame,
+    granted,
+    identity,
+    limit,
+    number,
+    page,
+    page_reply,
+    reserve,
+    retire,
+    retired,
+    text,
+    usage,
+)
 
 MORE = "\n\nFor more information, try '--help'.\n"
 MOST_RUN = 281_474_976_710_655
@@ -37,7 +64,12 @@ def helps(world, checks):
         checks.equal(" ".join(words), (status, output, errors), (0, wanted.encode(), ""))
         lines = output.decode().split("\n")
         fits = len(lines) <= 24 and max(map(len, lines)) <= 80
-        checks.holds(f"{' '.join(words)}: fits a screen", fits, "23 lines and the next prompt, of 80 columns", lines)
+        checks.holds(
+            f"{' '.join(words)}: fits a screen",
+            fits,
+            "23 lines and the next prompt, of 80 columns",
+            lines,
+        )
     with open("/dev/full", "wb") as full:
         status, _, errors = world.run("--help", output=full)
     checks.equal("--help to a full device", (status, errors), (1, "mailquota: write failed\n"))
@@ -65,10 +97,22 @@ def usage_faults(world, checks):
     for words, part in faults:
         status, output, errors = world.run(*words)
         good = (status, output) == (2, b"") and part in errors and errors.startswith("error: ")
-        checks.holds(f"usage fault of '{' '.join(words)}'", good, f"status 2, {part!r} on standard error alone", (status, output, errors))
-    for words in ([b"\xff"], [b"report", b"--server", b"127.0.0.1:1", b"--day", b"1", b"--login", b"\xff\xfe"]):
+        checks.holds(
+            f"usage fault of '{' '.join(words)}'",
+            good,
+            f"status 2, {part!r} on standard error alone",
+            (status, output, errors),
+        )
+    for words in (
+        [b"\xff"],
+        [b"report", b"--server", b"127.0.0.1:1", b"--day", b"1", b"--login", b"\xff\xfe"],
+    ):
         came = world.run(*words)
-        checks.equal(f"words that are no UTF-8, {words[-1].hex()}", came, (2, b"", "mailquota: arguments are not text\n"))
+        checks.equal(
+            f"words that are no UTF-8, {words[-1].hex()}",
+            came,
+            (2, b"", "mailquota: arguments are not text\n"),
+        )
 
 
 def unreadable(name):
@@ -80,7 +124,8 @@ SETTINGS = "/etc/mailquota"
 BAD_ADDRESS = bad_address("a", NO_PORT)
 BAD_LOGIN = (2, b"", "mailquota: bad login\n")
 ASKED = ["limit", "--server=a", "--host=h", "--login=u"]
-# the words before a number, its option, how its value is called, its least and greatest number, and how the program ends by these
+# the words before a number, its option, how its value is called, its least and greatest number, and
+# how the program ends by these
 NUMBERS = [
     (["replay"], "default", "N", 0, 1_000_000, (0, b"", "")),
     (["replay"], "east", "M", 0, 1_439, (0, b"", "")),
@@ -91,8 +136,22 @@ NUMBERS = [
     (ASKED + ["--from=1"], "cap", "N", 0, 1_000_000, BAD_ADDRESS),
     (ASKED + ["--from=1", "--cap=1"], "run", "N", 1, MOST_RUN, BAD_ADDRESS),
     (["stop", "--server=a", "--host=h", "--login=u"], "day", "DAY", 0, 376_199, BAD_ADDRESS),
-    (["resume", "--server=a", "--host=h", "--login=u", "--cap=1"], "day", "DAY", 0, 376_199, BAD_ADDRESS),
-    (["resume", "--server=a", "--host=h", "--login=u", "--day=1"], "cap", "N", 0, 1_000_000, BAD_ADDRESS),
+    (
+        ["resume", "--server=a", "--host=h", "--login=u", "--cap=1"],
+        "day",
+        "DAY",
+        0,
+        376_199,
+        BAD_ADDRESS,
+    ),
+    (
+        ["resume", "--server=a", "--host=h", "--login=u", "--day=1"],
+        "cap",
+        "N",
+        0,
+        1_000_000,
+        BAD_ADDRESS,
+    ),
     (["day", "--config=f"], "at", "SECONDS", 86_400, 32_503_680_000, unreadable("f")),
     (["retire", "--server=a", "--host=h"], "run", "N", 1, MOST_RUN, BAD_ADDRESS),
     (["report", "--server=a"], "day", "DAY", 0, 376_200, BAD_ADDRESS),
@@ -109,13 +168,33 @@ def ranges_of_numbers(world, checks):
     for words, option, value, least, most, wanted in NUMBERS:
         shown = f"{words[0]} --{option}"
         for given in (least, most):
-            checks.equal(f"{shown}={given}", world.run(*words, f"--{option}={given}", folder=world.folder), wanted)
+            checks.equal(
+                f"{shown}={given}",
+                world.run(*words, f"--{option}={given}", folder=world.folder),
+                wanted,
+            )
         for given in (least - 1, most + 1):
-            why = f"{given} is not in {least}..={most}" if given >= 0 else "invalid digit found in string"
-            refused = (2, b"", f"error: invalid value '{given}' for '--{option} <{value}>': {why}{MORE}")
-            checks.equal(f"{shown}={given}", world.run(*words, f"--{option}={given}", folder=world.folder), refused)
-    wanted = f"error: invalid value '1000001' for '--default <N>': 1000001 is not in 0..=1000000{MORE}"
-    checks.equal("replay --default 1000001", world.run("replay", "--default", "1000001"), (2, b"", wanted))
+            why = (
+                f"{given} is not in {least}..={most}"
+                if given >= 0
+                else "invalid digit found in string"
+            )
+            refused = (
+                2,
+                b"",
+                f"error: invalid value '{given}' for '--{option} <{value}>': {why}{MORE}",
+            )
+            checks.equal(
+                f"{shown}={given}",
+                world.run(*words, f"--{option}={given}", folder=world.folder),
+                refused,
+            )
+    wanted = (
+        f"error: invalid value '1000001' for '--default <N>': 1000001 is not in 0..=1000000{MORE}"
+    )
+    checks.equal(
+        "replay --default 1000001", world.run("replay", "--default", "1000001"), (2, b"", wanted)
+    )
 
 
 def settings_that_are_not_named(world, checks):
@@ -123,18 +202,44 @@ def settings_that_are_not_named(world, checks):
     if os.path.exists(SETTINGS):
         checks.skip("commands without --config", f"there is {SETTINGS}")
         return
-    for words in (["init"], ["server"], ["server", "--create"], ["limits"], ["audit"], ["day"], ["forget", "--before=1", "--into=f"]):
+    for words in (
+        ["init"],
+        ["server"],
+        ["server", "--create"],
+        ["limits"],
+        ["audit"],
+        ["day"],
+        ["forget", "--before=1", "--into=f"],
+    ):
         came = world.run(*words, folder=world.folder)
-        checks.equal(f"{' '.join(words)}, without --config", came, unreadable(f"{SETTINGS}/server.toml"))
+        checks.equal(
+            f"{' '.join(words)}, without --config", came, unreadable(f"{SETTINGS}/server.toml")
+        )
     for words in (["filter"], ["filter", "--check"], ["filter", "--run=7"]):
-        checks.equal(f"{' '.join(words)}, without --config", world.run(*words, folder=world.folder), unreadable(f"{SETTINGS}/filter.toml"))
+        checks.equal(
+            f"{' '.join(words)}, without --config",
+            world.run(*words, folder=world.folder),
+            unreadable(f"{SETTINGS}/filter.toml"),
+        )
 
 
 def bad_words_of_the_administrator(world, checks):
     """A bad host, login or address, in this order, before anything is sent."""
 
     def asked(server, host, login):
-        return ["limit", "--server", server, "--host", host, "--login", login, "--from", "1", "--cap", "2"]
+        return [
+            "limit",
+            "--server",
+            server,
+            "--host",
+            host,
+            "--login",
+            login,
+            "--from",
+            "1",
+            "--cap",
+            "2",
+        ]
 
     def report(server, login):
         return ["report", "--server", server, "--day", "1", "--login", login]
@@ -160,19 +265,38 @@ def bad_words_of_the_administrator(world, checks):
         shown = " ".join(word if len(word) < 20 else f"({len(word)} bytes)" for word in words)
         checks.equal(f"'{shown}'", world.run(*words), (2, b"", f"mailquota: {said}\n"))
     for address, lacks in [
-        ("nowhere", NO_PORT), ("", NO_PORT), ("127.0.0.1", NO_PORT), ("[::1]", NO_PORT), ("localhost:http", NO_PORT),
-        ("127.0.0.1:65536", PORT_TOO_LARGE), ("[::1]:65536", PORT_TOO_LARGE), ("127.0.0.1:99999999999999999999", PORT_TOO_LARGE),
-        ("localhost:7025", NO_NUMERIC_ADDRESS), ("mail:7025", NO_NUMERIC_ADDRESS), ("1.2.3:7025", NO_NUMERIC_ADDRESS), ("::1", NO_NUMERIC_ADDRESS),
-        ("fe80::1:7025", NO_NUMERIC_ADDRESS), (":7025", NO_NUMERIC_ADDRESS), ("\x1b[2J\u00e9 :7025", NO_NUMERIC_ADDRESS),
+        ("nowhere", NO_PORT),
+        ("", NO_PORT),
+        ("127.0.0.1", NO_PORT),
+        ("[::1]", NO_PORT),
+        ("localhost:http", NO_PORT),
+        ("127.0.0.1:65536", PORT_TOO_LARGE),
+        ("[::1]:65536", PORT_TOO_LARGE),
+        ("127.0.0.1:99999999999999999999", PORT_TOO_LARGE),
+        ("localhost:7025", NO_NUMERIC_ADDRESS),
+        ("mail:7025", NO_NUMERIC_ADDRESS),
+        ("1.2.3:7025", NO_NUMERIC_ADDRESS),
+        ("::1", NO_NUMERIC_ADDRESS),
+        ("fe80::1:7025", NO_NUMERIC_ADDRESS),
+        (":7025", NO_NUMERIC_ADDRESS),
+        ("\x1b[2J\u00e9 :7025", NO_NUMERIC_ADDRESS),
     ]:
         # (a terminal gets none of its bytes as they are)
         named = as_logged(address.encode())
         for words in (
-            asked(address, "a", "u" * 255), report(address, "u"), ["report", f"--server={address}", "--day=1"], ["status", f"--server={address}"],
-            ["retire", f"--server={address}", "--host=" + "a" * 64], ["stop", f"--server={address}", "--host=a", "--login=u", "--day=1"],
+            asked(address, "a", "u" * 255),
+            report(address, "u"),
+            ["report", f"--server={address}", "--day=1"],
+            ["status", f"--server={address}"],
+            ["retire", f"--server={address}", "--host=" + "a" * 64],
+            ["stop", f"--server={address}", "--host=a", "--login=u", "--day=1"],
             ["resume", f"--server={address}", "--host=a", "--login=u", "--day=1", "--cap=1"],
         ):
-            checks.equal(f"{words[0]}, of the address '{named}'", world.run(*words), bad_address(named, lacks))
+            checks.equal(
+                f"{words[0]}, of the address '{named}'",
+                world.run(*words),
+                bad_address(named, lacks),
+            )
 
 
 def milliseconds():
@@ -181,13 +305,18 @@ def milliseconds():
 
 def run_in(heard, place):
     """The run in a frame whose host's name is so long."""
-    return int.from_bytes(heard[4 + place:12 + place], "big")
+    return int.from_bytes(heard[4 + place : 12 + place], "big")
 
 
 def asked_of_the_clock(checks, what, start, heard):
     """The run of a frame of host mx1 that was made since then."""
     run = run_in(heard, 3)
-    checks.holds(f"{what}: the run is the clock's", start <= run <= milliseconds(), f"{start} or a little more", run)
+    checks.holds(
+        f"{what}: the run is the clock's",
+        start <= run <= milliseconds(),
+        f"{start} or a little more",
+        run,
+    )
     return run
 
 
@@ -208,77 +337,158 @@ def words_of_a_filter(world, checks):
             came = world.run("filter", *words, text=INPUT, folder=folder)
         checks.equal(f"{what}: what it answers", came, (0, REGISTRATION + answer(PROCEED), ""))
         run = 7 if "--run=7" in words else asked_of_the_clock(checks, what, start, script.heard[0])
-        checks.equal(f"{what}: its frames", script.heard, [reserve(1, login=b"alice", at=1_576_146_009, host=b"mx1", run=run)])
+        checks.equal(
+            f"{what}: its frames",
+            script.heard,
+            [reserve(1, login=b"alice", at=1_576_146_009, host=b"mx1", run=run)],
+        )
 
 
 def words_of_a_server_and_an_audit(world, checks):
     """With --create a new ledger is made; how many connections are served is logged."""
     folder = f"{world.folder}/server"
     os.mkdir(folder)
-    checks.equal("server --config=s, which isn't there", world.run("server", "--config=s", "--create", folder=folder), unreadable("s"))
-    checks.equal("audit --config s.toml, which isn't there", world.run("audit", "--config", "s.toml", folder=folder), unreadable("s.toml"))
-    settings = {"listen": "127.0.0.1:0", "store": f"{folder}/made", "default": 3, "offset": 0, "log": "info"}
+    checks.equal(
+        "server --config=s, which isn't there",
+        world.run("server", "--config=s", "--create", folder=folder),
+        unreadable("s"),
+    )
+    checks.equal(
+        "audit --config s.toml, which isn't there",
+        world.run("audit", "--config", "s.toml", folder=folder),
+        unreadable("s.toml"),
+    )
+    settings = {
+        "listen": "127.0.0.1:0",
+        "store": f"{folder}/made",
+        "default": 3,
+        "offset": 0,
+        "log": "info",
+    }
     for name in ("s", "s.toml"):
         os.rename(world.new_file(toml(settings)), f"{folder}/{name}")
     with Server.of_words(world, "--config=s", "--create", folder=folder) as server:
         wait_until(lambda: len(server.log_lines()) > 1)
-        lines = [begun(f"{folder}/made"), "[INFO  mq_program::serving] listening on 127.0.0.1:0 for 1000000 connections"]
+        lines = [
+            begun(f"{folder}/made"),
+            "[INFO  mq_program::serving] listening on 127.0.0.1:0 for 1000000 connections",
+        ]
         came = without_time(server.log_lines()), server.ask(page())
-        checks.equal("server --config=s --create: the log, and its ledger", came, (lines, page_reply([])))
+        checks.equal(
+            "server --config=s --create: the log, and its ledger", came, (lines, page_reply([]))
+        )
     came = world.run("audit", "--config", "s.toml", folder=folder)
-    checks.equal("audit --config s.toml: of that ledger", came, (0, b"sound days=0 transactions=0\n", ""))
+    checks.equal(
+        "audit --config s.toml: of that ledger", came, (0, b"sound days=0 transactions=0\n", "")
+    )
 
 
 def words_of_questions(world, checks):
     if loopback_of_6() != "::1":
         checks.skip("limit of a server at [::1], which is asked at 127.0.0.1", "there is no IPv6")
     start = milliseconds()
-    with Script([lambda heard: frame(b"\x85" + identity(1, host=b"mx1", run=run_in(heard, 3)))], host=loopback_of_6()) as script:
+    with Script(
+        [lambda heard: frame(b"\x85" + identity(1, host=b"mx1", run=run_in(heard, 3)))],
+        host=loopback_of_6(),
+    ) as script:
         words = [f"--server={script.address}", "--host=mx1", "--login=u v", "--from=2", "--cap=3"]
         came = world.run("limit", *words)
     checks.equal("limit without a run: what it prints", came, (0, b"set\n", NOTE))
     run = asked_of_the_clock(checks, "limit without a run", start, script.heard[0])
-    checks.equal("limit without a run: its frame", script.heard, [limit(1, 2, 3, login=b"u v", host=b"mx1", run=run)])
+    checks.equal(
+        "limit without a run: its frame",
+        script.heard,
+        [limit(1, 2, 3, login=b"u v", host=b"mx1", run=run)],
+    )
     with Script([page_reply([], day=2)]) as script:
         came = world.run("report", "--day=2", f"--server={script.address}")
-    checks.equal("report without a login: what it prints, and its frame", (came, script.heard), ((0, b"", ""), [page(day=2)]))
+    checks.equal(
+        "report without a login: what it prints, and its frame",
+        (came, script.heard),
+        ((0, b"", ""), [page(day=2)]),
+    )
     start = milliseconds()
     with Script([lambda heard: retired(1, host=b"mx1", run=run_in(heard, 3))]) as script:
         came = world.run("retire", f"--server={script.address}", "--host=mx1")
     checks.equal("retire without a run: what it prints", came, (0, b"retired\n", ""))
     run = asked_of_the_clock(checks, "retire without a run", start, script.heard[0])
     checks.equal("retire without a run: its frame", script.heard, [retire(1, host=b"mx1", run=run)])
-    checks.equal("report of an empty login", world.run("report", "--day=2", "--server=a", "--login="), BAD_LOGIN)
-    checks.equal("report without a login, of a bad address", world.run("report", "--day=2", "--server=a"), BAD_ADDRESS)
+    checks.equal(
+        "report of an empty login",
+        world.run("report", "--day=2", "--server=a", "--login="),
+        BAD_LOGIN,
+    )
+    checks.equal(
+        "report without a login, of a bad address",
+        world.run("report", "--day=2", "--server=a"),
+        BAD_ADDRESS,
+    )
 
 
 NOTE = "mailquota: note: smtpd reports this login, in the form of --login-text, as u\\x5c040v\n"
 
 
 def words_without_a_name(world, checks):
-    """A login is a word as a report prints it, or an option as smtpd reports it; a limit is a word or an option."""
+    """A login is a word as a report prints it, or an option as smtpd reports it; a limit is a word
+    or an option."""
     with Server(world, default=9) as server:
         asked, shown = [f"--server={server.address}"], "u\\x20v"
         for words, cap in [
-            ([shown, "7"], 7), ([shown, "0"], 0), ([shown, "1000000"], 1_000_000), ([shown, "--cap=6"], 6), (["--cap", "5", shown], 5),
-            (["--login=u v", "--cap=4"], 4), ([f"--login-text={shown}", "--cap=3"], 3),
+            ([shown, "7"], 7),
+            ([shown, "0"], 0),
+            ([shown, "1000000"], 1_000_000),
+            ([shown, "--cap=6"], 6),
+            (["--cap", "5", shown], 5),
+            (["--login=u v", "--cap=4"], 4),
+            ([f"--login-text={shown}", "--cap=3"], 3),
         ]:
             came = world.run("limit", *words, "--from=2", *asked), caps(server, b"u v", 1, 2)
             checks.equal(f"limit {' '.join(words)}", came, ((0, b"set\n", NOTE), [9, cap]))
-        checks.equal("limit -- -x 8", (world.run("limit", *asked, "--from=2", "--", "-x", "8"), caps(server, b"-x", 1, 2)), ((0, b"set\n", ""), [9, 8]))
+        checks.equal(
+            "limit -- -x 8",
+            (world.run("limit", *asked, "--from=2", "--", "-x", "8"), caps(server, b"-x", 1, 2)),
+            ((0, b"set\n", ""), [9, 8]),
+        )
         for words in ([shown], ["--login=u v"], [f"--login-text={shown}"]):
             came = world.run("report", "--day=2", *words, *asked)
-            checks.equal(f"report {' '.join(words)}", came, (0, b"      0       0       3 u\\x20v\n", ""))
+            checks.equal(
+                f"report {' '.join(words)}", came, (0, b"      0       0       3 u\\x20v\n", "")
+            )
         for words in ([shown], ["--login=u v"], [f"--login-text={shown}"]):
-            came = world.run("stop", "--day=4", "--force", *words, *asked), world.run("resume", "--day=4", "--cap=2", *words, *asked), caps(server, b"u v", 4, 5)
-            stopped, resumed = b"stopped: u\\x20v used 0 on day 4\nlimit before: ", b"resumed: u\\x20v may use 2 on day 4\n"
-            good = came[0][0] == 0 and came[0][1].startswith(stopped) and came[0][2] == NOTE and came[1:] == ((0, resumed, NOTE), [2, 2])
-            checks.holds(f"stop and resume {' '.join(words)}", good, (stopped, resumed, [2, 2]), came)
-        for words in (["limit", "\\x2", "7", "--from=2"], ["stop", "\\x2", "--day=4"], ["resume", "\\x2", "--day=4"], ["report", "\\x2", "--day=2"], ["report", "u v", "--day=2"]):
-            checks.equal(f"{' '.join(words)}: a word that no report prints", world.run(*words, *asked), BAD_LOGIN)
+            came = (
+                world.run("stop", "--day=4", "--force", *words, *asked),
+                world.run("resume", "--day=4", "--cap=2", *words, *asked),
+                caps(server, b"u v", 4, 5),
+            )
+            stopped, resumed = (
+                b"stopped: u\\x20v used 0 on day 4\nlimit before: ",
+                b"resumed: u\\x20v may use 2 on day 4\n",
+            )
+            good = (
+                came[0][0] == 0
+                and came[0][1].startswith(stopped)
+                and came[0][2] == NOTE
+                and came[1:] == ((0, resumed, NOTE), [2, 2])
+            )
+            checks.holds(
+                f"stop and resume {' '.join(words)}", good, (stopped, resumed, [2, 2]), came
+            )
+        for words in (
+            ["limit", "\\x2", "7", "--from=2"],
+            ["stop", "\\x2", "--day=4"],
+            ["resume", "\\x2", "--day=4"],
+            ["report", "\\x2", "--day=2"],
+            ["report", "u v", "--day=2"],
+        ):
+            checks.equal(
+                f"{' '.join(words)}: a word that no report prints",
+                world.run(*words, *asked),
+                BAD_LOGIN,
+            )
 
 
-# words of replay, the default that they ask for, a day, and the first second of it by their offset of 0, -1,439 and 60 minutes
+# words of replay, the default that they ask for, a day, and the first second of it by their offset
+# of 0, -1,439 and 60 minutes
 REPLAYS = [
     ([], 100, 2, 2 * 86_400),
     (["--default", "0", "--west", "1439", "--sql"], 0, 1, 86_400 + 1_439 * 60),
@@ -287,7 +497,8 @@ REPLAYS = [
 
 
 def words_of_replay(world, checks):
-    """Login u has a limit of 5 and a recipient on each side of a midnight, and login v has the default."""
+    """Login u has a limit of 5 and a recipient on each side of a midnight, and login v has the
+    default."""
     for words, default, day, first in REPLAYS:
         asked = limit(1, 0, 5) + reserve(2, txn=1, at=first - 1) + reserve(3, txn=2, at=first)
         asked += usage(day=day - 1) + usage(day=day) + usage(b"v", day=day)
@@ -298,15 +509,23 @@ def words_of_replay(world, checks):
 
 
 def used(login, day, in_reserved, cap):
-    return frame(b"\x8b" + text(login) + number(day) + number(0) + number(in_reserved) + number(cap))
+    return frame(
+        b"\x8b" + text(login) + number(day) + number(0) + number(in_reserved) + number(cap)
+    )
 
 
 def tables_of_replay(world, checks):
-    """Tables (`--sql`) answer as a list does and take more memory, which shows in the pages that the program touches."""
+    """Tables (`--sql`) answer as a list does and take more memory, which shows in the pages that
+    the program touches."""
     asked = b"".join(reserve(number, txn=number) for number in range(1, 51)).hex().encode()
     without = [pages_touched(lambda: world.run("replay", text=asked)) for _ in range(3)]
     with_it = [pages_touched(lambda: world.run("replay", "--sql", text=asked)) for _ in range(3)]
-    checks.holds("replay --sql: pages of memory", min(with_it) > max(without), "more than without", (without, with_it))
+    checks.holds(
+        "replay --sql: pages of memory",
+        min(with_it) > max(without),
+        "more than without",
+        (without, with_it),
+    )
 
 
 def pages_touched(go):
