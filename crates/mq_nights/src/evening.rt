@@ -48,8 +48,7 @@ fn begin_renewal<N: Alter + Drop, P: Parts<N>, G: Log>(
     match Renewal::begin(alloc, connection, zone, default, day) {
         Ok(renewal) => Some(renewal),
         Err(refused) => {
-            let fault = fault_of(refused);
-            warn!(log; "days before {day} stay: {fault}; next attempt in an hour");
+            log_refused(log, &fault_of(refused), day);
             parts.discard();
             None
         }
@@ -61,6 +60,16 @@ fn fault_of<N: Alter + Drop>(refused: OpenRefused<N>) -> OpenFault
     ensures { result ≡ refused.fault }
 {
     refused.fault
+}
+
+/// Logs why a renewal can't begin: of a store that failed, the cause.
+fn log_refused<G: Log>(log: &G, fault: &OpenFault, day: u32) {
+    match fault {
+        OpenFault::Store(cause) => {
+            warn!(log; "days before {day} stay: {cause}; next attempt in an hour")
+        }
+        fault => warn!(log; "days before {day} stay: {fault}; next attempt in an hour"),
+    }
 }
 
 /// Goes on with a renewal: whether it is through. Why it can't go on is logged.
