@@ -31,7 +31,6 @@ def run(world, checks):
         grows_no_further(world, checks, room)
     retires_no_further(world, checks)
     says_why_with_keep(world, checks)
-    ends_by_night(world, checks)
     for size in TOO_SMALL:
         too_small(world, checks, size)
     rooms = f"{len(ROOMS)} rooms to grow, {len(TOO_LITTLE) + 1} for a retire"
@@ -189,31 +188,6 @@ def retires_no_further(world, checks):
                 [books.serve(it) for it in asked],
             )
         same_rows(checks, f"{what}, and room again", path, books)
-
-
-def ends_by_night(world, checks):
-    """A server with `keep` says the same where its log can't grow."""
-    what, path, books = (
-        "a log that doesn't grow, with keep",
-        f"{world.folder}/keeping",
-        Books(0, DEFAULT),
-    )
-    with Server(
-        world,
-        words=["--create"],
-        limit=("RLIMIT_FSIZE", resource.RLIM_INFINITY),
-        store=path,
-        default=DEFAULT,
-        keep=2,
-    ) as server:
-        checks.equal(f"{what}: before", replies_of(server, [request(1)]), [books.serve(request(1))])
-        limited(server, path, 0)
-        checks.equal(
-            f"{what}: the reply then, status and text",
-            (replies_of(server, [request(2)]), how_it_ended(server)),
-            ([], (1, "mailquota: store failed\n")),
-        )
-        says_why(checks, what, server, path)
 
 
 def too_small(world, checks, size):

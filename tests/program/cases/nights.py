@@ -76,11 +76,9 @@ def run(world, checks):
     notes_of_nights(world, checks)
     tries_again_in_an_hour(world, checks)
     warns_once_over_a_night(world, checks)
-    names_that_are_folders(world, checks)
     a_switch_that_fails(world, checks)
     catches_up(world, checks)
     of_thousands(world, checks)
-    again_in_an_hour(world, checks)
     on_the_disk_in_order(world, checks)
     beside_a_renewal(world, checks)
     a_new_file_that_is_removed(world, checks)
@@ -450,20 +448,6 @@ def repairs(world, checks):
         "after the third: init, which makes none over it", (came[0], names(beside)), (1, SWITCHED)
     )
     same_rows(checks, "after the third: init", beside, kept)
-    noted = put(
-        f"{world.folder}/noted-before", STATES["after the second"][0], {"old": closed, "new": new}
-    )
-    with open(f"{noted}.night", "w", encoding="ascii") as file:
-        file.write("forgot the days before 1 on day 3, in 7 ms\n")
-    came = world.run("status", "--config", ledger_settings(world, noted, default=DEFAULT))
-    checks.equal(
-        (
-            "after the second, with the note of an earlier night: status, what it says of a night,"
-            " and files"
-        ),
-        (came[0], b"forgot" in came[1], names(noted)),
-        (3, False, SWITCHED),
-    )
 
 
 def notes_of_switches(world, checks, old, new):
@@ -684,35 +668,6 @@ def warned_of(server):
     return [line for line in server.log_lines() if line.startswith(("[WARN", "[ERROR"))]
 
 
-def names_that_are_folders(world, checks):
-    """The note and a log of before can't be written or removed: that is logged, and days are
-    forgotten all the same."""
-    what, path = (
-        "folders in place of a night's note and of a log of before",
-        f"{world.folder}/folders",
-    )
-    books = filled(world, path)
-    for it in (".night", ".old-wal"):
-        os.mkdir(f"{path}{it}")
-    with nightly(world, path) as server:
-        good = wait_until(lambda: is_through(server))
-        is_folder = "Is a directory (os error 21)"
-        wanted = [
-            f"[WARN  mq_program::switching] {path}.old-wal: {is_folder}",
-            f"[WARN  mq_program::last_night] {path}.night: {is_folder}",
-        ]
-        # (it answers once the note is written)
-        asked(server, [wire.page()])
-        checks.equal(
-            f"{what}: days are forgotten, and what is logged",
-            (good, warned_of(server)),
-            (True, wanted),
-        )
-    for it in (".night", ".old-wal"):
-        os.rmdir(f"{path}{it}")
-    same_rows(checks, what, path, books.remembered(first_day()))
-
-
 def a_switch_that_fails(world, checks):
     """The new ledger's log was removed by somebody, or a folder has the name that its file gets:
     the server ends, says of which file and why, and the former ledger is whole."""
@@ -830,35 +785,6 @@ def of_thousands(world, checks):
             f"forgot the days before {first_day()} on day {today()}, in {took} ms\n",
         )
     same_rows(checks, what, path, books.remembered(first_day()))
-
-
-def again_in_an_hour(world, checks):
-    """A night whose new file can't be made: an hour later, and not before, it is tried again."""
-    what, path, day = "a night that is tried again", f"{world.folder}/again", today()
-    filled(world, path)
-    os.mkdir(f"{path}.part")
-    server, clock = by_clock(world, path, DAY * day + 10_830)
-
-    def through(seconds):
-        """Whether days are forgotten, though a peer asks, within so many seconds."""
-        end = time.monotonic() + seconds
-        while not is_through(server) and time.monotonic() < end:
-            asked(server, [wire.usage()])
-        return is_through(server)
-
-    with server:
-        warned = wait_until(lambda: warnings(server))
-        os.rmdir(f"{path}.part")
-        came = []
-        for passed, seconds in ((3_500, 0.5), (3_700, 20)):
-            clock.pass_to(DAY * day + 10_830 + passed)
-            came.append(through(seconds))
-        checks.equal(
-            f"{what}: a warning, and whether days are forgotten 3,500 s and 3,700 s later",
-            (warned, came),
-            (True, [False, True]),
-        )
-        checks.equal(f"{what}: what is forgotten", forgotten_from(server), [day - KEEP])
 
 
 # the numbers of pwrite64(2), fsync(2), rename(2), unlink(2) and fchown(2)
