@@ -1,11 +1,6 @@
 -- Members of lists, what is found in them, and sums.
-use Rattle.std.proofs.Common.{◌≡◌, ℕ, zero, suc, ◌+◌, ◌≤◌, Bool, true, false, List, [], ◌∷◌, ◌++◌, refl, sym, ap, ◌∙◌, inl, inr, arith, None, Some}
-use Rattle.std.specs.Prelude.{◌⊎◌, slice_get, find, sum_by, if◌then◌else◌}
-use Rattle.std.specs.List.{AllByRecursion, list_any}
-use Rattle.std.proofs.lemmas.List.Sums.{sum_by-cons}
-use Rattle.mq_lemmas.proofs.Booleans.{either, clash}
-use Rattle.mq_lemmas.proofs.Options.{none_some, some_is}
-use Rattle.mq_lemmas.proofs.Lists.{In}
+use Rattle.mq_world.proofs.Words.{AllByRecursion, Bool, In, List, None, Some, [], ap, arith, clash, either, false, if◌then◌else◌, inl, inr, list_any, none_some, refl, slice_get, some_is, suc, sum_by, sum_by-cons, sym, true, zero, ℕ, ◌++◌, ◌+◌, ◌∙◌, ◌∷◌, ◌≡◌, ◌≤◌, ◌⊎◌}
+use Rattle.std.specs.Prelude.{find}
 
 -- ---- members
 

@@ -1,22 +1,8 @@
 -- What holds of a run holds once days before F are forgotten.
-use Rattle.std.proofs.Common.{◌≡◌, ℕ, ◌≤◌, List, [], ◌∷◌, ◌++◌, Bool, true, false, refl, ◌∙◌, ap, sym, subst, inl, inr, arith}
-use Rattle.std.specs.Prelude.{◌⊎◌, nat_le, filter}
-use Rattle.std.proofs.lemmas.Bool.Decides.{nat_tests}
-use Rattle.mq_lemmas.proofs.Lists.{in_filter, In}
-use Rattle.mq_lemmas.proofs.Booleans.{either, clash, neither_first}
-use Rattle.mq_lemmas.proofs.Options.{some_is, option_cases}
-use Rattle.mq_request.specs.declared.message.Id.{Id}
-use Rattle.mq_request.specs.declared.message.Request.{Request}
-use Rattle.mq_request.specs.declared.message.Request.TheVariants.{Reserve, Settle, Release, Limit, Usage, List as ListRequest, Retire}
-use Rattle.mq_request.specs.declared.message.Reply.{Reply}
+use Rattle.mq_world.proofs.Words.{Bool, Entry, Id, In, IsLegal, Limit, List, ListRequest, Release, RepliesSuit, Reply, Request, Reserve, Retire, Settle, Source, Step, Usage, [], ap, arith, clash, day_named, decides, either, false, filter, id_of, in_filter, inl, inr, is_about, is_of, is_set}
+use Rattle.mq_world.proofs.Words.{moment_of, named, nat_le, nat_tests, neither_first, option_cases, refl, remembered, same_transaction, some_is, stays, subst, sym, transaction, true, ℕ, ◌++◌, ◌∙◌, ◌∷◌, ◌≡◌, ◌≤◌, ◌⊎◌}
 use Rattle.mq_request.specs.declared.message.Reply.TheVariants as reply
-use Rattle.mq_ledger.specs.declared.entry.Entry.{Entry}
-use Rattle.mq_ledger.specs.History.{Transaction, transaction, same_transaction, is_of, named}
-use Rattle.mq_ledger.specs.Legal.{IsLegal}
-use Rattle.mq_ledger.specs.Suits.{Suits as RepliesSuit}
-use Rattle.mq_forget.specs.Remembered.{moment_of, day_named, is_about, is_set, stays, remembered}
-use Rattle.mq_client.specs.Exchanges.{decides}
-use Rattle.mq_client.specs.Past.{Source, Step, id_of}
+use Rattle.mq_ledger.specs.History.{Transaction}
 use Rattle.mq_world.proofs.Basics.{in_front, in_back, in_either, found}
 use Rattle.mq_world.proofs.Known.{OfFrames, OfClients, OfLedgers}
 use Rattle.mq_world.proofs.Numbers.{IsOwn}

@@ -1,26 +1,11 @@
 -- What was let through was granted in some ledger, under numbers of the run. H has the entries of all ledgers.
-use Rattle.std.proofs.Common.{◌≡◌, ℕ, ◌+◌, ◌≤◌, List, [], ◌∷◌, Bool, true, false, refl, ◌∙◌, ap, sym, subst, inl, inr, arith, Option, None, Some, if◌then◌else◌}
-use Rattle.std.specs.Prelude.{sum_by, ◌&&◌, ◌==◌, nat_le, not, length}
-use Rattle.std.proofs.lemmas.Bool.Decides.{nat_tests}
-use Rattle.mq_lemmas.proofs.Booleans.{not_false, either, clash, neither_first, neither_second}
-use Rattle.mq_lemmas.proofs.Options.{none_some, some_is}
-use Rattle.mq_lemmas.proofs.Numbers.{number_is}
-use Rattle.mq_lemmas.proofs.Lists.{In}
-use Rattle.mq_request.specs.Same.{same_text}
-use Rattle.mq_request.specs.declared.message.Request.{Request}
-use Rattle.mq_request.specs.declared.message.Reply.{Reply}
+use Rattle.mq_world.proofs.Words.{Action, AreUnderway, Ask, Asked, Bool, Close, CloseEnd, Closed, Drain, Entry, Exchange, Held, In, IsUnderway, List, Live, Never, None, Option, Reply, Request, Some, Source, Standing, Step, View, [], after, after_ask, after_close, answer_of, ap, arith, clash, either}
+use Rattle.mq_world.proofs.Words.{false, granted, granted_in, held_by, if◌then◌else◌, inl, inr, is_of, is_other, length, let_through, let_through_at, nat_le, nat_tests, neither_first, neither_second, none_some, not, not_false, number_is, opened, refl, refuses, reserve_of, same_text}
+use Rattle.mq_world.proofs.Words.{same_transaction, some_is, subst, sum_by, sym, tries_in, true, view, ℕ, ◌&&◌, ◌+◌, ◌==◌, ◌∙◌, ◌∷◌, ◌≡◌, ◌≤◌}
 use Rattle.mq_request.specs.declared.message.Reply.TheVariants as reply
-use Rattle.mq_ledger.specs.declared.entry.Entry.{Entry}
-use Rattle.mq_ledger.specs.History.{Transaction, same_transaction, is_of, granted, granted_in}
-use Rattle.mq_client.specs.Exchanges.{Exchange}
-use Rattle.mq_client.specs.Past.{tries_in, Source, Action, Ask, Close, Drain, Step, Standing, Never, Live, Closed, View, view, after, after_ask, after_close, held_by, opened, let_through, answer_of, reserve_of, is_other, refuses}
-use Rattle.mq_client.specs.Turns.{IsUnderway, AreUnderway}
-use Rattle.mq_track.specs.declared.closing.CloseEnd.{CloseEnd}
-use Rattle.mq_client.specs.declared.held.Asked.{Asked}
+use Rattle.mq_ledger.specs.History.{Transaction}
 use Rattle.mq_client.specs.declared.held.Asked.TheVariants as asked
-use Rattle.mq_client.specs.declared.held.Held.{Held}
 use Rattle.mq_client.proofs.WaitingOff.{seq_of}
-use Rattle.mq_client.proofs.Numbering.{let_through_at}
 use Rattle.mq_world.proofs.Basics.{sum_below, sum_grows}
 use Rattle.mq_world.proofs.Ranges.{next_among, free_ask}
 

@@ -1,29 +1,8 @@
 -- What the crates below say of frames, clients, trackers and ledgers.
-use Rattle.std.proofs.Common.{◌≡◌, ℕ, ◌+◌, ◌≤◌, true, false, List, [], ◌∷◌, ◌++◌, None, Some}
-use Rattle.std.specs.Prelude.{◌↔◌, All, sum_by}
-use Rattle.std.specs.List.{AllByRecursion}
-use Rattle.mq_line.specs.Grammar.{Meaning}
-use Rattle.mq_track.specs.Laws.{AreNumbered}
-use Rattle.mq_request.specs.Range.{IsRequest, IsReply, IsAmount}
-use Rattle.mq_request.specs.Same.{same_id, same_request}
-use Rattle.mq_frame.specs.Spelling.{request_body, reply_body, SpellsReply, frame}
-use Rattle.mq_request.specs.declared.message.Id.{Id}
-use Rattle.mq_request.specs.declared.message.Request.{Request}
-use Rattle.mq_request.specs.declared.message.Reply.{Reply}
-use Rattle.mq_ledger.specs.declared.entry.Entry.{Entry}
-use Rattle.mq_ledger.specs.Answer.{reply, with_arrival, history_of}
-use Rattle.mq_ledger.specs.declared.zone.Zone.{Zone}
-use Rattle.mq_ledger.specs.Day.{IsZone, IsDayRule, day_of}
-use Rattle.mq_ledger.specs.History.{requests, Transaction, same_transaction, named, ended, granted_in, held, settled_in, reserved, settled, used}
-use Rattle.mq_ledger.specs.Limits.{cap}
-use Rattle.mq_ledger.specs.Sums.{held_on, settled_on, AreDistinct}
-use Rattle.mq_ledger.specs.Legal.{IsLegal}
-use Rattle.mq_ledger.specs.Suits.{Suits as RepliesSuit}
-use Rattle.mq_client.specs.Past.{Source, Step, view, IsBounded}
-use Rattle.mq_client.specs.Reading.{standing_in, numbers_in}
-use Rattle.mq_client.specs.Turns.{AreUnderway}
-use Rattle.mq_client.specs.Numbered.{txn_in, exchanges_in, request_under, IsNumbered, NoneReturns, Suits}
-use Rattle.mq_client.specs.Filter.{actions, actions_of}
+use Rattle.mq_world.proofs.Words.{All, AllByRecursion, AreDistinct, AreNumbered, AreUnderway, Entry, Id, IsAmount, IsBounded, IsDayRule, IsLegal, IsNumbered, IsReply, IsRequest, IsZone, List, Meaning, None, NoneReturns, RepliesSuit, Reply, Request, Some, Source, SpellsReply, Step, Suits, Zone, []}
+use Rattle.mq_world.proofs.Words.{actions, actions_of, cap, day_of, ended, exchanges_in, false, frame, granted_in, held, held_on, history_of, named, numbers_in, reply, reply_body, request_body, request_under, requests, reserved, same_id, same_request, same_transaction, settled, settled_in}
+use Rattle.mq_world.proofs.Words.{settled_on, standing_in, sum_by, true, txn_in, used, view, with_arrival, ℕ, ◌++◌, ◌+◌, ◌↔◌, ◌∷◌, ◌≡◌, ◌≤◌}
+use Rattle.mq_ledger.specs.History.{Transaction}
 
 pub record OfFrames : Type 0 where
   pub one_request : (q r : Request) → IsRequest q → IsRequest r → frame (request_body q) ≡ frame (request_body r) → q ≡ r

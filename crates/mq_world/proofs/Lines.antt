@@ -1,19 +1,10 @@
 -- What the lines that a run read have it ask for is in range.
-use Rattle.std.proofs.Common.{◌≡◌, ℕ, ◌+◌, ◌≤◌, ◌&&◌, nat_le, Bool, true, false, List, ◌∷◌, refl, sym, subst, arith, Option, None, Some, if◌then◌else◌}
-use Rattle.std.specs.Option.{option_map, option_or}
-use Rattle.std.proofs.lemmas.Bool.Decides.{nat_tests}
-use Rattle.mq_lemmas.proofs.Options.{none_some, some_is}
-use Rattle.mq_lemmas.proofs.Booleans.{first_so, second_so}
-use Rattle.mq_line.specs.Grammar.{Meaning, ConfigLine, ReadyLine, ReportLine, FilterLine, OtherLine}
+use Rattle.mq_world.proofs.Words.{Action, AreNumbered, Ask, Asks, Bool, Closing, ConfigLine, FilterLine, IsLogin, IsMoment, IsOrdinal, List, Meaning, None, Option, OtherLine, Passes, Position, ReadyLine, Refuses, ReportLine, Some, Step, action_of, actions, arith, asking_of, begin_count, close_of}
+use Rattle.mq_world.proofs.Words.{closing, false, fault, first_so, if◌then◌else◌, is_begin, is_exhausted, is_login, is_moment, length, login, nat_le, nat_tests, none_some, open_transaction, option_map, option_or, position, position_of, push, query_at, refl, second_so, some_is, subst, sym, true, ℕ}
+use Rattle.mq_world.proofs.Words.{◌&&◌, ◌+◌, ◌∷◌, ◌≡◌, ◌≤◌}
 use Rattle.mq_track.specs.Events.{event, unreadable}
-use Rattle.mq_track.specs.Sessions.{Transaction, login, open_transaction, begin_count, is_begin, is_exhausted, fault, closing, position_of, position, Position}
-use Rattle.mq_track.specs.Laws.{AreNumbered}
-use Rattle.mq_track.specs.declared.closing.Closing.{Closing}
+use Rattle.mq_track.specs.Sessions.{Transaction}
 use Rattle.mq_track.specs.declared.fault.TrackFault.TheVariants.{Exhausted}
-use Rattle.mq_request.specs.Range.{IsOrdinal, IsMoment, IsLogin}
-use Rattle.mq_client.specs.Past.{Action, Ask, Step}
-use Rattle.mq_client.specs.Filter.{Passes, Refuses, Asks, is_login, is_moment, query_at, asking_of, close_of, action_of, actions, push}
-use Rattle.std.specs.Prelude.{length}
 use Rattle.mq_world.specs.World.{begun}
 use Rattle.mq_world.proofs.Ranges.{IsAsked}
 

@@ -1,13 +1,5 @@
 -- The numbers of a run: an exchange more, or one that ends otherwise, takes no request away.
-use Rattle.std.proofs.Common.{◌≡◌, ℕ, ◌+◌, ◌≤◌, ◌==◌, Bool, false, List, [], ◌∷◌, sym, ap, ◌∙◌, arith, Some}
-use Rattle.std.proofs.lemmas.Bool.{ne_eqb}
-use Rattle.mq_lemmas.proofs.Options.{some_is}
-use Rattle.mq_request.specs.declared.message.Request.{Request}
-use Rattle.mq_client.specs.Exchanges.{Exchange}
-use Rattle.mq_client.specs.Past.{Source, Action, Ask, Close, Drain, Step, id_of}
-use Rattle.mq_client.specs.Reading.{numbers_in, takes_number}
-use Rattle.mq_client.specs.Numbered.{id_in, request_under, IsNumbered}
-use Rattle.mq_client.proofs.Numbering.{more_numbers}
+use Rattle.mq_world.proofs.Words.{Action, Ask, Bool, Close, Drain, Exchange, IsNumbered, List, Request, Some, Source, Step, [], ap, arith, false, id_in, id_of, more_numbers, ne_eqb, numbers_in, request_under, some_is, sym, takes_number, ℕ, ◌+◌, ◌==◌, ◌∙◌, ◌∷◌, ◌≡◌, ◌≤◌}
 use Rattle.mq_world.specs.World.{source_of, begun}
 
 -- the request has a number of the source

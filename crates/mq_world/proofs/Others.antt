@@ -1,12 +1,5 @@
 -- What others do is the same wherever one run stands.
-use Rattle.std.proofs.Common.{◌≡◌, List, ◌∷◌, Bool, true, false, refl, ◌∙◌, suc, ap, sym, subst, inl, inr, arith, Some}
-use Rattle.std.specs.Prelude.{length}
-use Rattle.mq_lemmas.proofs.Booleans.{either, clash}
-use Rattle.mq_lemmas.proofs.Options.{none_some}
-use Rattle.mq_line.specs.Grammar.{Meaning}
-use Rattle.mq_frame.specs.Spelling.{request_frame}
-use Rattle.mq_track.specs.Sessions.{fault}
-use Rattle.mq_client.specs.Past.{Source, IsPlayed}
+use Rattle.mq_world.proofs.Words.{Bool, IsPlayed, List, Meaning, Some, Source, ap, arith, clash, either, false, fault, inl, inr, length, none_some, refl, request_frame, subst, suc, sym, true, ◌∙◌, ◌∷◌, ◌≡◌}
 use Rattle.mq_world.specs.World.{Site, Run, World, IsUp, ReadsOn, after_line, after_end, next_request, with_on_way, after_exchange, after_stop, with_run, with_sent, put, same_source, Next, Reads, ReadsEnd, Sends, Ends, Takes, OthersSend, Stops}
 use Rattle.mq_world.proofs.Worlds.{same_itself, source_is}
 

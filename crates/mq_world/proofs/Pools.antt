@@ -1,9 +1,5 @@
 -- The entries of several ledgers.
-use Rattle.std.proofs.Common.{List, [], ◌∷◌, ◌++◌, refl, inl, inr}
-use Rattle.std.specs.Prelude.{◌⊎◌}
-use Rattle.mq_lemmas.proofs.Lists.{In}
-use Rattle.mq_ledger.specs.declared.entry.Entry.{Entry}
-use Rattle.mq_ledger.specs.Legal.{Book}
+use Rattle.mq_world.proofs.Words.{Book, Entry, In, List, [], inl, inr, refl, ◌++◌, ◌∷◌, ◌⊎◌}
 use Rattle.mq_world.proofs.Basics.{in_front, in_back, in_either}
 
 abbrev pub pool : List Book → List Entry

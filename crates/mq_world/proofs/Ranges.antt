@@ -1,23 +1,9 @@
 -- What a run sends is in range, where its asks are.
-use Rattle.std.proofs.Common.{◌≡◌, ℕ, ◌+◌, ◌≤◌, ◌<◌, ◌==◌, ◌&&◌, nat_le, Bool, true, false, List, [], ◌∷◌, refl, ap, subst, inl, inr, arith, Option, None, Some, if◌then◌else◌}
-use Rattle.std.specs.Prelude.{length, slice_get}
-use Rattle.std.specs.List.{AllByRecursion}
-use Rattle.std.proofs.lemmas.Bool.Decides.{nat_tests}
-use Rattle.mq_lemmas.proofs.Lists.{all_drop, In, all_at, all_push}
-use Rattle.mq_lemmas.proofs.Booleans.{either, neither_first, neither_second}
-use Rattle.mq_lemmas.proofs.Options.{none_some, some_is}
-use Rattle.mq_lemmas.proofs.Numbers.{number_is}
-use Rattle.mq_request.specs.Range.{IsHost, IsRun, IsOrdinal, IsMoment, IsLogin, IsId, IsRequest}
-use Rattle.mq_request.specs.declared.message.Request.{Request}
-use Rattle.mq_request.specs.declared.message.Request.TheVariants.{Settle, Release}
-use Rattle.mq_client.specs.Exchanges.{Exchange, decisions}
-use Rattle.mq_client.specs.Past.{tries_in, Source, Action, Ask, Close, Drain, Step, Standing, Never, Live, Closed, View, view, after, after_ask, after_close, held_by, held_for, opened, let_through, answer_of, id_of, reserve_of, closing_of, is_commit, is_other, lacks_numbers, refuses, IsBounded}
+use Rattle.mq_world.proofs.Words.{Action, AllByRecursion, AreUnderway, Ask, Asked, Bool, Close, CloseEnd, Closed, ComeInTurn, Drain, Exchange, Held, In, IsBounded, IsHost, IsId, IsLogin, IsMoment, IsOrdinal, IsRequest, IsRun, List, Live, Never, None, Option, Release, Request, Settle, Some, Source}
+use Rattle.mq_world.proofs.Words.{Standing, Step, View, [], after, after_ask, after_close, all_at, all_drop, all_push, answer_of, ap, arith, closing_of, decisions, either, failures, false, held_by, held_for, id_of, if◌then◌else◌, inl, inr, is_commit, is_other, lacks_numbers, length, let_through}
+use Rattle.mq_world.proofs.Words.{nat_le, nat_tests, neither_first, neither_second, next, next_of, none_some, number_is, opened, queue_of, refl, refuses, reserve_of, slice_get, some_is, subst, tries_in, true, view, ℕ, ◌&&◌, ◌+◌, ◌<◌, ◌==◌, ◌∷◌, ◌≡◌, ◌≤◌}
 use Rattle.mq_client.specs.Held.{IsHeld}
-use Rattle.mq_client.specs.Turns.{failures, queue_of, next_of, next, ComeInTurn, AreUnderway}
-use Rattle.mq_track.specs.declared.closing.CloseEnd.{CloseEnd}
-use Rattle.mq_client.specs.declared.held.Asked.{Asked}
 use Rattle.mq_client.specs.declared.held.Asked.TheVariants as asked
-use Rattle.mq_client.specs.declared.held.Held.{Held}
 use Rattle.mq_world.specs.World.{begun}
 use Rattle.mq_world.proofs.Basics.{in_get}
 

@@ -1,29 +1,10 @@
 -- One run against any others.
-use Rattle.std.proofs.Common.{◌≡◌, ℕ, ◌+◌, ◌≤◌, ◌<◌, List, [], ◌∷◌, Bool, true, false, refl, ◌∙◌, ap, sym, subst, inl, inr, arith, Option, None, Some}
-use Rattle.std.specs.Prelude.{length, ◌⊎◌}
-use Rattle.mq_lemmas.proofs.Booleans.{clash}
-use Rattle.mq_lemmas.proofs.Options.{none_some}
-use Rattle.mq_lemmas.proofs.Lists.{In}
-use Rattle.mq_request.specs.Range.{IsHost, IsRun, IsRequest, IsReply}
-use Rattle.mq_frame.specs.Spelling.{request_body, reply_body, frame, request_frame}
-use Rattle.mq_request.specs.declared.message.Id.{Id}
-use Rattle.mq_request.specs.declared.message.Request.{Request}
-use Rattle.mq_request.specs.declared.message.Request.TheVariants.{Reserve, Settle, Release, Limit, Usage, List as ListRequest, Retire}
-use Rattle.mq_request.specs.declared.message.Reply.{Reply}
+use Rattle.mq_world.proofs.Words.{Action, AreUnderway, Ask, Bool, Close, Down, Drain, Entry, Exchange, Faulted, Id, In, IsDecision, IsHost, IsNumbered, IsReply, IsRequest, IsRun, Limit, List, ListRequest, None, NoneReturns, Option, Outcome, Release, RepliesSuit, Reply, Request, Reserve, Retire}
+use Rattle.mq_world.proofs.Words.{Settle, Some, Source, Step, Usage, View, [], answer_by, answer_of, answers_closing, answers_reserve, ap, arith, clash, decides, false, frame, held_by, id_in, id_of, inl, inr, length, moment_of, next, none_some, one_request, refl, refuses, reply_body, request_body}
+use Rattle.mq_world.proofs.Words.{request_frame, reserve_of, subst, sym, tries_in, true, view, ℕ, ◌+◌, ◌<◌, ◌∙◌, ◌∷◌, ◌≡◌, ◌≤◌, ◌⊎◌}
 use Rattle.mq_request.specs.declared.message.Reply.TheVariants as reply
-use Rattle.mq_ledger.specs.declared.entry.Entry.{Entry}
-use Rattle.mq_ledger.specs.Suits.{Suits as RepliesSuit}
-use Rattle.mq_forget.specs.Remembered.{moment_of}
-use Rattle.mq_client.specs.Exchanges.{Exchange, answers_reserve, answers_closing, decides, IsDecision}
 use Rattle.mq_link.specs.Link.{Brings}
-use Rattle.mq_client.specs.Past.{tries_in, Source, Action, Ask, Close, Drain, Step, View, view, answer_of, answer_by, held_by, id_of, reserve_of, refuses}
-use Rattle.mq_client.specs.Turns.{next, AreUnderway}
-use Rattle.mq_client.specs.Numbered.{id_in, IsNumbered, NoneReturns}
 use Rattle.mq_client.specs.declared.held.Asked.TheVariants as asked
-use Rattle.mq_link.specs.declared.link.LinkFault.TheVariants.{Down}
-use Rattle.mq_link.specs.declared.link.Outcome.{Outcome}
-use Rattle.mq_link.specs.declared.link.Outcome.TheVariants.{Faulted}
-use Rattle.mq_client.proofs.Numbering.{one_request}
 use Rattle.mq_world.specs.World.{begun, with_exchange}
 use Rattle.mq_world.proofs.Known.{OfFrames, OfClients}
 use Rattle.mq_world.proofs.Numbers.{IsOwn, numbered_own, begun_numbered, more_numbered, ended_numbered}

@@ -1,25 +1,9 @@
 -- A ledger takes a request.
-use Rattle.std.proofs.Common.{◌≡◌, ℕ, List, [], ◌∷◌, ◌++◌, Bool, true, false, refl, ◌∙◌, ap, sym, subst, inl, inr, Some, if◌then◌else◌}
-use Rattle.std.specs.Prelude.{◌&&◌, ◌⊎◌, nat_le}
-use Rattle.mq_lemmas.proofs.Booleans.{either, clash, first_so, second_so}
-use Rattle.mq_lemmas.proofs.Lists.{In}
-use Rattle.mq_request.specs.Range.{IsRequest, IsReply}
-use Rattle.mq_frame.specs.Spelling.{request_body, reply_body, frame}
-use Rattle.mq_request.specs.declared.message.Id.{Id}
-use Rattle.mq_request.specs.declared.message.Request.{Request}
-use Rattle.mq_request.specs.declared.message.Request.TheVariants.{Reserve, Settle, Release, Limit, Usage, List as ListRequest, Retire}
-use Rattle.mq_request.specs.declared.message.Reply.{Reply}
+use Rattle.mq_world.proofs.Words.{Bool, CloseEnd, Closed, Entry, Held, Id, In, IsNumbered, IsReply, IsRequest, Limit, List, ListRequest, Live, Never, Release, RepliesSuit, Reply, Request, Reserve, Retire, Settle, Some, Source, Standing, Step, Suits, Usage, [], answer, ap, appended, clash, closes}
+use Rattle.mq_world.proofs.Words.{closing_of, counted, either, ended, false, first_so, frame, id_in, id_of, if◌then◌else◌, inl, inr, is_commit, is_of, ledger_id, moment_of, nat_le, refl, reply_body, request_body, reserve_of, same_transaction, second_so, subst, sym, transaction, true, txn_in, view}
+use Rattle.mq_world.proofs.Words.{ℕ, ◌&&◌, ◌++◌, ◌∙◌, ◌∷◌, ◌≡◌, ◌⊎◌}
 use Rattle.mq_request.specs.declared.message.Reply.TheVariants as reply
-use Rattle.mq_ledger.specs.declared.entry.Entry.{Entry}
-use Rattle.mq_ledger.specs.Arrivals.{id_of as ledger_id}
-use Rattle.mq_ledger.specs.History.{Transaction, transaction, same_transaction, is_of, closes, ended, counted}
-use Rattle.mq_ledger.specs.Answer.{answer, appended}
-use Rattle.mq_ledger.specs.Suits.{Suits as RepliesSuit}
-use Rattle.mq_forget.specs.Remembered.{moment_of}
-use Rattle.mq_client.specs.Past.{Source, Step, Standing, Never, Live, Closed, view, id_of, reserve_of, closing_of, is_commit}
-use Rattle.mq_client.specs.Numbered.{id_in, txn_in, IsNumbered, Suits}
-use Rattle.mq_track.specs.declared.closing.CloseEnd.{CloseEnd}
-use Rattle.mq_client.specs.declared.held.Held.{Held}
+use Rattle.mq_ledger.specs.History.{Transaction}
 use Rattle.mq_world.proofs.Basics.{in_push, in_front, in_back, in_either, in_last, any_found}
 use Rattle.mq_world.proofs.Known.{OfFrames, OfClients, OfLedgers}
 use Rattle.mq_world.proofs.Numbers.{IsOwn}

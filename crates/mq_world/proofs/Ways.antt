@@ -1,6 +1,5 @@
 -- Ways on which days may be forgotten.
-use Rattle.std.proofs.Common.{ℕ, List}
-use Rattle.mq_ledger.specs.Legal.{Book}
+use Rattle.mq_world.proofs.Words.{Book, List, ℕ}
 use Rattle.mq_world.specs.World.{Site, World, Reaches, AtOnce, Later}
 use Rattle.mq_world.specs.Forgetting.{ReachesForgetting, Steps}
 use Rattle.mq_world.specs.Together.{Together, ReachesTogether}

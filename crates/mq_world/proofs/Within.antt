@@ -1,32 +1,11 @@
 -- What was let through is held or settled by the ledgers together: of a transaction, and of a login and day.
-use Rattle.std.proofs.Common.{◌≡◌, ℕ, zero, suc, ◌+◌, ◌<◌, ◌≤◌, List, [], ◌∷◌, Bool, true, false, refl, ◌∙◌, ap, sym, subst, inl, inr, arith, Option, None, Some, if◌then◌else◌}
-use Rattle.std.specs.Prelude.{◌&&◌, ◌==◌, ◌⊎◌, nat_le, slice_get, is_some, length, sum_by}
-use Rattle.std.specs.List.{list_any, AllByRecursion}
-use Rattle.std.proofs.lemmas.List.Sums.{sum_by-cons, sum_by-append}
-use Rattle.std.proofs.lemmas.Bool.Decides.{nat_tests}
-use Rattle.mq_lemmas.proofs.Booleans.{either, clash, first_so, second_so, both_so}
-use Rattle.mq_lemmas.proofs.Options.{none_some, some_is, option_cases}
-use Rattle.mq_lemmas.proofs.Numbers.{zero_or_more, number_is}
-use Rattle.mq_lemmas.proofs.Lists.{In}
-use Rattle.mq_request.specs.Same.{same_text}
-use Rattle.mq_request.specs.declared.message.Request.{Request}
-use Rattle.mq_request.specs.declared.message.Request.TheVariants.{Settle, Release}
-use Rattle.mq_request.specs.declared.message.Reply.{Reply}
-use Rattle.mq_ledger.specs.declared.entry.Entry.{Entry}
-use Rattle.mq_ledger.specs.declared.zone.Zone.{Zone}
-use Rattle.mq_ledger.specs.Day.{day_of}
-use Rattle.mq_ledger.specs.History.{Transaction, is_of, closes, granted, counted, counted_in, granted_in, held, settled_in, named}
-use Rattle.mq_ledger.specs.Legal.{Book, IsLegalBook}
-use Rattle.mq_ledger.specs.Sums.{is_for, names_for, held_on, settled_on, AreDistinct}
-use Rattle.mq_client.specs.Exchanges.{Exchange, decisions}
-use Rattle.mq_client.specs.Past.{tries_in, Source, Action, Ask, Close, Drain, Step, Standing, Never, Live, Closed, View, view, after, after_ask, after_close, answer_of, answer_by, let_through, opened, held_by, id_of, reserve_of, closing_of, refuses}
-use Rattle.mq_client.specs.Turns.{failures, next_of, AreUnderway}
-use Rattle.mq_client.specs.Numbered.{is_closed, NoneReturns, Suits}
-use Rattle.mq_track.specs.declared.closing.CloseEnd.{CloseEnd}
+use Rattle.mq_world.proofs.Words.{Action, AllByRecursion, AreDistinct, AreUnderway, Ask, Book, Bool, Close, CloseEnd, Closed, Drain, Entry, Exchange, Held, In, IsLegalBook, List, Live, Never, None, NoneReturns, Option, Release, Reply, Request, Settle, Some, Source, Standing, Step, Suits, View, Zone}
+use Rattle.mq_world.proofs.Words.{[], after, after_ask, after_close, answer_by, answer_of, ap, arith, both_so, clash, closes, closing_of, counted, counted_in, day_of, decisions, either, ended_not, failures, false, first_so, granted, granted_in, held, held_by, held_on, id_of, if◌then◌else◌, inl, inr}
+use Rattle.mq_world.proofs.Words.{is_closed, is_for, is_of, is_some, length, let_through, list_any, named, names_for, nat_le, nat_tests, next_of, none_some, number_is, opened, option_cases, refl, refuses, reserve_of, same_text, second_so, settled_in, settled_on, slice_get, some_is, subst, suc}
+use Rattle.mq_world.proofs.Words.{sum_by, sum_by-append, sum_by-cons, sym, tries_in, true, view, zero, zero_or_more, ℕ, ◌&&◌, ◌+◌, ◌<◌, ◌==◌, ◌∙◌, ◌∷◌, ◌≡◌, ◌≤◌, ◌⊎◌}
+use Rattle.mq_ledger.specs.History.{Transaction}
 use Rattle.mq_track.specs.declared.closing.CloseEnd.TheVariants as ending
 use Rattle.mq_client.specs.declared.held.Asked.TheVariants as asked
-use Rattle.mq_client.specs.declared.held.Held.{Held}
-use Rattle.mq_client.proofs.Numbering.{ended_not}
 use Rattle.mq_world.specs.World.{with_exchange}
 use Rattle.mq_world.specs.Law.{counting, granted_of, let_by, is_on, let_on}
 use Rattle.mq_world.specs.Together.{kept_of, used_of, cap_of}

@@ -1,31 +1,9 @@
 -- Every state of the world.
-use Rattle.std.proofs.Common.{◌≡◌, ℕ, ◌≤◌, List, [], ◌∷◌, ◌++◌, Bool, true, false, refl, ◌∙◌, ap, sym, subst, inl, inr, Option, None, Some, if◌then◌else◌}
-use Rattle.std.specs.Prelude.{◌==◌, ◌||◌, is_some}
-use Rattle.std.specs.List.{AllByRecursion}
-use Rattle.std.proofs.lemmas.List.Elements.{recursion_from_All, All-from_recursion}
-use Rattle.mq_lemmas.proofs.Booleans.{either, clash, first_so, second_so, both_so}
-use Rattle.mq_lemmas.proofs.Options.{none_some}
-use Rattle.mq_lemmas.proofs.Numbers.{number_is, number_itself}
-use Rattle.mq_lemmas.proofs.Lists.{In, all_at, all_push}
-use Rattle.mq_track.specs.Sessions.{begin_count}
-use Rattle.mq_request.specs.Range.{IsRequest, IsReply}
-use Rattle.mq_request.specs.Same.{same_text, same_request}
+use Rattle.mq_world.proofs.Words.{All-from_recursion, AllByRecursion, Book, Bool, Drain, Entry, Id, In, IsLegalBook, IsPlayed, IsReply, IsRequest, List, None, Option, RepliesSuit, Reply, Request, Some, Source, Step, [], actions, actions_of, all_at, all_push, answer, ap, appended, begin_count}
+use Rattle.mq_world.proofs.Words.{both_so, clash, day_of, either, false, first_so, frame, has_id, id_in, id_of, if◌then◌else◌, inl, inr, is_below, is_some, ledger_id, none_some, number_is, number_itself, recursion_from_All, refl, reply_body, reply_by, reply_to, request_body, requests, same_request}
+use Rattle.mq_world.proofs.Words.{same_text, second_so, stored, subst, sym, true, with_arrival_by, ℕ, ◌++◌, ◌==◌, ◌||◌, ◌∙◌, ◌∷◌, ◌≡◌, ◌≤◌}
 use Rattle.mq_request.proofs.Alike.{text_is, text_itself}
-use Rattle.mq_frame.specs.Spelling.{request_body, reply_body, frame}
-use Rattle.mq_request.specs.declared.message.Id.{Id}
-use Rattle.mq_request.specs.declared.message.Request.{Request}
-use Rattle.mq_request.specs.declared.message.Reply.{Reply}
 use Rattle.mq_request.specs.declared.message.Reply.TheVariants as reply
-use Rattle.mq_ledger.specs.declared.entry.Entry.{Entry}
-use Rattle.mq_ledger.specs.Answer.{answer, appended, stored, reply_to, reply_by, with_arrival_by}
-use Rattle.mq_ledger.specs.Arrivals.{has_id, is_below, id_of as ledger_id}
-use Rattle.mq_ledger.specs.Day.{day_of}
-use Rattle.mq_ledger.specs.History.{requests}
-use Rattle.mq_ledger.specs.Legal.{Book, IsLegalBook}
-use Rattle.mq_ledger.specs.Suits.{Suits as RepliesSuit}
-use Rattle.mq_client.specs.Past.{Source, Drain, Step, id_of, IsPlayed}
-use Rattle.mq_client.specs.Numbered.{id_in}
-use Rattle.mq_client.specs.Filter.{actions, actions_of}
 use Rattle.mq_world.specs.World.{Site, Run, World, fresh, same_source, put, book_after}
 use Rattle.mq_world.specs.Law.{earlier}
 use Rattle.mq_world.proofs.Basics.{in_front, in_either, found}

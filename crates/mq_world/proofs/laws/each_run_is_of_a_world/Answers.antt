@@ -1,26 +1,12 @@
 -- One run goes on through worlds, as its contract says.
-use Rattle.std.proofs.Common.{◌≡◌, ℕ, List, [], ◌∷◌, ◌++◌, Bool, true, false, refl, ◌∙◌, ap, sym, subst, inl, inr, Option, None, Some, is_some}
-use Rattle.std.specs.Option.{option_map}
+use Rattle.mq_world.proofs.Words.{Action, AfterReady, Answers, ArePlayed, Asks, BeforeReady, Bool, Closes, Closing, ComeInTurn, ConfigLine, Drain, Ended, EndsWith, Exchange, FilterLine, Filters, Goes, HasText, Holding, IsDecision, IsInHand, IsPlayed, IsUnderway, List, MakesAll, Meaning, None}
+use Rattle.mq_world.proofs.Words.{Option, OtherLine, Outside, Passes, Plays, Query, ReadyLine, Refuses, ReportLine, Request, Some, Source, Stage, State, Step, StopsAt, Takes, [], action_of, ap, asking_of, at_line, close_of, closing, drained, exchanges_in, false, fault, held_back, held_for, inl, inr}
+use Rattle.mq_world.proofs.Words.{is_some, next, next_of, none_some, option_map, push, query, queue_of, refl, request_frame, subst, sym, tries_in, true, view, ℕ, ◌++◌, ◌∙◌, ◌∷◌, ◌≡◌, ◌⊎◌}
 use Rattle.std.proofs.lemmas.List.{append-nil}
-use Rattle.mq_lemmas.proofs.Options.{none_some}
-use Rattle.mq_line.specs.Grammar.{Meaning, ConfigLine, ReadyLine, ReportLine, FilterLine, OtherLine}
 use Rattle.mq_line.specs.declared.results.Decision.{Decision}
-use Rattle.mq_track.specs.Sessions.{fault, closing}
-use Rattle.mq_track.specs.declared.closing.Closing.{Closing}
-use Rattle.mq_request.specs.declared.message.Request.{Request}
-use Rattle.mq_client.specs.Exchanges.{Exchange, IsDecision}
-use Rattle.mq_frame.specs.Spelling.{request_frame}
-use Rattle.mq_client.specs.Past.{tries_in, Source, Action, Drain, Step, drained, State, MakesAll, ArePlayed, IsPlayed, Plays, view, held_for}
-use Rattle.mq_client.specs.Turns.{next, next_of, queue_of, ComeInTurn, IsUnderway}
-use Rattle.mq_client.specs.Numbered.{exchanges_in}
-use Rattle.mq_client.specs.Holding.{Holding, held_back}
 use Rattle.mq_client.specs.declared.spans.Spans.{Spans}
-use Rattle.mq_client.specs.Filter.{at_line, Query, Passes, Refuses, Asks, query, Answers, Closes, Takes, push, Filters, asking_of, close_of, action_of}
-use Rattle.mq_client.specs.Run.{Stage, BeforeReady, AfterReady, HasText, Outside, Goes, IsInHand, EndsWith, StopsAt}
 use Rattle.mq_client.specs.declared.fault.FilterFault.{FilterFault}
 use Rattle.mq_client.specs.declared.fault.FilterFault.TheVariants as faults
-use Rattle.mq_client.specs.declared.filter.Ended.{Ended}
-use Rattle.std.specs.Prelude.{◌⊎◌}
 use Rattle.mq_world.specs.World.{Site, Run, World, fresh, IsUp, ReadsOn, begun, after_line, after_end, next_request, with_on_way, after_exchange, after_stop, MayCome, with_run, with_sent, Next, Reads, ReadsEnd, Sends, Ends, Stops, Reaches, AtOnce, Later}
 use Rattle.mq_world.specs.Running.{ran, step_of, unsent, exchanges_of, OthersGoOn, NobodyYet, OneStep, GoesOnAround, Before, During, IsNew, lines_at, IsOrOneMore}
 use Rattle.mq_world.proofs.Others.{twice, itself, anywhere}

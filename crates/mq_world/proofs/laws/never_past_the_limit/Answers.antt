@@ -1,11 +1,9 @@
 -- Where nothing is forgotten: no day is before day 0.
-use Rattle.std.proofs.Common.{◌≡◌, ℕ, ◌≤◌, arith, ap, inl, inr, Some}
-use Rattle.mq_lemmas.proofs.Options.{option_cases}
+use Rattle.mq_world.proofs.Words.{Held, Some, ap, arith, inl, inr, option_cases, ℕ, ◌≡◌, ◌≤◌}
 use Rattle.mq_ledger.specs.History.{Transaction}
 use Rattle.mq_world.specs.World.{Site, World, Reaches}
 use Rattle.mq_world.specs.Law.{standing_of, counting, granted_of, let_by}
 use Rattle.mq_world.specs.Forgetting.{ReachesForgetting, FromStart}
-use Rattle.mq_client.specs.declared.held.Held.{Held}
 use Rattle.mq_world.proofs.Ways.{with_steps}
 use Rattle.mq_world.proofs.laws.never_past_the_limit.Goals as goal
 

@@ -1,15 +1,9 @@
 -- One server alone.
-use Rattle.std.proofs.Common.{ℕ, ◌≤◌, [], ◌∷◌, arith}
-use Rattle.std.specs.Prelude.{sum_by}
-use Rattle.std.proofs.lemmas.List.Sums.{sum_by-cons}
-use Rattle.mq_lemmas.proofs.Lists.{all_filter}
-use Rattle.mq_ledger.specs.Day.{day_of}
-use Rattle.mq_ledger.specs.Legal.{Book}
+use Rattle.mq_world.proofs.Words.{Book, [], all_filter, arith, day_of, stays, sum_by, sum_by-cons, ℕ, ◌∷◌, ◌≤◌}
 use Rattle.mq_world.specs.World.{Site, World, IsStart, IsOfOthers}
 use Rattle.mq_world.specs.Forgetting.{forgotten, ReachesForgetting, FromStart, Steps, Forgets}
 use Rattle.mq_world.specs.Together.{Together, IsStartTogether, ReachesTogether, kept_of, used_of, cap_of}
 use Rattle.mq_world.specs.Together as servers
-use Rattle.mq_forget.specs.Remembered.{stays}
 use Rattle.mq_world.proofs.Forgetting.{OfForgetting}
 use Rattle.mq_world.proofs.laws.never_past_the_limit_over_a_forgetting.Goals as goal
 

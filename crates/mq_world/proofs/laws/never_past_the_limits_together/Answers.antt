@@ -1,28 +1,8 @@
 -- Every state of the world, step by step, and what follows in each.
-use Rattle.std.proofs.Common.{◌≡◌, ℕ, ◌≤◌, List, [], ◌∷◌, ◌++◌, Bool, true, false, refl, ◌∙◌, ap, sym, subst, inl, inr, arith, Option, None, Some}
-use Rattle.std.specs.Prelude.{slice_get, sum_by}
-use Rattle.std.specs.List.{AllByRecursion}
-use Rattle.std.specs.Option.{option_map}
-use Rattle.mq_lemmas.proofs.Booleans.{either, clash}
-use Rattle.mq_lemmas.proofs.Options.{none_some}
-use Rattle.mq_lemmas.proofs.Lists.{In, all_at}
-use Rattle.mq_line.specs.Grammar.{Meaning}
-use Rattle.mq_track.specs.Sessions.{fault, begin_count}
-use Rattle.mq_request.specs.Range.{IsRequest, IsReply}
-use Rattle.mq_frame.specs.Spelling.{request_body, reply_body, SpellsRequest, frame, request_frame}
-use Rattle.mq_request.specs.declared.message.Request.{Request}
-use Rattle.mq_request.specs.declared.message.Reply.{Reply}
-use Rattle.mq_ledger.specs.declared.entry.Entry.{Entry}
-use Rattle.mq_ledger.specs.Answer.{reply, with_arrival, history_of}
-use Rattle.mq_ledger.specs.Arrivals.{id_of as ledger_id}
-use Rattle.mq_ledger.specs.Day.{day_of}
-use Rattle.mq_ledger.specs.History.{requests, Transaction}
-use Rattle.mq_ledger.specs.Legal.{Book, IsLegalBook}
-use Rattle.mq_ledger.specs.declared.zone.Zone.{Zone}
-use Rattle.mq_client.specs.Exchanges.{Exchange, decides, IsDecision}
-use Rattle.mq_client.specs.Past.{Source, Action, Drain, Step, id_of, Standing, view, IsPlayed}
-use Rattle.mq_client.specs.Numbered.{NoneReturns}
-use Rattle.mq_client.specs.Filter.{push, action_of, actions, actions_of}
+use Rattle.mq_world.proofs.Words.{Action, AllByRecursion, Answered, AreDistinct, AreUnderway, Book, Bool, Drain, Entry, Exchange, Faulted, Held, In, IsDecision, IsLegalBook, IsPlayed, IsReply, IsRequest, List, Meaning, None, NoneReturns, Option, Outcome, Release, Reply, Request, Reserve, Settle}
+use Rattle.mq_world.proofs.Words.{Some, Source, SpellsRequest, Standing, Step, Zone, [], action_of, actions, actions_of, all_at, ap, arith, begin_count, clash, day_of, decides, either, false, fault, frame, history_of, id_of, inl, inr, ledger_id, none_some, option_map, push, refl, reply, reply_body}
+use Rattle.mq_world.proofs.Words.{request_body, request_frame, requests, slice_get, standing_in, subst, sum_by, sym, true, view, with_arrival, ℕ, ◌++◌, ◌∙◌, ◌∷◌, ◌≡◌, ◌≤◌}
+use Rattle.mq_ledger.specs.History.{Transaction}
 use Rattle.mq_world.specs.World.{Site, Run, World, fresh, IsOfOthers, IsFrameOfOthers, IsReplyToOthers, IsStart, IsUp, ReadsOn, begun, after_line, after_end, next_request, with_on_way, with_exchange, after_exchange, after_stop, MayCome, same_source, with_run, with_sent, after_arrival, Next, Reads, ReadsEnd, Sends, Ends, Takes, OthersSend, Stops}
 use Rattle.mq_world.specs.Forgetting.{forgotten}
 use Rattle.mq_world.specs.Together.{Together, with_ledger, IsStartTogether, ReachesTogether, FromStart, Steps, Moves, Forgets, kept_of, used_of, cap_of}
@@ -33,20 +13,12 @@ use Rattle.mq_world.proofs.Numbers.{IsOwn, same_own}
 use Rattle.mq_world.proofs.Lines.{counted, line_asks, push_actions}
 use Rattle.mq_world.proofs.Runs.{Holds, AllSuit, failing, so_far, begins, sends_on, sends_own, ends_on, others_send, Comes, holds_in}
 use Rattle.mq_world.proofs.Takes.{entry_suits}
-use Rattle.mq_request.specs.declared.message.Request.TheVariants.{Settle, Release}
-use Rattle.mq_ledger.specs.Sums.{AreDistinct}
-use Rattle.mq_client.specs.Reading.{standing_in}
-use Rattle.mq_client.specs.Turns.{AreUnderway}
 use Rattle.mq_world.specs.Law.{run_of, standing_of, counting, let_by, is_on, let_on, let_together, earlier, actions_in, IsPastOf}
-use Rattle.mq_client.specs.declared.held.Held.{Held}
 use Rattle.mq_world.proofs.Grounds.{at_of, was_granted}
 use Rattle.mq_world.proofs.Forgetting.{OfForgetting, forgets_on}
 use Rattle.mq_world.proofs.Worlds.{IsRead, IsSound, all_suit, both_suit, same_itself, put_sound, takes_any, legal_after}
 use Rattle.mq_world.proofs.Within.{standing_each, kept_on, on_all, sums_on, within_all, let_if, let_from, on_at, counts_at, counts_so_far}
 use Rattle.mq_request.specs.declared.message.Reply.TheVariants as reply
-use Rattle.mq_request.specs.declared.message.Request.TheVariants.{Reserve, Settle, Release}
-use Rattle.mq_link.specs.declared.link.Outcome.{Outcome}
-use Rattle.mq_link.specs.declared.link.Outcome.TheVariants.{Answered, Faulted}
 use Rattle.mq_world.proofs.laws.never_past_the_limits_together.Goals as goal
 
 -- ---- the start

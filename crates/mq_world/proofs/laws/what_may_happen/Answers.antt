@@ -1,49 +1,20 @@
 -- A world of two runs, step by step.
-use Rattle.std.proofs.Common.{◌≡◌, ℕ, is_eq, Less, Greater, ◌∙◌, ◌≤◌, List, [], ◌∷◌, ◌++◌, Bool, true, false, refl, ap, sym, subst, inl, inr, arith, None, Some, if◌then◌else◌}
-use Rattle.std.specs.List.{AllByRecursion, list_all}
-use Rattle.std.specs.Prelude.{codes, length, not, ◌≢◌, nat_lt, nat_le, ◌||◌, count_by, slice_get, ◌<◌, ◌+◌, ◌*◌, ◌==◌, ℤ, pos, ◌≤ℤ◌, ◌<ℤ◌}
+use Rattle.mq_world.proofs.Words.{All-from_recursion, AllByRecursion, Answered, AreTries, Ask, Book, Bool, ByOffset, Close, Drain, Ended, EndsWith, Entry, Exchange, FilterLine, Filters, Greater, Held, Id, IsCount, IsHost, IsHostByte, IsId, IsLegalBook, IsMoment, IsOffset, IsOrdinal, IsPlayed}
+use Rattle.mq_world.proofs.Words.{IsRead, IsReady, IsReply, IsRequest, IsRun, IsStamp, IsTry, IsZone, Less, List, MakesAll, Meaning, None, NoneYet, Outside, Reply, ReportLine, Request, Retire, SendsAll, SendsUpTo, Settle, Some, Source, SpellsReply, State, Step, TimedOut, [], ap, arith, cap, clash}
+use Rattle.mq_world.proofs.Words.{clock, codes, count_by, day_of, decides, drained, either, either_of, exchanges_in, false, fault, first_so, floor, frame, held, id_in, id_of, if◌then◌else◌, inl, inr, is_eq, ledger_reply, length, list_all, nat_le, nat_lt, nat_tests, ne_eqb, not, nothing_held}
+use Rattle.mq_world.proofs.Words.{number_is, number_itself, pos, refl, reply_body, request_body, request_frame, requests, reserve_of, same_text, second_so, settled_in, slice_get, some_is, subst, sym, told_steps, true, ℕ, ℤ, ◌*◌, ◌++◌, ◌+◌, ◌<ℤ◌, ◌<◌, ◌==◌, ◌||◌, ◌∙◌, ◌∷◌, ◌≡◌, ◌≢◌, ◌≤ℤ◌, ◌≤◌}
 use Rattle.std.proofs.lemmas.Int.{ints}
-use Rattle.mq_lemmas.proofs.Booleans.{either_of, either, clash, first_so, second_so}
-use Rattle.mq_lemmas.proofs.Options.{some_is}
-use Rattle.mq_lemmas.proofs.Numbers.{number_is, number_itself}
-use Rattle.mq_request.specs.Same.{same_text}
-use Rattle.std.proofs.lemmas.Bool.Decides.{nat_tests}
-use Rattle.std.proofs.lemmas.List.Elements.{All-from_recursion}
-use Rattle.mq_line.specs.Grammar.{Meaning, ReportLine, FilterLine, IsStamp, Reads as IsRead}
 use Rattle.mq_line.specs.Results.{registration, result_text}
 use Rattle.mq_line.specs.Text.{IsLine, text_of}
 use Rattle.mq_line.specs.declared.results.Decision.TheVariants.{Proceed}
-use Rattle.mq_track.specs.Sessions.{fault}
-use Rattle.mq_request.specs.Range.{IsHost, IsHostByte, IsRun, IsOrdinal, IsCount, IsId, IsMoment, IsRequest, IsReply}
-use Rattle.mq_frame.specs.Spelling.{request_body, reply_body, SpellsReply, frame, request_frame}
-use Rattle.mq_request.specs.declared.message.Id.{Id}
-use Rattle.mq_request.specs.declared.message.Request.{Request}
-use Rattle.mq_request.specs.declared.message.Request.TheVariants.{Settle, Retire}
-use Rattle.mq_request.specs.declared.message.Reply.{Reply}
 use Rattle.mq_request.specs.declared.message.Reply.TheVariants.{Granted, Full, Old, Retired, Settled, TooMany}
-use Rattle.mq_ledger.specs.Arrivals.{floor}
-use Rattle.mq_ledger.specs.declared.entry.Entry.{Entry}
-use Rattle.mq_ledger.specs.Answer.{reply as ledger_reply}
-use Rattle.mq_ledger.specs.Day.{IsZone, IsOffset, ByOffset, clock, day_of}
-use Rattle.mq_ledger.specs.History.{Transaction, requests, held, settled_in}
-use Rattle.mq_ledger.specs.Legal.{Book, IsLegalBook}
+use Rattle.mq_ledger.specs.History.{Transaction}
 use Rattle.mq_client.proofs.Making as making
 use Rattle.mq_client.proofs.Looping.{makes_none, makes_push}
-use Rattle.std.proofs.lemmas.Bool.{ne_eqb}
-use Rattle.mq_client.specs.Exchanges.{Exchange, IsTry, AreTries, decides, NoneYet, SendsAll, SendsUpTo}
-use Rattle.mq_client.specs.Past.{Source, Step, Ask, Close, Drain, State, MakesAll, IsPlayed, drained, find, id_of, reserve_of, told_steps}
-use Rattle.mq_client.specs.Filter.{Filters}
-use Rattle.mq_client.specs.Holding.{nothing_held}
-use Rattle.mq_client.specs.Run.{Outside, IsReady, EndsWith}
-use Rattle.mq_client.specs.declared.filter.Ended.{Ended}
-use Rattle.mq_client.specs.declared.held.Held.{Held}
-use Rattle.mq_client.specs.Numbered.{id_in, exchanges_in}
+use Rattle.mq_client.specs.Past.{find}
 use Rattle.mq_track.specs.declared.closing.CloseEnd.TheVariants as ending
-use Rattle.mq_link.specs.declared.link.LinkFault.TheVariants.{TimedOut}
-use Rattle.mq_link.specs.declared.link.Outcome.TheVariants.{Answered}
 use Rattle.mq_world.specs.World.{Site, World, fresh, MayCome, next_request, IsStart, after_line, after_end, with_on_way, after_exchange, after_stop, same_source, with_run, with_sent, after_arrival, reply_from, Next, Reads, ReadsEnd, Sends, Ends, Takes, OthersSend, Stops, Reaches, AtOnce, Later, IsOfOthers, IsFrameOfOthers, source_of}
 use Rattle.mq_world.specs.Happening.{unused, times_written, IsReachable, failed, brought, HasLetOneThrough, WasAnsweredAgain, WasTakenTwice, CameLate, HasStopped, HasRunToItsEnd, WasRetired, WasHeldBack, WentOnThoughForgotten, PassedOnAForgottenDay, IsReachableTogether, WasGrantedByEach, WasSplit, PassedEachLimit}
-use Rattle.mq_ledger.specs.Limits.{cap}
 use Rattle.mq_world.specs.Law.{let_together}
 use Rattle.mq_world.specs.Running.{ran, OthersGoOn, NobodyYet, OneStep, GoesOnAround, Before, During, IsNew}
 use Rattle.mq_world.specs.Forgetting.{forgotten, ReachesForgetting, FromStart, Forgets}
