@@ -1,5 +1,5 @@
 -- What holds of a run holds once days before F are forgotten.
-use Rattle.mq_world.proofs.Words.{Bool, Entry, Id, In, IsLegal, Limit, List, ListRequest, Release, RepliesSuit, Reply, Request, Reserve, Retire, Settle, Source, Step, Usage, [], ap, arith, clash, day_named, decides, either, false, filter, id_of, in_filter, inl, inr, is_about, is_of, is_set}
+use Rattle.mq_world.proofs.Words.{Bool, Entry, Id, In, IsLegal, List, Release, RepliesSuit, Reply, Request, Reserve, Settle, Source, Step, [], ap, arith, clash, day_named, decides, either, false, filter, id_of, in_filter, inl, inr, is_about, is_of, is_set}
 use Rattle.mq_world.proofs.Words.{moment_of, named, nat_le, nat_tests, neither_first, option_cases, refl, remembered, same_transaction, some_is, stays, subst, sym, transaction, true, ℕ, ◌++◌, ◌∙◌, ◌∷◌, ◌≡◌, ◌≤◌, ◌⊎◌}
 use Rattle.mq_request.specs.declared.message.Reply.TheVariants as reply
 use Rattle.mq_ledger.specs.History.{Transaction}
@@ -36,10 +36,7 @@ about_own : OfLedgers → (day : ℕ → ℕ) (D : ℕ) (H : List Entry) (t : Tr
 about_own L day D H t (Reserve id txn moment login count) mine same = ap (nat_le D) (ap (λ u. day_named day moment (named H u)) (sym (L.same t (transaction id txn) mine)) ∙ own_day day H t moment same)
 about_own L day D H t (Settle id txn moment login count) mine same = ap (nat_le D) (ap (λ u. day_named day moment (named H u)) (sym (L.same t (transaction id txn) mine)) ∙ own_day day H t moment same)
 about_own L day D H t (Release id txn moment login) mine same = ap (nat_le D) (ap (λ u. day_named day moment (named H u)) (sym (L.same t (transaction id txn) mine)) ∙ own_day day H t moment same)
-about_own L day D H t (Limit id from c login) mine same = absurd (clash false mine refl)
-about_own L day D H t (Usage login d) mine same = absurd (clash false mine refl)
-about_own L day D H t (ListRequest d after) mine same = absurd (clash false mine refl)
-about_own L day D H t (Retire id) mine same = absurd (clash false mine refl)
+about_own L day D H t r mine same = absurd (clash false mine refl)
 
 -- H is the history of the ledger that forgets, and G has the entries of the others
 entry_about : {day : ℕ → ℕ} {F : ℕ} → OfClients → OfLedgers → (D : ℕ) (s : Source) (tries : ℕ) (P : List Step) (H G : List Entry) (sent written : List (List ℕ)) → Holds day F s tries P (H ++ G) sent written → (t : ℕ) (e : Entry) → In e H → is_of (of_source s t) e.request ≡ true
@@ -61,12 +58,7 @@ reserve_is_of L s n id txn e = let S : Id → Type 0 = λ i. same_transaction (o
 -- an entry of the run that was granted is of a transaction
 granted_of_run : OfLedgers → (s : Source) (r : Request) (a : Reply) → IsOwn s r → RepliesSuit r a → is_grant a ≡ true → IsOfRun s r
 granted_of_run L s (Reserve id txn moment login count) a own suits g = record { txn = txn; is = reserve_is_of L s own.number id txn (some_is id (id_of s own.number) own.id) }
-granted_of_run L s (Settle id txn moment login count) (reply.Granted j u) own suits g = absurd suits
-granted_of_run L s (Release id txn moment login) (reply.Granted j u) own suits g = absurd suits
-granted_of_run L s (Limit id from c login) (reply.Granted j u) own suits g = absurd suits
-granted_of_run L s (Usage login d) (reply.Granted j u) own suits g = absurd suits
-granted_of_run L s (ListRequest d after) (reply.Granted j u) own suits g = absurd suits
-granted_of_run L s (Retire id) (reply.Granted j u) own suits g = absurd suits
+granted_of_run L s r (reply.Granted j u) own suits g = absurd suits
 granted_of_run L s r a own suits g = absurd (clash false g refl)
 
 -- ---- the run after a forgetting

@@ -90,14 +90,12 @@ abbrev pub AllLet : (day : ℕ → ℕ) → (F : ℕ) → Source → List Entry 
 AllLet day F s H v = (t : ℕ) → F ≤ day (at_of (v.standing t)) → let_at (v.standing t) ≤ upto H (of_source s t) v.numbers
 
 opened_let : (day : ℕ → ℕ) (F moment : ℕ) (login : List ℕ) (st : Standing) (n : ℕ) → (opened moment login (held_by st)).moment ≡ moment → F ≤ day moment → (F ≤ day (at_of st) → let_at st ≤ n) → (opened moment login (held_by st)).granted ≤ n
-opened_let day F moment login Never n same f all = omega arith
 opened_let day F moment login (Live h) n same f all = all (subst (λ x. F ≤ day x) (sym same) f)
-opened_let day F moment login (Closed end number h) n same f all = omega arith
+opened_let day F moment login st n same f all = omega arith
 
 let_here : IsSameAsItself → (s : Source) (H : List Entry) (n txn moment : ℕ) (login : List ℕ) (a : Asked) (h : Held) → (a ≡ asked.Granted → GrantedIn s H n txn moment login) → h.granted ≤ upto H (of_source s txn) n → (let_through a h).granted ≤ upto H (of_source s txn) (n + 1)
 let_here I s H n txn moment login asked.Granted h ground le = (let m = upto_grows I s H n txn moment login (ground refl) in omega (arith, le, m))
-let_here I s H n txn moment login asked.Full h ground le = (let m = upto_more H (of_source s txn) n in omega (arith, le, m))
-let_here I s H n txn moment login asked.Unavailable h ground le = (let m = upto_more H (of_source s txn) n in omega (arith, le, m))
+let_here I s H n txn moment login a h ground le = (let m = upto_more H (of_source s txn) n in omega (arith, le, m))
 
 -- an ask that isn't refused is of the moment of its transaction
 opened_at : (moment : ℕ) (login : List ℕ) (o : Option Held) (live numbers waiting : ℕ) → refuses o live numbers waiting moment login ≡ false → (opened moment login o).moment ≡ moment
@@ -121,9 +119,8 @@ let_ask day F I s H v txn moment login x g same_at ground all = λ t. elim (eith
 ]
 
 held_let : (st : Standing) (h : Held) → held_by st ≡ Some h → (let_at st ≡ h.granted) × (at_of st ≡ h.moment)
-held_let Never h e = absurd (none_some h e)
 held_let (Live k) h e = (ap (λ (x : Held). x.granted) (some_is k h e), ap (λ (x : Held). x.moment) (some_is k h e))
-held_let (Closed end number k) h e = absurd (none_some h e)
+held_let st h e = absurd (none_some h e)
 
 let_close : (day : ℕ → ℕ) (F : ℕ) (s : Source) (H : List Entry) (v : View) (txn : ℕ) (end : CloseEnd) (g : List Exchange) (o : Option Held) → held_by (v.standing txn) ≡ o → AllLet day F s H v → AllLet day F s H (after_close s txn end g v o)
 let_close day F s H v txn end g None e all = all
@@ -162,8 +159,7 @@ was_granted day F I s tries H P u ground t f = let a = all_let day F I s tries H
 
 ground_one : (day : ℕ → ℕ) (F : ℕ) (s : Source) (H K : List Entry) (v : View) (a : Action) (g : List Exchange) → ((txn moment : ℕ) (login : List ℕ) → F ≤ day moment → GrantedIn s H v.numbers txn moment login → GrantedIn s K v.numbers txn moment login) → IsGround day F s H v a g → IsGround day F s K v a g
 ground_one day F s H K v (Ask txn moment login) g stays h = λ o f. stays txn moment login f (h o f)
-ground_one day F s H K v (Close txn end) g stays h = tt
-ground_one day F s H K v Drain g stays h = tt
+ground_one day F s H K v a g stays h = tt
 
 -- in another history that has it still
 pub ground_kept : (day : ℕ → ℕ) (F : ℕ) (s : Source) (H K : List Entry) → ((n txn moment : ℕ) (login : List ℕ) → F ≤ day moment → GrantedIn s H n txn moment login → GrantedIn s K n txn moment login) → (P : List Step) → IsGrounded day F s H P → IsGrounded day F s K P

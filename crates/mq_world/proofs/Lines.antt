@@ -1,5 +1,5 @@
 -- What the lines that a run read have it ask for is in range.
-use Rattle.mq_world.proofs.Words.{Action, AreNumbered, Ask, Asks, Bool, Closing, ConfigLine, FilterLine, IsLogin, IsMoment, IsOrdinal, List, Meaning, None, Option, OtherLine, Passes, Position, ReadyLine, Refuses, ReportLine, Some, Step, action_of, actions, arith, asking_of, begin_count, close_of}
+use Rattle.mq_world.proofs.Words.{Action, AreNumbered, Ask, Asks, Bool, Closing, FilterLine, IsLogin, IsMoment, IsOrdinal, List, Meaning, None, Option, Passes, Position, Refuses, Some, Step, action_of, actions, arith, asking_of, begin_count, close_of}
 use Rattle.mq_world.proofs.Words.{closing, false, fault, first_so, if◌then◌else◌, is_begin, is_exhausted, is_login, is_moment, length, login, nat_le, nat_tests, none_some, open_transaction, option_map, option_or, position, position_of, push, query_at, refl, second_so, some_is, subst, sym, true, ℕ}
 use Rattle.mq_world.proofs.Words.{◌&&◌, ◌+◌, ◌∷◌, ◌≡◌, ◌≤◌}
 use Rattle.mq_track.specs.Events.{event, unreadable}
@@ -57,10 +57,7 @@ numbered N L session le u e = let n = N L session u e in record { from = (let a 
 pub line_asks : AreNumbered → (L : List Meaning) (line : Meaning) (a : Action) → begin_count L ≤ 4294967295 → action_of L line ≡ Some a → IsAsked a
 line_asks N L (FilterLine seconds subsystem phase session token rest) a le e =
     asked_if _ (position L session) a (asked_by (login L session) (open_transaction L session) a (numbered N L session le)) e
-line_asks N L (ConfigLine key value) a le e = closed_by (closing L (ConfigLine key value)) a e
-line_asks N L ReadyLine a le e = closed_by (closing L ReadyLine) a e
-line_asks N L (ReportLine seconds subsystem name session params) a le e = closed_by (closing L (ReportLine seconds subsystem name session params)) a e
-line_asks N L OtherLine a le e = closed_by (closing L OtherLine) a e
+line_asks N L line a le e = closed_by (closing L line) a e
 
 -- ---- the steps' actions
 

@@ -1,5 +1,5 @@
 -- The numbers of a run: an exchange more, or one that ends otherwise, takes no request away.
-use Rattle.mq_world.proofs.Words.{Action, Ask, Bool, Close, Drain, Exchange, IsNumbered, List, Request, Some, Source, Step, [], ap, arith, false, id_in, id_of, more_numbers, ne_eqb, numbers_in, request_under, some_is, sym, takes_number, ℕ, ◌+◌, ◌==◌, ◌∙◌, ◌∷◌, ◌≡◌, ◌≤◌}
+use Rattle.mq_world.proofs.Words.{Action, Ask, Bool, Exchange, IsNumbered, List, Request, Some, Source, Step, [], ap, arith, false, id_in, id_of, more_numbers, ne_eqb, numbers_in, request_under, some_is, sym, takes_number, ℕ, ◌+◌, ◌==◌, ◌∙◌, ◌∷◌, ◌≡◌, ◌≤◌}
 use Rattle.mq_world.specs.World.{source_of, begun}
 
 -- the request has a number of the source
@@ -34,11 +34,9 @@ more_numbered s (Ask txn moment login) x [] k P q i = record {
       rw other old);
 }
 more_numbered s (Ask txn moment login) x (y ∷ g) k P q i = record { number = i.number; used = i.used; id = i.id; under = i.under }
-more_numbered s (Close txn end) x g k P q i = record { number = i.number; used = i.used; id = i.id; under = i.under }
-more_numbered s Drain x g k P q i = record { number = i.number; used = i.used; id = i.id; under = i.under }
+more_numbered s a x g k P q i = record { number = i.number; used = i.used; id = i.id; under = i.under }
 
 -- an exchange ends otherwise
 pub ended_numbered : (s : Source) (a : Action) (x y : Exchange) (g : List Exchange) (k : Bool) (P : List Step) (q : Request) → IsNumbered s (record { action = a; group = x ∷ g; quiet = k } ∷ P) q → IsNumbered s (record { action = a; group = y ∷ g; quiet = k } ∷ P) q
 ended_numbered s (Ask txn moment login) x y g k P q i = record { number = i.number; used = i.used; id = i.id; under = i.under }
-ended_numbered s (Close txn end) x y g k P q i = record { number = i.number; used = i.used; id = i.id; under = i.under }
-ended_numbered s Drain x y g k P q i = record { number = i.number; used = i.used; id = i.id; under = i.under }
+ended_numbered s a x y g k P q i = record { number = i.number; used = i.used; id = i.id; under = i.under }

@@ -1,7 +1,7 @@
 -- What a run sends is in range, where its asks are.
 use Rattle.mq_world.proofs.Words.{Action, AllByRecursion, AreUnderway, Ask, Asked, Bool, Close, CloseEnd, Closed, ComeInTurn, Drain, Exchange, Held, In, IsBounded, IsHost, IsId, IsLogin, IsMoment, IsOrdinal, IsRequest, IsRun, List, Live, Never, None, Option, Release, Request, Settle, Some, Source}
 use Rattle.mq_world.proofs.Words.{Standing, Step, View, [], after, after_ask, after_close, all_at, all_drop, all_push, answer_of, ap, arith, closing_of, decisions, either, failures, false, held_by, held_for, id_of, if◌then◌else◌, inl, inr, is_commit, is_other, lacks_numbers, length, let_through}
-use Rattle.mq_world.proofs.Words.{nat_le, nat_tests, neither_first, neither_second, next, next_of, none_some, number_is, opened, queue_of, refl, refuses, reserve_of, slice_get, some_is, subst, tries_in, true, view, ℕ, ◌&&◌, ◌+◌, ◌<◌, ◌==◌, ◌∷◌, ◌≡◌, ◌≤◌}
+use Rattle.mq_world.proofs.Words.{nat_le, nat_tests, neither_first, neither_second, next, next_of, none_some, number_is, opened, queue_of, refl, refuses, reserve_of, slice_get, some_is, subst, tries_in, true, view, ℕ, ◌&&◌, ◌+◌, ◌<◌, ◌==◌, ◌∷◌, ◌≡◌}
 use Rattle.mq_client.specs.Held.{IsHeld}
 use Rattle.mq_client.specs.declared.held.Asked.TheVariants as asked
 use Rattle.mq_world.specs.World.{begun}
@@ -30,10 +30,6 @@ pub next_among : (tries : ℕ) (queue : List Request) (g : List Exchange) (q : R
 next_among tries queue g q e = in_get queue (decisions g) q (unless (nat_le tries (failures g)) (slice_get queue (decisions g)) q e)
 
 -- an ask that has a next exchange isn't refused, and that exchange is of its reserve
-pub record IsFree (o : Option Held) (live numbers waiting moment : ℕ) (login : List ℕ) (r q : Request) : Type 0 where
-  pub free : refuses o live numbers waiting moment login ≡ false
-  pub is : r ≡ q
-
 pub free_ask : (b : Bool) (r q : Request) → In q (if b then [] else r ∷ []) → (b ≡ false) × (r ≡ q)
 free_ask true r q i = absurd i
 free_ask false r q (inl e) = (refl, e)
@@ -54,23 +50,16 @@ closing_in_range s n txn end h host run less i = by_kind (is_commit end) (nat_le
 
 -- ---- steps
 
-let_granted : (a : Asked) (h : Held) → (let_through a h).granted ≤ h.granted + 1
-let_granted asked.Granted h = omega arith
-let_granted asked.Full h = omega arith
-let_granted asked.Unavailable h = omega arith
-
 let_held : (txn : ℕ) (a : Asked) (h : Held) → IsOrdinal txn → IsMoment h.moment → IsLogin h.login → h.granted < 1000 → IsHeld txn (let_through a h)
 let_held txn asked.Granted h t m l g = record { number = t; moment = m; login = l; granted = omega (arith, g) }
-let_held txn asked.Full h t m l g = record { number = t; moment = m; login = l; granted = omega (arith, g) }
-let_held txn asked.Unavailable h t m l g = record { number = t; moment = m; login = l; granted = omega (arith, g) }
+let_held txn a h t m l g = record { number = t; moment = m; login = l; granted = omega (arith, g) }
 
 live_is : (h k : Held) → Live h ≡ Live k → h ≡ k
 live_is h k e = cc
 
 held_by_live : (st : Standing) (h : Held) → held_by st ≡ Some h → st ≡ Live h
-held_by_live Never h e = absurd (none_some h e)
 held_by_live (Live k) h e = ap Live (some_is k h e)
-held_by_live (Closed end number k) h e = absurd (none_some h e)
+held_by_live st h e = absurd (none_some h e)
 
 asked_held : (txn moment : ℕ) (login : List ℕ) (answer : Asked) (o : Option Held) (live numbers waiting : ℕ) → IsOrdinal txn × IsMoment moment × IsLogin login → ((h : Held) → o ≡ Some h → IsHeld txn h) → refuses o live numbers waiting moment login ≡ false → IsHeld txn (let_through answer (opened moment login o))
 asked_held txn moment login answer None live numbers waiting i held free = let_held txn answer (opened moment login None) i.0 i.1 i.2 (omega arith)

@@ -1,5 +1,5 @@
 -- One run against any others.
-use Rattle.mq_world.proofs.Words.{Action, AreUnderway, Ask, Bool, Close, Down, Drain, Entry, Exchange, Faulted, Id, In, IsDecision, IsHost, IsNumbered, IsReply, IsRequest, IsRun, Limit, List, ListRequest, None, NoneReturns, Option, Outcome, Release, RepliesSuit, Reply, Request, Reserve, Retire}
+use Rattle.mq_world.proofs.Words.{Action, AreUnderway, Ask, Bool, Down, Entry, Exchange, Faulted, Id, In, IsDecision, IsHost, IsNumbered, IsReply, IsRequest, IsRun, Limit, List, ListRequest, None, NoneReturns, Option, Outcome, Release, RepliesSuit, Reply, Request, Reserve, Retire}
 use Rattle.mq_world.proofs.Words.{Settle, Some, Source, Step, Usage, View, [], answer_by, answer_of, answers_closing, answers_reserve, ap, arith, clash, decides, false, frame, held_by, id_in, id_of, inl, inr, length, moment_of, next, none_some, one_request, refl, refuses, reply_body, request_body}
 use Rattle.mq_world.proofs.Words.{request_frame, reserve_of, subst, sym, tries_in, true, view, ℕ, ◌+◌, ◌<◌, ◌∙◌, ◌∷◌, ◌≡◌, ◌≤◌, ◌⊎◌}
 use Rattle.mq_request.specs.declared.message.Reply.TheVariants as reply
@@ -146,8 +146,7 @@ unavailable_not e = cc
 
 no_ground : (day : ℕ → ℕ) (F : ℕ) (s : Source) (H : List Entry) (v : View) (a : Action) (g : List Exchange) → answer_of g ≡ asked.Unavailable → IsGround day F s H v a g
 no_ground day F s H v (Ask txn moment login) g z = λ o f. absurd (unavailable_not (sym z ∙ o))
-no_ground day F s H v (Close txn end) g z = tt
-no_ground day F s H v Drain g z = tt
+no_ground day F s H v a g z = tt
 
 -- what was written was granted or is forgotten, also of a past in which each request has its number still
 wrote_on : {day : ℕ → ℕ} {F : ℕ} → (s : Source) (P Q : List Step) (H : List Entry) (a : Reply) (q : Request) → ((r : Request) → IsNumbered s P r → IsNumbered s Q r) → Wrote H a ⊎ IsForgotten day F s P q → Wrote H a ⊎ IsForgotten day F s Q q
@@ -250,8 +249,7 @@ heard {day = day} {F = since} F C s tries P H sent written txn moment login g qu
 heard_ground : {day : ℕ → ℕ} {F : ℕ} → OfFrames → OfClients → (s : Source) (tries : ℕ) (P : List Step) (H : List Entry) (sent written : List (List ℕ)) (a : Action) (g : List Exchange) (quiet : Bool) (x : Exchange)
     → AllSuit H → Holds day F s tries (step a quiet (failing x.request ∷ g) ∷ P) H sent written → Comes written x.request x.outcome → IsDecision x.request x.outcome x.decided → IsGround day F s H (view s P) a (x ∷ g)
 heard_ground F C s tries P H sent written (Ask txn moment login) g quiet x suits h may dec = λ e on. heard F C s tries P H sent written txn moment login g quiet x suits h may dec e on
-heard_ground F C s tries P H sent written (Close txn end) g quiet x suits h may dec = tt
-heard_ground F C s tries P H sent written Drain g quiet x suits h may dec = tt
+heard_ground F C s tries P H sent written a g quiet x suits h may dec = tt
 
 pub ends_on : {day : ℕ → ℕ} {F : ℕ} → OfFrames → OfClients → (s : Source) (tries : ℕ) (P : List Step) (H : List Entry) (sent written : List (List ℕ)) (a : Action) (g : List Exchange) (quiet : Bool) (x : Exchange)
     → AllSuit H → Holds day F s tries (step a quiet (failing x.request ∷ g) ∷ P) H sent written → Comes written x.request x.outcome → IsDecision x.request x.outcome x.decided → Holds day F s tries (step a quiet (x ∷ g) ∷ P) H sent written

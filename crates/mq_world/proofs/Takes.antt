@@ -1,5 +1,5 @@
 -- A ledger takes a request.
-use Rattle.mq_world.proofs.Words.{Bool, CloseEnd, Closed, Entry, Held, Id, In, IsNumbered, IsReply, IsRequest, Limit, List, ListRequest, Live, Never, Release, RepliesSuit, Reply, Request, Reserve, Retire, Settle, Some, Source, Standing, Step, Suits, Usage, [], answer, ap, appended, clash, closes}
+use Rattle.mq_world.proofs.Words.{Bool, CloseEnd, Closed, Entry, Held, Id, In, IsNumbered, IsReply, IsRequest, List, Live, Never, Release, RepliesSuit, Reply, Request, Reserve, Settle, Some, Source, Standing, Step, Suits, [], answer, ap, appended, clash, closes}
 use Rattle.mq_world.proofs.Words.{closing_of, counted, either, ended, false, first_so, frame, id_in, id_of, if◌then◌else◌, inl, inr, is_commit, is_of, ledger_id, moment_of, nat_le, refl, reply_body, request_body, reserve_of, same_transaction, second_so, subst, sym, transaction, true, txn_in, view}
 use Rattle.mq_world.proofs.Words.{ℕ, ◌&&◌, ◌++◌, ◌∙◌, ◌∷◌, ◌≡◌, ◌⊎◌}
 use Rattle.mq_request.specs.declared.message.Reply.TheVariants as reply
@@ -30,10 +30,7 @@ pub of_source_own : OfLedgers → (s : Source) (t : ℕ) (r : Request) → is_of
 of_source_own L s t (Reserve id txn moment login count) mine = let o = of_own L s t id txn mine in (record { number = id.number; id = ap Some o.0 }, ap Some o.1)
 of_source_own L s t (Settle id txn moment login count) mine = let o = of_own L s t id txn mine in (record { number = id.number; id = ap Some o.0 }, ap Some o.1)
 of_source_own L s t (Release id txn moment login) mine = let o = of_own L s t id txn mine in (record { number = id.number; id = ap Some o.0 }, ap Some o.1)
-of_source_own L s t (Limit id from c login) mine = absurd (clash false mine refl)
-of_source_own L s t (Usage login day) mine = absurd (clash false mine refl)
-of_source_own L s t (ListRequest day after) mine = absurd (clash false mine refl)
-of_source_own L s t (Retire id) mine = absurd (clash false mine refl)
+of_source_own L s t r mine = absurd (clash false mine refl)
 
 -- a number under which a request suits its transaction
 pub record SuitsUnder (s : Source) (t : ℕ) (st : Standing) (q : Request) : Type 0 where
@@ -85,16 +82,8 @@ closes_closing : (r : Request) (a : Reply) → RepliesSuit r a → closes a ≡ 
 unfolding is_closing
 closes_closing (Settle id txn moment login count) a h c = refl
 closes_closing (Release id txn moment login) a h c = refl
-closes_closing (Reserve id txn moment login count) (reply.Settled i n) h c = absurd h
-closes_closing (Reserve id txn moment login count) (reply.Released i n) h c = absurd h
-closes_closing (Limit id from k login) (reply.Settled i n) h c = absurd h
-closes_closing (Limit id from k login) (reply.Released i n) h c = absurd h
-closes_closing (Usage login day) (reply.Settled i n) h c = absurd h
-closes_closing (Usage login day) (reply.Released i n) h c = absurd h
-closes_closing (ListRequest day after) (reply.Settled i n) h c = absurd h
-closes_closing (ListRequest day after) (reply.Released i n) h c = absurd h
-closes_closing (Retire id) (reply.Settled i n) h c = absurd h
-closes_closing (Retire id) (reply.Released i n) h c = absurd h
+closes_closing r (reply.Settled i n) h c = absurd h
+closes_closing r (reply.Released i n) h c = absurd h
 closes_closing r a h c = absurd (clash false c refl)
 
 -- a transaction none of whose entries closed it wasn't settled or released
@@ -125,12 +114,7 @@ closes_settled r a h c y = absurd (clash false y refl)
 -- the ledger goes by the number that the client gave
 pub ledger_number : (q : Request) → ledger_id q ≡ id_in q
 ledger_number (Reserve id txn moment login count) = refl
-ledger_number (Settle id txn moment login count) = refl
-ledger_number (Release id txn moment login) = refl
-ledger_number (Limit id from c login) = refl
-ledger_number (Usage login day) = refl
-ledger_number (ListRequest day after) = refl
-ledger_number (Retire id) = refl
+ledger_number q = refl
 
 -- ---- a new request
 

@@ -125,11 +125,9 @@ closed_not t e mine none = elim (either (closes e.reply)) [ inr f ↦ f | inl y 
 -- what was let through of a transaction, the ledgers hold or have settled together
 pub standing_each : (s : Source) (bs : List Book) → OfLedgers → AllSuit (pool bs) → (t : ℕ) (st : Standing) → let_at st ≤ granted_in (pool bs) (of_source s t)
     → ((e : Entry) → In e (pool bs) → is_of (of_source s t) e.request ≡ true → SuitsUnder s t st e.request) → let_by st ≤ sum_by (kept_of (of_source s t)) bs
-standing_each s bs L suits t Never enough each = omega arith
 standing_each s bs L suits t (Live k) enough each =
     let kept = kept_each L bs (of_source s t) (λ e i mine. (let u = each e i mine in closes_not e.request e.reply (suits e i) (reserve_closes s u.number t k e.request u.suits))) in
     omega (arith, enough, kept)
-standing_each s bs L suits t (Closed ending.Rollback number k) enough each = omega arith
 standing_each s bs L suits t (Closed ending.Commit number k) enough each = elim (zero_or_more k.granted) [
   | inl z ↦ omega (arith, z)
   | inr some ↦ elim (either (list_any (closes_it (of_source s t)) (pool bs))) [
@@ -141,6 +139,7 @@ standing_each s bs L suits t (Closed ending.Commit number k) enough each = elim 
         omega (arith, enough, kept))
   ]
 ]
+standing_each s bs L suits t st enough each = omega arith
 
 -- ---- of a login and day
 
@@ -224,16 +223,14 @@ by_from st now n (inr same) le = (let e : let_by st ≡ let_by now = ap granted_
 -- ---- the day of what counts
 
 pub counting_at : (st : Standing) (h : Held) → counting st ≡ Some h → at_of st ≡ h.moment
-counting_at Never h e = absurd (none_some h e)
 counting_at (Live k) h e = ap (λ (x : Held). x.moment) (some_is k h e)
 counting_at (Closed ending.Commit number k) h e = ap (λ (x : Held). x.moment) (some_is k h e)
-counting_at (Closed ending.Rollback number k) h e = absurd (none_some h e)
+counting_at st h e = absurd (none_some h e)
 
 pub on_at : (day : ℕ → ℕ) (l : List ℕ) (d : ℕ) (st : Standing) → is_on day l d (counting st) ≡ true → day (at_of st) ≡ d
-on_at day l d Never on = absurd (clash false on refl)
 on_at day l d (Live k) on = number_is (day k.moment) d (second_so (same_text l k.login) (day k.moment == d) on)
 on_at day l d (Closed ending.Commit number k) on = number_is (day k.moment) d (second_so (same_text l k.login) (day k.moment == d) on)
-on_at day l d (Closed ending.Rollback number k) on = absurd (clash false on refl)
+on_at day l d st on = absurd (clash false on refl)
 
 -- what counted before an exchange that is on its way
 pub counts_at : (st now : Standing) (n : ℕ) (h : Held) → Counts st now → counting st ≡ Some h → (at_of now ≡ h.moment → let_by now ≤ n) → let_by st ≤ n

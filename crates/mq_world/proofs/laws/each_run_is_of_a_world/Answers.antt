@@ -1,6 +1,6 @@
 -- One run goes on through worlds, as its contract says.
-use Rattle.mq_world.proofs.Words.{Action, AfterReady, Answers, ArePlayed, Asks, BeforeReady, Bool, Closes, Closing, ComeInTurn, ConfigLine, Drain, Ended, EndsWith, Exchange, FilterLine, Filters, Goes, HasText, Holding, IsDecision, IsInHand, IsPlayed, IsUnderway, List, MakesAll, Meaning, None}
-use Rattle.mq_world.proofs.Words.{Option, OtherLine, Outside, Passes, Plays, Query, ReadyLine, Refuses, ReportLine, Request, Some, Source, Stage, State, Step, StopsAt, Takes, [], action_of, ap, asking_of, at_line, close_of, closing, drained, exchanges_in, false, fault, held_back, held_for, inl, inr}
+use Rattle.mq_world.proofs.Words.{Action, AfterReady, Answers, ArePlayed, Asks, BeforeReady, Bool, Closes, Closing, ComeInTurn, Drain, Ended, EndsWith, Exchange, FilterLine, Filters, Goes, HasText, Holding, IsDecision, IsInHand, IsPlayed, IsUnderway, List, MakesAll, Meaning, None}
+use Rattle.mq_world.proofs.Words.{Option, Outside, Passes, Plays, Query, Refuses, Request, Some, Source, Stage, State, Step, StopsAt, Takes, [], action_of, ap, asking_of, at_line, close_of, closing, drained, exchanges_in, false, fault, held_back, held_for, inl, inr}
 use Rattle.mq_world.proofs.Words.{is_some, next, next_of, none_some, option_map, push, query, queue_of, refl, request_frame, subst, sym, tries_in, true, view, ℕ, ◌++◌, ◌∙◌, ◌∷◌, ◌≡◌, ◌⊎◌}
 use Rattle.std.proofs.lemmas.List.{append-nil}
 use Rattle.mq_line.specs.declared.results.Decision.{Decision}
@@ -35,18 +35,12 @@ closes k (Some c) step (group, is) = (k, ap (option_map unsent) is)
 -- the step of a line begins
 begins : (k : Holding) (L : List Meaning) (m : Meaning) (step : Option Step) (text : List ℕ) → Takes k L m step text → Begun step (action_of L m)
 begins k L (FilterLine seconds subsystem phase session token rest) step text (d, h, e) = asks k (query L subsystem phase session) step d h
-begins k L (ConfigLine key value) step text h = closes (is_some k.paused) (closing L (ConfigLine key value)) step h.1
-begins k L ReadyLine step text h = closes (is_some k.paused) (closing L ReadyLine) step h.1
-begins k L (ReportLine seconds subsystem name session params) step text h = closes (is_some k.paused) (closing L (ReportLine seconds subsystem name session params)) step h.1
-begins k L OtherLine step text h = closes (is_some k.paused) (closing L OtherLine) step h.1
+begins k L m step text h = closes (is_some k.paused) (closing L m) step h.1
 
 -- the tracker doesn't refuse it
 accepted : (k : Holding) (L : List Meaning) (m : Meaning) (step : Option Step) (text : List ℕ) → Takes k L m step text → fault L m ≡ None
 accepted k L (FilterLine seconds subsystem phase session token rest) step text h = refl
-accepted k L (ConfigLine key value) step text h = h.0
-accepted k L ReadyLine step text h = h.0
-accepted k L (ReportLine seconds subsystem name session params) step text h = h.0
-accepted k L OtherLine step text h = h.0
+accepted k L m step text h = h.0
 
 -- ---- one step of the world more
 
@@ -230,17 +224,11 @@ stage_goes T site w later s spans (AfterReady L) steps text k y is (results, fil
 
 -- the line in hand made no step, or the one that it makes
 in_hand : (f : FilterFault) (spans : Spans) (h : Holding) (stage : Stage) (left : List ℕ) (step : Option Step) (next : List ℕ) → IsInHand f spans h stage left step next → (step ≡ None) ⊎ ((line : List ℕ) × Goes spans h stage line step next)
-in_hand (faults.Line f) spans k stage left step next h = inl h.0
-in_hand (faults.Track f) spans k stage left step next h = inl h.0
-in_hand faults.NotReady spans k stage left step next h = inl h.0
-in_hand faults.EndedEarly spans k stage left step next h = inl h.0
-in_hand faults.CutLine spans k stage left step next h = inl h.0
-in_hand faults.TooLong spans k stage left step next h = inl h.0
-in_hand faults.Read spans k stage left step next h = inl h.0
 in_hand faults.Write spans k stage left step next (inl h) = inl h.0
 in_hand faults.Write spans k stage left step next (inr (line, first, goes)) = inr (line, goes)
 in_hand faults.Memory spans k stage left step next (inl h) = inl h.0
 in_hand faults.Memory spans k stage left step next (inr (line, first, goes)) = inr (line, goes)
+in_hand f spans k stage left step next h = inl h.0
 
 -- a run that stopped after these steps, with these lines or one more
 abbrev pub StopsIn : Site → World → World → Source → List Meaning → List Step → Type 0

@@ -1,5 +1,5 @@
 -- Every state of the world, step by step, and what follows in each.
-use Rattle.mq_world.proofs.Words.{Action, AllByRecursion, Answered, AreDistinct, AreUnderway, Book, Bool, Drain, Entry, Exchange, Faulted, Held, In, IsDecision, IsLegalBook, IsPlayed, IsReply, IsRequest, List, Meaning, None, NoneReturns, Option, Outcome, Release, Reply, Request, Reserve, Settle}
+use Rattle.mq_world.proofs.Words.{Action, AllByRecursion, Answered, AreDistinct, AreUnderway, Book, Bool, Drain, Entry, Exchange, Faulted, Held, In, IsDecision, IsLegalBook, IsPlayed, IsReply, IsRequest, List, Meaning, None, NoneReturns, Option, Outcome, Request, Reserve}
 use Rattle.mq_world.proofs.Words.{Some, Source, SpellsRequest, Standing, Step, Zone, [], action_of, actions, actions_of, all_at, ap, arith, begin_count, clash, day_of, decides, either, false, fault, frame, history_of, id_of, inl, inr, ledger_id, none_some, option_map, push, refl, reply, reply_body}
 use Rattle.mq_world.proofs.Words.{request_body, request_frame, requests, slice_get, standing_in, subst, sum_by, sym, true, view, with_arrival, ℕ, ◌++◌, ◌∙◌, ◌∷◌, ◌≡◌, ◌≤◌}
 use Rattle.mq_ledger.specs.History.{Transaction}
@@ -59,29 +59,23 @@ sound_start F site w G z suits none = record {
 
 -- ---- what an exchange brings
 
-retry_not : (q : Request) → decides q reply.Retry ≡ true → ⊥
-retry_not (Reserve id txn moment login count) h = clash false h refl
-retry_not (Settle id txn moment login count) h = clash false h refl
-retry_not (Release id txn moment login) h = clash false h refl
-retry_not q h = clash false h refl
+retry_not : (q : Request) → decides q reply.Retry ≡ false
+retry_not (Reserve id txn moment login count) = refl
+retry_not q = refl
 
-bad_not : (q : Request) → decides q reply.Bad ≡ true → ⊥
-bad_not (Reserve id txn moment login count) h = clash false h refl
-bad_not (Settle id txn moment login count) h = clash false h refl
-bad_not (Release id txn moment login) h = clash false h refl
-bad_not q h = clash false h refl
+bad_not : (q : Request) → decides q reply.Bad ≡ false
+bad_not (Reserve id txn moment login count) = refl
+bad_not q = refl
 
 -- what comes and decides was written
 brought : OfFrames → (written : List (List ℕ)) (o : Outcome) (q : Request) → MayCome written o → Comes written q o
 brought F written (Faulted f) q may = λ a b d. absurd b
 brought F written (Answered body) q (inl retry) = λ a b d.
     let same : a ≡ reply.Retry = F.one_body body a reply.Retry b (record { bytes = retry; in_range = tt }) in
-    let D : Reply → Type 0 = λ x. decides q x ≡ true in
-    absurd (retry_not q (subst D same d))
+    absurd (clash (decides q a) d (ap (decides q) same ∙ retry_not q))
 brought F written (Answered body) q (inr (inl bad)) = λ a b d.
     let same : a ≡ reply.Bad = F.one_body body a reply.Bad b (record { bytes = bad; in_range = tt }) in
-    let D : Reply → Type 0 = λ x. decides q x ≡ true in
-    absurd (bad_not q (subst D same d))
+    absurd (clash (decides q a) d (ap (decides q) same ∙ bad_not q))
 brought F written (Answered body) q (inr (inr w)) = λ a b d.
     let I : List ℕ → Type 0 = λ x. In (frame x) written in
     (subst I b.bytes (in_get written w.0 (frame body) w.1), b.in_range)
@@ -255,12 +249,7 @@ next_sound K site w v h (Stops s up) = stops_sound site w s h up
 
 zone_stays : (site : Site) (w v : World) → Next site w v → v.ledger.zone ≡ w.ledger.zone
 zone_stays site w v (Reads s line quiet on e) = refl
-zone_stays site w v (ReadsEnd s on) = refl
-zone_stays site w v (Sends s q up none e) = refl
-zone_stays site w v (Ends s x up on may dec) = refl
-zone_stays site w v (Takes which body q e spells) = refl
-zone_stays site w v (OthersSend bytes others) = refl
-zone_stays site w v (Stops s up) = refl
+zone_stays site w v n = refl
 
 forgets_sound : {F : ℕ} {G : List Entry} → Known → OfForgetting → (site : Site) (w : World) (D : ℕ) → D ≤ F → IsSound site F G w → IsSound site F G (forgotten D w)
 forgets_sound {G = G} K R site w D below h =
