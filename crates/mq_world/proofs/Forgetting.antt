@@ -113,11 +113,7 @@ wrote_kept {day = day} {F = F} C L K D below s tries P H G sent written suits h 
 
 pub forgets_on : {day : ℕ → ℕ} {F : ℕ} → OfClients → OfLedgers → OfFrames → (D : ℕ) → D ≤ F → (s : Source) (tries : ℕ) (P : List Step) (H G : List Entry) (sent written : List (List ℕ)) → AllSuit H → Holds day F s tries P (H ++ G) sent written → Holds day F s tries P (remembered day D H ++ G) sent written
 forgets_on {day = day} {F = F} C L K D below s tries P H G sent written suits h = record {
-  host = h.host;
-  run = h.run;
-  underway = h.underway;
-  returns = h.returns;
-  asks = h.asks;
+  steps = h.steps;
   sends = h.sends;
   taken = λ e i own. h.taken e (still_in day D H G e i) own;
   wrote = λ a q i range own d g. elim (h.wrote a q i range own d g) [

@@ -32,14 +32,18 @@ pub record IsForgotten (day : ℕ → ℕ) (F : ℕ) (s : Source) (P : List Step
   pub same : id_in request ≡ id_in q
   pub earlier : day (moment_of request) < F
 
--- what holds of one run, whatever the others do, and whatever is forgotten of days before F; H has the entries of all
--- ledgers, in any order
-pub record Holds (day : ℕ → ℕ) (F : ℕ) (s : Source) (tries : ℕ) (P : List Step) (H : List Entry) (sent written : List (List ℕ)) : Type 0 where
+-- its host, run and asks are in range, each step could come next, and no transaction returns once it closed
+pub record IsInOrder (s : Source) (tries : ℕ) (P : List Step) : Type 0 where
   pub host : IsHost s.host
   pub run : IsRun s.run
   pub underway : AreUnderway s tries P
   pub returns : NoneReturns s P
   pub asks : AreAsked P
+
+-- what holds of one run, whatever the others do, and whatever is forgotten of days before F; H has the entries of all
+-- ledgers, in any order
+pub record Holds (day : ℕ → ℕ) (F : ℕ) (s : Source) (tries : ℕ) (P : List Step) (H : List Entry) (sent written : List (List ℕ)) : Type 0 where
+  pub steps : IsInOrder s tries P
   pub sends : (q : Request) → In (frame (request_body q)) sent → IsRequest q → IsOwn s q → IsNumbered s P q
   pub taken : (e : Entry) → In e H → IsOwn s e.request → IsNumbered s P e.request
   pub wrote : (a : Reply) (q : Request) → In (frame (reply_body a)) written → IsReply a → IsOwn s q → decides q a ≡ true → is_grant a ≡ true → Wrote H a ⊎ IsForgotten day F s P q
@@ -155,11 +159,7 @@ wrote_on s P Q H a q more (inr f) = inr (record { request = f.request; numbered 
 
 pub begins : {day : ℕ → ℕ} {F : ℕ} → (s : Source) (tries : ℕ) (P : List Step) (H : List Entry) (sent written : List (List ℕ)) (a : Action) (quiet : Bool) → NoneReturns s (begun quiet a ∷ P) → IsAsked a → Holds day F s tries P H sent written → Holds day F s tries (begun quiet a ∷ P) H sent written
 begins {day = day} {F = since} s tries P H sent written a quiet fresh i h = record {
-  host = h.host;
-  run = h.run;
-  underway = (tt, h.underway);
-  returns = fresh;
-  asks = (i, h.asks);
+  steps = record { host = h.steps.host; run = h.steps.run; underway = (tt, h.steps.underway); returns = fresh; asks = (i, h.steps.asks) };
   sends = λ q j r own. begun_numbered s quiet a P q (h.sends q j r own);
   taken = λ e j own. begun_numbered s quiet a P e.request (h.taken e j own);
   wrote = λ b q j r own d g. wrote_on s P (begun quiet a ∷ P) H b q (begun_numbered s quiet a P) (h.wrote b q j r own d g);
@@ -171,32 +171,33 @@ begins {day = day} {F = since} s tries P H sent written a quiet fresh i h = reco
 none_brought : (q : Request) → IsDecision q (Faulted Down) None
 none_brought q = λ a b. absurd b
 
+-- the run with the exchange of a request on its way, which is in range and has a number of the run
+pub record Sent (day : ℕ → ℕ) (F : ℕ) (s : Source) (tries : ℕ) (P : List Step) (H : List Entry) (sent written : List (List ℕ)) (q : Request) : Type 0 where
+  pub holds : Holds day F s tries (with_exchange (failing q) P) H (request_frame q ∷ sent) written
+  pub range : IsRequest q
+  pub own : IsOwn s q
+
 pub sends_on : {day : ℕ → ℕ} {F : ℕ} → OfFrames → OfClients → (s : Source) (tries : ℕ) (P : List Step) (H : List Entry) (sent written : List (List ℕ)) (a : Action) (g : List Exchange) (quiet : Bool) (q : Request) → next s (tries_in tries quiet) (view s P) a g ≡ Some q
-    → Holds day F s tries (step a quiet g ∷ P) H sent written → Holds day F s tries (step a quiet (failing q ∷ g) ∷ P) H (request_frame q ∷ sent) written
+    → Holds day F s tries (step a quiet g ∷ P) H sent written → Sent day F s tries (step a quiet g ∷ P) H sent written q
 sends_on {day = day} {F = since} F C s tries P H sent written a g quiet q e h =
-    let u : AreUnderway s tries (step a quiet (failing q ∷ g) ∷ P) = ((e, none_brought q, h.underway.0), h.underway.1) in
-    let range : IsRequest q = next_in_range C.bounded s tries a g quiet (failing q) P h.host h.run h.asks u in
+    let o = h.steps in
+    let u : AreUnderway s tries (step a quiet (failing q ∷ g) ∷ P) = ((e, none_brought q, o.underway.0), o.underway.1) in
+    let range : IsRequest q = next_in_range C.bounded s tries a g quiet (failing q) P o.host o.run o.asks u in
     let new : IsNumbered s (step a quiet (failing q ∷ g) ∷ P) q = (C.sent s tries (step a quiet (failing q ∷ g) ∷ P) u).0 in
     record {
-      host = h.host;
-      run = h.run;
-      underway = u;
-      returns = h.returns;
-      asks = h.asks;
-      sends = λ r i k own. elim i [
-        | inl same ↦ subst (IsNumbered s (step a quiet (failing q ∷ g) ∷ P)) (F.one_request q r range k same) new
-        | inr j ↦ more_numbered s a (failing q) g quiet P r (h.sends r j k own)
-      ];
-      taken = λ x i own. more_numbered s a (failing q) g quiet P x.request (h.taken x i own);
-      wrote = λ b r i k own d z. wrote_on s (step a quiet g ∷ P) (step a quiet (failing q ∷ g) ∷ P) H b r (more_numbered s a (failing q) g quiet P) (h.wrote b r i k own d z);
-      ground = (no_ground day since s H (view s P) a (failing q ∷ g) refl, h.ground.1);
+      holds = record {
+        steps = record { host = o.host; run = o.run; underway = u; returns = o.returns; asks = o.asks };
+        sends = λ r i k own. elim i [
+          | inl same ↦ subst (IsNumbered s (step a quiet (failing q ∷ g) ∷ P)) (F.one_request q r range k same) new
+          | inr j ↦ more_numbered s a (failing q) g quiet P r (h.sends r j k own)
+        ];
+        taken = λ x i own. more_numbered s a (failing q) g quiet P x.request (h.taken x i own);
+        wrote = λ b r i k own d z. wrote_on s (step a quiet g ∷ P) (step a quiet (failing q ∷ g) ∷ P) H b r (more_numbered s a (failing q) g quiet P) (h.wrote b r i k own d z);
+        ground = (no_ground day since s H (view s P) a (failing q ∷ g) refl, h.ground.1);
+      };
+      range = range;
+      own = numbered_own s (step a quiet (failing q ∷ g) ∷ P) q new;
     }
-
--- what is sent has a number of the run
-pub sends_own : {day : ℕ → ℕ} {F : ℕ} → OfClients → (s : Source) (tries : ℕ) (P : List Step) (H : List Entry) (sent written : List (List ℕ)) (a : Action) (g : List Exchange) (quiet : Bool) (q : Request) → next s (tries_in tries quiet) (view s P) a g ≡ Some q → Holds day F s tries (step a quiet g ∷ P) H sent written → IsRequest q × IsOwn s q
-sends_own C s tries P H sent written a g quiet q e h =
-    let u : AreUnderway s tries (step a quiet (failing q ∷ g) ∷ P) = ((e, none_brought q, h.underway.0), h.underway.1) in
-    (next_in_range C.bounded s tries a g quiet (failing q) P h.host h.run h.asks u, numbered_own s (step a quiet (failing q ∷ g) ∷ P) q (C.sent s tries (step a quiet (failing q ∷ g) ∷ P) u).0)
 
 -- ---- an exchange ends
 
@@ -225,9 +226,9 @@ heard {day = day} {F = since} F C s tries P H sent written txn moment login g qu
     let k = granted_by x.decided e in
     let d = grant_of x.request x.outcome x.decided k.0 dec k.1 in
     let came = may k.0 d.0 d.1 in
-    let number : IsNumbered s Q x.request = (C.sent s tries Q h.underway).0 in
+    let number : IsNumbered s Q x.request = (C.sent s tries Q h.steps.underway).0 in
     let own : IsOwn s x.request = numbered_own s Q x.request number in
-    let free = free_ask (refuses (held_by (v.standing txn)) (length v.live) v.numbers (length v.waiting) moment login) (reserve_of s (v.numbers + 1) txn moment login) x.request (next_among (tries_in tries quiet) _ g x.request h.underway.0.0) in
+    let free = free_ask (refuses (held_by (v.standing txn)) (length v.live) v.numbers (length v.waiting) moment login) (reserve_of s (v.numbers + 1) txn moment login) x.request (next_among (tries_in tries quiet) _ g x.request h.steps.underway.0.0) in
     elim (h.wrote k.0 x.request came.0 came.1 own d.1 k.2) [
       | inl w ↦ (let R : Reply → Type 0 = λ a. RepliesSuit w.entry.request a in
           let fits : RepliesSuit w.entry.request k.0 = subst R w.is (suits w.entry w.among) in
@@ -254,11 +255,7 @@ heard_ground F C s tries P H sent written a g quiet x suits h may dec = tt
 pub ends_on : {day : ℕ → ℕ} {F : ℕ} → OfFrames → OfClients → (s : Source) (tries : ℕ) (P : List Step) (H : List Entry) (sent written : List (List ℕ)) (a : Action) (g : List Exchange) (quiet : Bool) (x : Exchange)
     → AllSuit H → Holds day F s tries (step a quiet (failing x.request ∷ g) ∷ P) H sent written → Comes written x.request x.outcome → IsDecision x.request x.outcome x.decided → Holds day F s tries (step a quiet (x ∷ g) ∷ P) H sent written
 ends_on F C s tries P H sent written a g quiet x suits h may dec = record {
-  host = h.host;
-  run = h.run;
-  underway = ((h.underway.0.0, dec, h.underway.0.2), h.underway.1);
-  returns = h.returns;
-  asks = h.asks;
+  steps = (let o = h.steps in let u = o.underway in record { host = o.host; run = o.run; underway = ((u.0.0, dec, u.0.2), u.1); returns = o.returns; asks = o.asks });
   sends = λ q i r own. ended_numbered s a (failing x.request) x g quiet P q (h.sends q i r own);
   taken = λ e i own. ended_numbered s a (failing x.request) x g quiet P e.request (h.taken e i own);
   wrote = λ b q i r own d z. wrote_on s (step a quiet (failing x.request ∷ g) ∷ P) (step a quiet (x ∷ g) ∷ P) H b q (ended_numbered s a (failing x.request) x g quiet P) (h.wrote b q i r own d z);
@@ -270,11 +267,7 @@ ends_on F C s tries P H sent written a g quiet x suits h may dec = record {
 pub others_send : {day : ℕ → ℕ} {F : ℕ} → (s : Source) (tries : ℕ) (P : List Step) (H : List Entry) (sent written : List (List ℕ)) (bytes : List ℕ) → ((q : Request) → bytes ≡ frame (request_body q) → IsRequest q → IsOwn s q → ⊥)
     → Holds day F s tries P H sent written → Holds day F s tries P H (bytes ∷ sent) written
 others_send s tries P H sent written bytes others h = record {
-  host = h.host;
-  run = h.run;
-  underway = h.underway;
-  returns = h.returns;
-  asks = h.asks;
+  steps = h.steps;
   sends = λ q i r own. elim i [ inl e ↦ absurd (others q e r own) | inr j ↦ h.sends q j r own ];
   taken = h.taken;
   wrote = h.wrote;
@@ -284,11 +277,7 @@ others_send s tries P H sent written bytes others h = record {
 pub writes_on : {day : ℕ → ℕ} {F : ℕ} → (s : Source) (tries : ℕ) (P : List Step) (H : List Entry) (sent written : List (List ℕ)) (bytes : List ℕ) → ((a : Reply) (q : Request) → bytes ≡ frame (reply_body a) → IsReply a → IsOwn s q → decides q a ≡ true → is_grant a ≡ true → Wrote H a ⊎ IsForgotten day F s P q)
     → Holds day F s tries P H sent written → Holds day F s tries P H sent (bytes ∷ written)
 writes_on s tries P H sent written bytes known h = record {
-  host = h.host;
-  run = h.run;
-  underway = h.underway;
-  returns = h.returns;
-  asks = h.asks;
+  steps = h.steps;
   sends = h.sends;
   taken = h.taken;
   wrote = λ a q i r own d g. elim i [ inl e ↦ known a q e r own d g | inr j ↦ h.wrote a q j r own d g ];
@@ -300,11 +289,7 @@ writes_on s tries P H sent written bytes known h = record {
 pub holds_in : {day : ℕ → ℕ} {F : ℕ} → (s : Source) (tries : ℕ) (P : List Step) (H K : List Entry) (sent written : List (List ℕ)) → ((e : Entry) → In e H → In e K) → ((e : Entry) → In e K → In e H)
     → Holds day F s tries P H sent written → Holds day F s tries P K sent written
 holds_in {day = day} {F = since} s tries P H K sent written there back h = record {
-  host = h.host;
-  run = h.run;
-  underway = h.underway;
-  returns = h.returns;
-  asks = h.asks;
+  steps = h.steps;
   sends = h.sends;
   taken = λ e i own. h.taken e (back e i) own;
   wrote = λ a q i r own d g. elim (h.wrote a q i r own d g) [

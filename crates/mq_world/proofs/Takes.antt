@@ -42,7 +42,7 @@ pub numbered_suits : {day : ℕ → ℕ} {F : ℕ} → OfClients → (s : Source
 numbered_suits C s tries P H sent written h t q i named_is = record {
   number = i.number;
   id = i.id;
-  suits = C.suits s tries P h.underway h.returns i.number t q i.under named_is;
+  suits = C.suits s tries P h.steps.underway h.steps.returns i.number t q i.under named_is;
 }
 
 -- what each entry of a run's transaction is
@@ -138,11 +138,7 @@ takes_new {F = since} day default F s tries P H G sent written q was range fits 
     let a : Reply = answer day default H q in
     let e : Entry = entry q a in
     record {
-      host = h.host;
-      run = h.run;
-      underway = h.underway;
-      returns = h.returns;
-      asks = h.asks;
+      steps = h.steps;
       sends = h.sends;
       taken = λ x i own. elim (pool_push H G e x i) [
         | inl j ↦ h.taken x j own

@@ -1,5 +1,5 @@
 -- Every state of the world, step by step, and what follows in each.
-use Rattle.mq_world.proofs.Words.{Action, AllByRecursion, Answered, AreDistinct, AreUnderway, Book, Bool, Drain, Entry, Exchange, Faulted, Held, In, IsDecision, IsLegalBook, IsPlayed, IsReply, IsRequest, List, Meaning, None, NoneReturns, Option, Outcome, Request, Reserve}
+use Rattle.mq_world.proofs.Words.{Action, AllByRecursion, Answered, AreDistinct, AreUnderway, Book, Bool, Drain, Entry, Exchange, Faulted, Held, In, IsDecision, IsLegalBook, IsPlayed, IsReply, List, Meaning, None, NoneReturns, Option, Outcome, Request, Reserve}
 use Rattle.mq_world.proofs.Words.{Some, Source, SpellsRequest, Standing, Step, Zone, [], action_of, actions, actions_of, all_at, ap, arith, begin_count, clash, day_of, decides, either, false, fault, frame, history_of, id_of, inl, inr, ledger_id, none_some, option_map, push, refl, reply, reply_body}
 use Rattle.mq_world.proofs.Words.{request_body, request_frame, requests, slice_get, standing_in, subst, sum_by, sym, true, view, with_arrival, ℕ, ◌++◌, ◌∙◌, ◌∷◌, ◌≡◌, ◌≤◌}
 use Rattle.mq_ledger.specs.History.{Transaction}
@@ -11,7 +11,7 @@ use Rattle.mq_world.proofs.Known.{Known, OfSums, OfFrames, OfLedgers}
 use Rattle.mq_world.proofs.Pools.{pool, places_change}
 use Rattle.mq_world.proofs.Numbers.{IsOwn, same_own}
 use Rattle.mq_world.proofs.Lines.{counted, line_asks, push_actions}
-use Rattle.mq_world.proofs.Runs.{Holds, AllSuit, failing, so_far, begins, sends_on, sends_own, ends_on, others_send, Comes, holds_in}
+use Rattle.mq_world.proofs.Runs.{Holds, AllSuit, failing, so_far, begins, Sent, sends_on, ends_on, others_send, Comes, holds_in}
 use Rattle.mq_world.proofs.Takes.{entry_suits}
 use Rattle.mq_world.specs.Law.{run_of, standing_of, counting, let_by, is_on, let_on, let_together, earlier, actions_in, IsPastOf}
 use Rattle.mq_world.proofs.Grounds.{at_of, was_granted}
@@ -32,11 +32,7 @@ NoneOwn site G = (e : Entry) → In e G → IsOfOthers site e.request
 
 holds_fresh : {F : ℕ} → (site : Site) (w : World) (G : List Entry) → IsStart site w → NoneOwn site G → (s : Source) → site.is_run s ≡ true → Holds (day_of w.ledger.zone) F s (site.tries s) [] (w.ledger.history ++ G) w.sent w.written
 holds_fresh site w G z none s y = record {
-  host = (z.hosts s y).0;
-  run = (z.hosts s y).1;
-  underway = tt;
-  returns = tt;
-  asks = tt;
+  steps = record { host = (z.hosts s y).0; run = (z.hosts s y).1; underway = tt; returns = tt; asks = tt };
   sends = λ q i range own. absurd (not_own site s q y (all_at (IsFrameOfOthers site) w.sent (frame (request_body q)) z.sent i (request_body q) q refl (record { bytes = refl; in_range = range })) own);
   taken = λ e i own. elim (in_either w.ledger.history G e i) [
     | inl j ↦ absurd (not_own site s e.request y (all_at (λ x. IsOfOthers site x.request) w.ledger.history e z.entries j) own)
@@ -88,11 +84,9 @@ begins_if : {day : ℕ → ℕ} {F : ℕ} → Known → (site : Site) (s : Sourc
 begins_if K site s quiet L line P H sent written None e le none_back h = h
 begins_if K site s quiet L line P H sent written (Some a) e le none_back h = begins s (site.tries s) P H sent written a quiet none_back (line_asks K.tracks L line a le e) h
 
-on_way_none : {day : ℕ → ℕ} {F : ℕ} → (s : Source) (tries : ℕ) (o : Option Request) (P : List Step) (H : List Entry) (sent written : List (List ℕ)) → o ≡ None → Holds day F s tries (so_far o P) H sent written → Holds day F s tries P H sent written
-on_way_none {day = day} {F = F} s tries o P H sent written e h = let G : Option Request → Type 0 = λ x. Holds day F s tries (so_far x P) H sent written in subst G e h
-
-none_on_way : {day : ℕ → ℕ} {F : ℕ} → (s : Source) (tries : ℕ) (o : Option Request) (P : List Step) (H : List Entry) (sent written : List (List ℕ)) → o ≡ None → Holds day F s tries P H sent written → Holds day F s tries (so_far o P) H sent written
-none_on_way {day = day} {F = F} s tries o P H sent written e h = let G : Option Request → Type 0 = λ x. Holds day F s tries (so_far x P) H sent written in subst G (sym e) h
+-- whatever is on its way, where it is the same
+same_on_way : {day : ℕ → ℕ} {F : ℕ} → (s : Source) (tries : ℕ) (o p : Option Request) (P : List Step) (H : List Entry) (sent written : List (List ℕ)) → o ≡ p → Holds day F s tries (so_far o P) H sent written → Holds day F s tries (so_far p P) H sent written
+same_on_way {day = day} {F = F} s tries o p P H sent written e h = let G : Option Request → Type 0 = λ x. Holds day F s tries (so_far x P) H sent written in subst G e h
 
 -- one step more, where there is one
 played_push : (s : Source) (tries : ℕ) (o : Option Step) (P : List Step) → IsPlayed s tries P → IsPlayed s tries (earlier (push o P))
@@ -107,7 +101,7 @@ reads_sound {G = G} K site w s line quiet h on e =
     let read = h.reading s y in
     let acts : actions (push (option_map (begun quiet) (action_of r.lines line)) r.past) ≡ actions_of (line ∷ r.lines) = push_actions quiet (action_of r.lines line) r.past ∙ ap (push (action_of r.lines line)) (read.acts on.before_end) in
     let none_back = K.clients.none_returns s (line ∷ r.lines) (push (option_map (begun quiet) (action_of r.lines line)) r.past) acts in
-    let old = on_way_none s (site.tries s) r.on_way r.past (w.ledger.history ++ G) w.sent w.written on.none_on_way (h.runs s y) in
+    let old = same_on_way s (site.tries s) r.on_way None r.past (w.ledger.history ++ G) w.sent w.written on.none_on_way (h.runs s y) in
     put_sound site w s (after_line quiet line r) w.sent h y
     (record {
       counted = counted r.lines line e read.counted;
@@ -115,7 +109,7 @@ reads_sound {G = G} K site w s line quiet h on e =
       ended = λ t. absurd (clash r.is_at_end t on.before_end);
       played = played_push s (site.tries s) (option_map (begun quiet) (action_of r.lines line)) r.past on.played;
     })
-    (none_on_way s (site.tries s) r.on_way (push (option_map (begun quiet) (action_of r.lines line)) r.past) (w.ledger.history ++ G) w.sent w.written on.none_on_way
+    (same_on_way s (site.tries s) None r.on_way (push (option_map (begun quiet) (action_of r.lines line)) r.past) (w.ledger.history ++ G) w.sent w.written (sym on.none_on_way)
     (begins_if K site s quiet r.lines line r.past (w.ledger.history ++ G) w.sent w.written (action_of r.lines line) refl read.counted none_back old))
     (λ u d yu. h.runs u yu)
 
@@ -124,7 +118,7 @@ ends_reading {G = G} site w s h on =
     let y = on.up.is_run in
     let r : Run = w.runs s in
     let read = h.reading s y in
-    let old = on_way_none s (site.tries s) r.on_way r.past (w.ledger.history ++ G) w.sent w.written on.none_on_way (h.runs s y) in
+    let old = same_on_way s (site.tries s) r.on_way None r.past (w.ledger.history ++ G) w.sent w.written on.none_on_way (h.runs s y) in
     put_sound site w s (after_end r) w.sent h y
     (record {
       counted = read.counted;
@@ -132,20 +126,13 @@ ends_reading {G = G} site w s h on =
       ended = λ t. ap (λ xs. Drain ∷ xs) (read.acts on.before_end);
       played = on.played;
     })
-    (none_on_way s (site.tries s) r.on_way (begun false Drain ∷ r.past) (w.ledger.history ++ G) w.sent w.written on.none_on_way
-    (begins s (site.tries s) r.past (w.ledger.history ++ G) w.sent w.written Drain false (tt, old.returns) tt old))
+    (same_on_way s (site.tries s) None r.on_way (begun false Drain ∷ r.past) (w.ledger.history ++ G) w.sent w.written (sym on.none_on_way)
+    (begins s (site.tries s) r.past (w.ledger.history ++ G) w.sent w.written Drain false (tt, old.steps.returns) tt old))
     (λ u d yu. h.runs u yu)
-
-pub record Sent (day : ℕ → ℕ) (F : ℕ) (s : Source) (tries : ℕ) (P : List Step) (H : List Entry) (sent written : List (List ℕ)) (q : Request) : Type 0 where
-  pub holds : Holds day F s tries (with_exchange (failing q) P) H (request_frame q ∷ sent) written
-  pub range : IsRequest q
-  pub own : IsOwn s q
 
 sends_past : {day : ℕ → ℕ} {F : ℕ} → Known → (s : Source) (tries : ℕ) (P : List Step) (H : List Entry) (sent written : List (List ℕ)) (q : Request) → next_request s tries P ≡ Some q → Holds day F s tries P H sent written → Sent day F s tries P H sent written q
 sends_past K s tries [] H sent written q e h = absurd (none_some q e)
-sends_past K s tries (x ∷ P) H sent written q e h =
-    let o = sends_own K.clients s tries P H sent written x.action x.group x.quiet q e h in
-    record { holds = sends_on K.frames K.clients s tries P H sent written x.action x.group x.quiet q e h; range = o.0; own = o.1 }
+sends_past K s tries (x ∷ P) H sent written q e h = sends_on K.frames K.clients s tries P H sent written x.action x.group x.quiet q e h
 
 sends_sound : {F : ℕ} {G : List Entry} → Known → (site : Site) (w : World) (s : Source) (q : Request) → IsSound site F G w → IsUp site w s → (w.runs s).on_way ≡ None → next_request s (site.tries s) (w.runs s).past ≡ Some q
     → IsSound site F G (with_sent (with_run w s (with_on_way (Some q) (w.runs s))) (request_frame q))
@@ -153,7 +140,7 @@ sends_sound {G = G} K site w s q h up none e =
     let y = up.is_run in
     let r : Run = w.runs s in
     let read = h.reading s y in
-    let old = on_way_none s (site.tries s) r.on_way r.past (w.ledger.history ++ G) w.sent w.written none (h.runs s y) in
+    let old = same_on_way s (site.tries s) r.on_way None r.past (w.ledger.history ++ G) w.sent w.written none (h.runs s y) in
     let new = sends_past K s (site.tries s) r.past (w.ledger.history ++ G) w.sent w.written q e old in
     put_sound site w s (with_on_way (Some q) r) (request_frame q ∷ w.sent) h y
     (record { counted = read.counted; acts = read.acts; ended = read.ended; played = read.played })
@@ -184,7 +171,7 @@ ends_sound {F = F} {G = G} K site w s x h up on may dec =
     let y = up.is_run in
     let r : Run = w.runs s in
     let read = h.reading s y in
-    let R : Option Request → Type 0 = λ o. Holds (day_of w.ledger.zone) F s (site.tries s) (so_far o r.past) (w.ledger.history ++ G) w.sent w.written in
+    let on_its_way = same_on_way s (site.tries s) r.on_way (Some x.request) r.past (w.ledger.history ++ G) w.sent w.written on (h.runs s y) in
     put_sound site w s (after_exchange x r) w.sent h y
     (record {
       counted = read.counted;
@@ -192,7 +179,7 @@ ends_sound {F = F} {G = G} K site w s x h up on may dec =
       ended = λ t. same_actions x r.past ∙ read.ended t;
       played = same_earlier s (site.tries s) x r.past read.played;
     })
-    (ends_past K s (site.tries s) r.past (w.ledger.history ++ G) w.sent w.written x (both_suit w.ledger.history G (all_suit K.ledgers w.ledger h.ledger) h.away) may dec (subst R on (h.runs s y)))
+    (ends_past K s (site.tries s) r.past (w.ledger.history ++ G) w.sent w.written x (both_suit w.ledger.history G (all_suit K.ledgers w.ledger h.ledger) h.away) may dec on_its_way)
     (λ u d yu. h.runs u yu)
 
 stops_sound : {F : ℕ} {G : List Entry} → (site : Site) (w : World) (s : Source) → IsSound site F G w → IsUp site w s → IsSound site F G (with_run w s (after_stop (w.runs s)))
@@ -355,10 +342,10 @@ sound_each {F = F} K site w bs h t = elim (either (site.is_run (run_of t))) [
       let suits = pool_suit K.ledgers (w.ledger ∷ bs) (all_legal site w bs h) in
       let st = (view s P).standing t.txn in
       let now : F ≤ day (at_of st) → let_by st ≤ sum_by (kept_of t) (w.ledger ∷ bs) = λ on. standing_each s (w.ledger ∷ bs) K.ledgers suits t.txn st
-      (was_granted day F K.ledgers.itself s (site.tries s) H P own.underway own.ground t.txn on)
+      (was_granted day F K.ledgers.itself s (site.tries s) H P own.steps.underway own.ground t.txn on)
       (entry_suits K.clients K.ledgers s (site.tries s) P H w.sent w.written own t.txn) in
       let S : Standing → Type 0 = λ x. (k : Held) → counting x ≡ Some k → F ≤ day k.moment → let_by x ≤ sum_by (kept_of t) (w.ledger ∷ bs) in
-      subst S (K.clients.standing s r.past t.txn) (λ k is on. counts_at ((view s r.past).standing t.txn) st _ k (counts_so_far s (site.tries s) r.on_way r.past own.underway own.returns t.txn) is
+      subst S (K.clients.standing s r.past t.txn) (λ k is on. counts_at ((view s r.past).standing t.txn) st _ k (counts_so_far s (site.tries s) r.on_way r.past own.steps.underway own.steps.returns t.txn) is
       (λ same. now (subst (λ m. F ≤ day m) (sym same) on))))
 ]
 
@@ -376,13 +363,13 @@ sound_on {F = F} K site w bs h l d from t = elim (either (site.is_run (run_of t)
       let each = entry_suits K.clients K.ledgers s (site.tries s) P H w.sent w.written own t.txn in
       let st = (view s P).standing t.txn in
       let now : F ≤ day (at_of st) → let_by st ≤ sum_by (kept_of t) (w.ledger ∷ bs) = λ on. standing_each s (w.ledger ∷ bs) K.ledgers suits t.txn st
-      (was_granted day F K.ledgers.itself s (site.tries s) H P own.underway own.ground t.txn on) each in
+      (was_granted day F K.ledgers.itself s (site.tries s) H P own.steps.underway own.ground t.txn on) each in
       let on = let_if (is_on day l d (counting st)) (let_by st) _ (λ here. (
       let a = now (subst (λ x. F ≤ x) (sym (on_at day l d st here)) from) in
       let b = on_all K.ledgers w.ledger.zone (w.ledger ∷ bs) (refl, h.zones) l d s t.txn st each here in
       omega (arith, a, b))) in
       let S : Standing → Type 0 = λ x. let_on day l d x ≤ sum_by (kept_on l d t) (w.ledger ∷ bs) in
-      subst S (K.clients.standing s r.past t.txn) (let_from day l d ((view s r.past).standing t.txn) st _ (counts_so_far s (site.tries s) r.on_way r.past own.underway own.returns t.txn) on))
+      subst S (K.clients.standing s r.past t.txn) (let_from day l d ((view s r.past).standing t.txn) st _ (counts_so_far s (site.tries s) r.on_way r.past own.steps.underway own.steps.returns t.txn) on))
 ]
 
 -- what some transactions let through together is settled or reserved
@@ -408,7 +395,7 @@ without_exchange s tries (Some q) [] u = u
 without_exchange s tries (Some q) (x ∷ P) u = (u.0.2, u.1)
 
 sound_underway : {F : ℕ} {G : List Entry} → (site : Site) (w : World) → IsSound site F G w → (s : Source) → site.is_run s ≡ true → AreUnderway s (site.tries s) (w.runs s).past
-sound_underway site w h s y = without_exchange s (site.tries s) (w.runs s).on_way (w.runs s).past (h.runs s y).underway
+sound_underway site w h s y = without_exchange s (site.tries s) (w.runs s).on_way (w.runs s).past (h.runs s y).steps.underway
 
 -- what its lines have a run do, by whether its input has ended
 acts_in : (r : Run) → (r.is_at_end ≡ false → actions r.past ≡ actions_of r.lines) → (r.is_at_end ≡ true → actions r.past ≡ Drain ∷ actions_of r.lines) → actions r.past ≡ actions_in r
