@@ -1,5 +1,5 @@
 -- Members of lists, what is found in them, and sums.
-use Rattle.mq_world.proofs.Words.{AllByRecursion, Bool, In, List, None, Some, [], ap, arith, clash, either, false, if◌then◌else◌, inl, inr, list_any, none_some, refl, slice_get, some_is, suc, sum_by, sum_by-cons, sym, true, zero, ℕ, ◌++◌, ◌+◌, ◌∙◌, ◌∷◌, ◌≡◌, ◌≤◌, ◌⊎◌}
+use Rattle.mq_world.proofs.Words.{AllByRecursion, Bool, In, List, None, Some, [], ap, arith, clash, either, false, if◌then◌else◌, inl, inr, list_any, none_some, refl, slice_get, some_is, suc, sum_by, sum_by-cons, sum_by-le-sum_by, sym, true, zero, ℕ, ◌++◌, ◌+◌, ◌∙◌, ◌∷◌, ◌≡◌, ◌≤◌, ◌⊎◌}
 use Rattle.std.specs.Prelude.{find}
 
 -- ---- members
@@ -74,17 +74,13 @@ not_any p (y ∷ xs) h x i = elim (either (p y)) [
 
 -- ---- sums
 
-pub sum_below : {X : Type 0} (f g : X → ℕ) → ((x : X) → f x ≤ g x) → (xs : List X) → sum_by f xs ≤ sum_by g xs
-sum_below f g h [] = omega arith
-sum_below f g h (x ∷ xs) = omega (arith, sum_by-cons f x xs, sum_by-cons g x xs, h x, sum_below f g h xs)
-
 -- where one element's part grows by one and none falls, the sum grows by one
 pub sum_grows : {X : Type 0} (f g : X → ℕ) → ((x : X) → f x ≤ g x) → (x : X) (xs : List X) → In x xs → f x + 1 ≤ g x → sum_by f xs + 1 ≤ sum_by g xs
 sum_grows f g h x [] i more = absurd i
 sum_grows f g h x (y ∷ xs) (inl e) more =
     let a : f y ≡ f x = ap f e in
     let b : g y ≡ g x = ap g e in
-    omega (arith, a, b, more, sum_by-cons f y xs, sum_by-cons g y xs, sum_below f g h xs)
+    omega (arith, a, b, more, sum_by-cons f y xs, sum_by-cons g y xs, sum_by-le-sum_by f g xs h)
 sum_grows f g h x (y ∷ xs) (inr i) more = omega (arith, h y, sum_by-cons f y xs, sum_by-cons g y xs, sum_grows f g h x xs i more)
 
 -- one element's part of a sum

@@ -1,8 +1,7 @@
 -- What holds of a run holds once days before F are forgotten.
-use Rattle.mq_world.proofs.Words.{Bool, Entry, Id, In, IsLegal, List, Release, RepliesSuit, Reply, Request, Reserve, Settle, Source, Step, [], ap, arith, clash, day_named, decides, either, false, filter, id_of, in_filter, inl, inr, is_about, is_of, is_set}
-use Rattle.mq_world.proofs.Words.{moment_of, named, nat_le, nat_tests, neither_first, option_cases, refl, remembered, same_transaction, some_is, stays, subst, sym, transaction, true, ℕ, ◌++◌, ◌∙◌, ◌∷◌, ◌≡◌, ◌≤◌, ◌⊎◌}
+use Rattle.mq_world.proofs.Words.{Bool, Entry, Id, In, IsLegal, List, Release, RepliesSuit, Reply, Request, Reserve, Settle, Source, Step, Transaction, [], ap, arith, clash, day_named, decides, either, false, filter, id_of, in_filter, inl, inr, is_about, is_of, is_set, moment_of, named, nat_le}
+use Rattle.mq_world.proofs.Words.{nat_tests, neither_first, option_cases, refl, remembered, same_transaction, some_is, stays, subst, sym, transaction, true, ℕ, ◌++◌, ◌∙◌, ◌∷◌, ◌≡◌, ◌≤◌, ◌⊎◌}
 use Rattle.mq_request.specs.declared.message.Reply.TheVariants as reply
-use Rattle.mq_ledger.specs.History.{Transaction}
 use Rattle.mq_world.proofs.Basics.{in_front, in_back, in_either, found}
 use Rattle.mq_world.proofs.Known.{OfFrames, OfClients, OfLedgers}
 use Rattle.mq_world.proofs.Numbers.{IsOwn}

@@ -1,12 +1,11 @@
 -- What was let through was granted in some ledger, under numbers of the run. H has the entries of all ledgers.
-use Rattle.mq_world.proofs.Words.{Action, AreUnderway, Ask, Asked, Bool, Close, CloseEnd, Closed, Drain, Entry, Exchange, Held, In, IsUnderway, List, Live, Never, None, Option, Reply, Request, Some, Source, Standing, Step, View, [], after, after_ask, after_close, answer_of, ap, arith, clash, either}
-use Rattle.mq_world.proofs.Words.{false, granted, granted_in, held_by, if◌then◌else◌, inl, inr, is_of, is_other, length, let_through, let_through_at, nat_le, nat_tests, neither_first, neither_second, none_some, not, not_false, number_is, opened, refl, refuses, reserve_of, same_text}
-use Rattle.mq_world.proofs.Words.{same_transaction, some_is, subst, sum_by, sym, tries_in, true, view, ℕ, ◌&&◌, ◌+◌, ◌==◌, ◌∙◌, ◌∷◌, ◌≡◌, ◌≤◌}
+use Rattle.mq_world.proofs.Words.{Action, AreUnderway, Ask, Asked, Bool, Close, CloseEnd, Closed, Drain, Entry, Exchange, Held, In, IsUnderway, List, Live, Never, None, Option, Reply, Request, Some, Source, Standing, Step, Transaction, View, [], after, after_ask, after_close, answer_of, ap, arith}
+use Rattle.mq_world.proofs.Words.{clash, either, false, granted, granted_in, held_by, if◌then◌else◌, inl, inr, is_of, is_other, length, let_through, let_through_at, nat_le, nat_tests, neither_first, neither_second, none_some, not, not_false, number_is, opened, refl, refuses, reserve_of, same_text}
+use Rattle.mq_world.proofs.Words.{same_transaction, some_is, subst, sum_by, sum_by-le-sum_by, sym, tries_in, true, view, ℕ, ◌&&◌, ◌+◌, ◌==◌, ◌∙◌, ◌∷◌, ◌≡◌, ◌≤◌}
 use Rattle.mq_request.specs.declared.message.Reply.TheVariants as reply
-use Rattle.mq_ledger.specs.History.{Transaction}
 use Rattle.mq_client.specs.declared.held.Asked.TheVariants as asked
 use Rattle.mq_client.proofs.WaitingOff.{seq_of}
-use Rattle.mq_world.proofs.Basics.{sum_below, sum_grows}
+use Rattle.mq_world.proofs.Basics.{sum_grows}
 use Rattle.mq_world.proofs.Ranges.{next_among, free_ask}
 
 abbrev pub of_source : Source → ℕ → Transaction
@@ -58,13 +57,13 @@ one_more t n e = elim (either (nat_le (seq_of e.request) n)) [
 ]
 
 pub upto_more : (H : List Entry) (t : Transaction) (n : ℕ) → upto H t n ≤ upto H t (n + 1)
-upto_more H t n = sum_below (one_upto t n) (one_upto t (n + 1)) (one_more t n) H
+upto_more H t n = sum_by-le-sum_by (one_upto t n) (one_upto t (n + 1)) H (one_more t n)
 
 pub upto_all : (H : List Entry) (t : Transaction) (n : ℕ) → upto H t n ≤ granted_in H t
-upto_all H t n = sum_below (one_upto t n) (λ e. if is_of t e.request then granted e.request e.reply else 0) (λ e. elim (either (is_of t e.request)) [
+upto_all H t n = sum_by-le-sum_by (one_upto t n) (λ e. if is_of t e.request then granted e.request e.reply else 0) H (λ e. elim (either (is_of t e.request)) [
   | inl y ↦ elim (either (nat_le (seq_of e.request) n)) [ inl m ↦ rw (y, m) (omega arith) | inr m ↦ rw (y, m) (omega arith) ]
   | inr k ↦ rw k (omega arith)
-]) H
+])
 
 granted_one : (s : Source) (n txn moment : ℕ) (login : List ℕ) (a : Reply) → is_grant a ≡ true → granted (reserve_of s n txn moment login) a ≡ 1
 granted_one s n txn moment login (reply.Granted i u) h = refl

@@ -1,8 +1,7 @@
 -- What the crates below say of frames, clients, trackers and ledgers.
-use Rattle.mq_world.proofs.Words.{All, AllByRecursion, AreDistinct, AreNumbered, AreUnderway, Entry, Id, IsAmount, IsBounded, IsDayRule, IsLegal, IsNumbered, IsReply, IsRequest, IsZone, List, Meaning, None, NoneReturns, RepliesSuit, Reply, Request, Some, Source, SpellsReply, Step, Suits, Zone, []}
-use Rattle.mq_world.proofs.Words.{actions, actions_of, cap, day_of, ended, exchanges_in, false, frame, granted_in, held, held_on, history_of, named, numbers_in, reply, reply_body, request_body, request_under, requests, reserved, same_id, same_request, same_transaction, settled, settled_in}
-use Rattle.mq_world.proofs.Words.{settled_on, standing_in, sum_by, true, txn_in, used, view, with_arrival, ℕ, ◌++◌, ◌+◌, ◌↔◌, ◌∷◌, ◌≡◌, ◌≤◌}
-use Rattle.mq_ledger.specs.History.{Transaction}
+use Rattle.mq_world.proofs.Words.{All, AllByRecursion, AreDistinct, AreNumbered, AreUnderway, Entry, Id, IsAmount, IsBounded, IsDayRule, IsLegal, IsNumbered, IsReply, IsRequest, IsZone, List, Meaning, None, NoneReturns, RepliesSuit, Reply, Request, Some, Source, SpellsReply, Step, Suits}
+use Rattle.mq_world.proofs.Words.{Transaction, Zone, [], actions, actions_of, cap, day_of, ended, exchanges_in, false, frame, granted_in, held, held_on, history_of, named, numbers_in, reply, reply_body, request_body, request_under, requests, reserved, same_id, same_request, same_transaction}
+use Rattle.mq_world.proofs.Words.{settled, settled_in, settled_on, standing_in, sum_by, true, txn_in, used, view, with_arrival, ℕ, ◌++◌, ◌+◌, ◌↔◌, ◌∷◌, ◌≡◌, ◌≤◌}
 
 pub record OfFrames : Type 0 where
   pub one_request : (q r : Request) → IsRequest q → IsRequest r → frame (request_body q) ≡ frame (request_body r) → q ≡ r

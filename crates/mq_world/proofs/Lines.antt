@@ -1,7 +1,6 @@
 -- What the lines that a run read have it ask for is in range.
-use Rattle.mq_world.proofs.Words.{Action, AreNumbered, Ask, Asks, Bool, Closing, FilterLine, IsLogin, IsMoment, IsOrdinal, List, Meaning, None, Option, Passes, Position, Refuses, Some, Step, action_of, actions, arith, asking_of, begin_count, close_of}
-use Rattle.mq_world.proofs.Words.{closing, false, fault, first_so, if◌then◌else◌, is_begin, is_exhausted, is_login, is_moment, length, login, nat_le, nat_tests, none_some, open_transaction, option_map, option_or, position, position_of, push, query_at, refl, second_so, some_is, subst, sym, true, ℕ}
-use Rattle.mq_world.proofs.Words.{◌&&◌, ◌+◌, ◌∷◌, ◌≡◌, ◌≤◌}
+use Rattle.mq_world.proofs.Words.{Action, AreNumbered, Ask, Asks, Bool, Closing, FilterLine, IsLogin, IsMoment, IsOrdinal, List, Meaning, None, Option, Passes, Position, Refuses, Some, Step, action_of, actions, arith, asking_of, begin_count, close_of, closing, false, fault, first_so, if◌then◌else◌}
+use Rattle.mq_world.proofs.Words.{is_begin, is_exhausted, is_login, is_moment, length, login, nat_le, nat_tests, none_some, open_transaction, option_map, option_or, position, position_of, push, query_at, refl, second_so, some_is, subst, sym, true, ℕ, ◌&&◌, ◌+◌, ◌∷◌, ◌≡◌, ◌≤◌}
 use Rattle.mq_track.specs.Events.{event, unreadable}
 use Rattle.mq_track.specs.Sessions.{Transaction}
 use Rattle.mq_track.specs.declared.fault.TrackFault.TheVariants.{Exhausted}

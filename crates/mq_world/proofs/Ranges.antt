@@ -1,7 +1,7 @@
 -- What a run sends is in range, where its asks are.
-use Rattle.mq_world.proofs.Words.{Action, AllByRecursion, AreUnderway, Ask, Asked, Bool, Close, CloseEnd, Closed, ComeInTurn, Drain, Exchange, Held, In, IsBounded, IsHost, IsId, IsLogin, IsMoment, IsOrdinal, IsRequest, IsRun, List, Live, Never, None, Option, Release, Request, Settle, Some, Source}
-use Rattle.mq_world.proofs.Words.{Standing, Step, View, [], after, after_ask, after_close, all_at, all_drop, all_push, answer_of, ap, arith, closing_of, decisions, either, failures, false, held_by, held_for, id_of, if◌then◌else◌, inl, inr, is_commit, is_other, lacks_numbers, length, let_through}
-use Rattle.mq_world.proofs.Words.{nat_le, nat_tests, neither_first, neither_second, next, next_of, none_some, number_is, opened, queue_of, refl, refuses, reserve_of, slice_get, some_is, subst, tries_in, true, view, ℕ, ◌&&◌, ◌+◌, ◌<◌, ◌==◌, ◌∷◌, ◌≡◌}
+use Rattle.mq_world.proofs.Words.{Action, AllByRecursion, AreUnderway, Ask, Asked, Bool, Close, CloseEnd, ComeInTurn, Drain, Exchange, Held, In, IsBounded, IsHost, IsId, IsLogin, IsMoment, IsOrdinal, IsRequest, IsRun, List, Live, None, Option, Release, Request, Settle, Some, Source, Standing, Step}
+use Rattle.mq_world.proofs.Words.{View, [], after, after_ask, after_close, all_at, all_drop, all_push, answer_of, ap, arith, closing_of, decisions, either, failures, false, held_by, held_for, id_of, if◌then◌else◌, inl, inr, is_commit, is_other, lacks_numbers, length, let_through, nat_le, nat_tests}
+use Rattle.mq_world.proofs.Words.{neither_first, neither_second, next, next_of, none_some, number_is, opened, queue_of, refl, refuses, reserve_of, slice_get, some_is, subst, tries_in, true, view, ℕ, ◌&&◌, ◌+◌, ◌<◌, ◌==◌, ◌∷◌, ◌≡◌}
 use Rattle.mq_client.specs.Held.{IsHeld}
 use Rattle.mq_client.specs.declared.held.Asked.TheVariants as asked
 use Rattle.mq_world.specs.World.{begun}
@@ -54,9 +54,6 @@ let_held : (txn : ℕ) (a : Asked) (h : Held) → IsOrdinal txn → IsMoment h.m
 let_held txn asked.Granted h t m l g = record { number = t; moment = m; login = l; granted = omega (arith, g) }
 let_held txn a h t m l g = record { number = t; moment = m; login = l; granted = omega (arith, g) }
 
-live_is : (h k : Held) → Live h ≡ Live k → h ≡ k
-live_is h k e = cc
-
 held_by_live : (st : Standing) (h : Held) → held_by st ≡ Some h → st ≡ Live h
 held_by_live (Live k) h e = ap Live (some_is k h e)
 held_by_live st h e = absurd (none_some h e)
@@ -75,7 +72,7 @@ ranged_ask s tries txn moment login x g v i turns r =
     let new : IsHeld txn (let_through (answer_of (x ∷ g)) (opened moment login (held_by (v.standing txn)))) = asked_held txn moment login (answer_of (x ∷ g)) (held_by (v.standing txn)) (length v.live) v.numbers (length v.waiting) i old free in
     record {
       held = λ t h e. elim (either (txn == t)) [
-        | inl y ↦ (let is : let_through (answer_of (x ∷ g)) (opened moment login (held_by (v.standing txn))) ≡ h = live_is _ h (rw y at e) in
+        | inl y ↦ (let is : let_through (answer_of (x ∷ g)) (opened moment login (held_by (v.standing txn))) ≡ h = cc (rw y at e) in
             let same : txn ≡ t = number_is txn t y in
             let F : ℕ → Type 0 = λ u. IsHeld u h in
             subst F same (subst (IsHeld txn) is new))
@@ -84,16 +81,13 @@ ranged_ask s tries txn moment login x g v i turns r =
       waiting = r.waiting;
     }
 
-ended_live : (end : CloseEnd) (number : ℕ) (h k : Held) → Closed end number h ≡ Live k → ⊥
-ended_live end number h k e = cc
-
 ranged_close : (s : Source) (txn : ℕ) (end : CloseEnd) (g : List Exchange) (v : View) (o : Option Held) → held_by (v.standing txn) ≡ o → IsHost s.host → IsRun s.run → ((h : Held) → o ≡ Some h → v.numbers < 4294967295) → IsRanged v → IsRanged (after_close s txn end g v o)
 ranged_close s txn end g v None is host run less r = r
 ranged_close s txn end g v (Some h) is host run less r =
     let old : IsHeld txn h = r.held txn h (held_by_live (v.standing txn) h is) in
     record {
       held = λ t k e. elim (either (txn == t)) [
-        | inl y ↦ absurd (ended_live end (v.numbers + 1) h k (rw y at e))
+        | inl y ↦ (let no : ⊥ = cc (rw y at e) in absurd no)
         | inr n ↦ r.held t k (rw n at e)
       ];
       waiting = all_drop IsRequest (decisions g) _ (all_push IsRequest v.waiting _ r.waiting (closing_in_range s v.numbers txn end h host run (less h refl) old));
@@ -115,10 +109,7 @@ ranged_step B s tries (Close txn end) g k P host run i u r =
 ranged_step B s tries Drain g k P host run i u r = record { held = r.held; waiting = all_drop IsRequest (decisions g) _ r.waiting }
 
 pub ranged : AreBounded → (s : Source) (tries : ℕ) (P : List Step) → IsHost s.host → IsRun s.run → AreAsked P → AreUnderway s tries P → IsRanged (view s P)
-ranged B s tries [] host run asked u = record { held = λ t h e. absurd (never_live h e); waiting = tt }
-  where
-    never_live : (h : Held) → Never ≡ Live h → ⊥
-    never_live h e = cc
+ranged B s tries [] host run asked u = record { held = λ t h e. (let no : ⊥ = cc in absurd no); waiting = tt }
 ranged B s tries (x ∷ P) host run asked u = ranged_step B s tries x.action x.group x.quiet P host run asked.0 u (ranged B s tries P host run asked.1 u.1)
 
 -- ---- the next request is in range

@@ -1,7 +1,7 @@
 -- One run against any others.
-use Rattle.mq_world.proofs.Words.{Action, AreUnderway, Ask, Bool, Down, Entry, Exchange, Faulted, Id, In, IsDecision, IsHost, IsNumbered, IsReply, IsRequest, IsRun, Limit, List, ListRequest, None, NoneReturns, Option, Outcome, Release, RepliesSuit, Reply, Request, Reserve, Retire}
-use Rattle.mq_world.proofs.Words.{Settle, Some, Source, Step, Usage, View, [], answer_by, answer_of, answers_closing, answers_reserve, ap, arith, clash, decides, false, frame, held_by, id_in, id_of, inl, inr, length, moment_of, next, none_some, one_request, refl, refuses, reply_body, request_body}
-use Rattle.mq_world.proofs.Words.{request_frame, reserve_of, subst, sym, tries_in, true, view, ℕ, ◌+◌, ◌<◌, ◌∙◌, ◌∷◌, ◌≡◌, ◌≤◌, ◌⊎◌}
+use Rattle.mq_world.proofs.Words.{Action, AreUnderway, Ask, Bool, Down, Entry, Exchange, Faulted, Id, In, IsDecision, IsHost, IsNumbered, IsReply, IsRequest, IsRun, Limit, List, ListRequest, None, NoneReturns, Option, Outcome, Release, RepliesSuit, Reply, Request, Reserve, Retire, Settle, Some}
+use Rattle.mq_world.proofs.Words.{Source, Step, Usage, View, [], answer_by, answer_of, answers_closing, answers_reserve, ap, arith, clash, decides, false, frame, held_by, id_in, id_of, inl, inr, length, moment_of, next, none_some, one_request, refl, refuses, reply_body, request_body, request_frame}
+use Rattle.mq_world.proofs.Words.{reserve_of, subst, sym, tries_in, true, view, ℕ, ◌+◌, ◌<◌, ◌∙◌, ◌∷◌, ◌≡◌, ◌≤◌, ◌⊎◌}
 use Rattle.mq_request.specs.declared.message.Reply.TheVariants as reply
 use Rattle.mq_link.specs.Link.{Brings}
 use Rattle.mq_client.specs.declared.held.Asked.TheVariants as asked
@@ -108,32 +108,24 @@ decided_id F q a h = absurd (clash false h refl)
 
 -- a reply to a request has its number
 pub suited_id : (r : Request) (a : Reply) (i : Id) → RepliesSuit r a → reply_id a ≡ Some i → id_in r ≡ Some i
-suited_id (Reserve id txn moment login count) (reply.Granted j used) i h e = ap Some (sym h) ∙ e
-suited_id (Reserve id txn moment login count) (reply.Full j used cap) i h e = ap Some (sym h) ∙ e
-suited_id (Reserve id txn moment login count) (reply.Closed j) i h e = ap Some (sym h) ∙ e
-suited_id (Reserve id txn moment login count) (reply.Mismatch j) i h e = ap Some (sym h) ∙ e
-suited_id (Reserve id txn moment login count) (reply.Conflict j) i h e = ap Some (sym h) ∙ e
-suited_id (Reserve id txn moment login count) (reply.Old j) i h e = ap Some (sym h) ∙ e
-suited_id (Settle id txn moment login count) (reply.Settled j n) i h e = ap Some (sym h.0) ∙ e
-suited_id (Settle id txn moment login count) (reply.TooMany j held) i h e = ap Some (sym h) ∙ e
-suited_id (Settle id txn moment login count) (reply.Closed j) i h e = ap Some (sym h) ∙ e
-suited_id (Settle id txn moment login count) (reply.Mismatch j) i h e = ap Some (sym h) ∙ e
-suited_id (Settle id txn moment login count) (reply.Conflict j) i h e = ap Some (sym h) ∙ e
-suited_id (Settle id txn moment login count) (reply.Old j) i h e = ap Some (sym h) ∙ e
-suited_id (Release id txn moment login) (reply.Released j held) i h e = ap Some (sym h) ∙ e
-suited_id (Release id txn moment login) (reply.Closed j) i h e = ap Some (sym h) ∙ e
-suited_id (Release id txn moment login) (reply.Mismatch j) i h e = ap Some (sym h) ∙ e
-suited_id (Release id txn moment login) (reply.Conflict j) i h e = ap Some (sym h) ∙ e
-suited_id (Release id txn moment login) (reply.Old j) i h e = ap Some (sym h) ∙ e
+suited_id (Usage login day) (reply.Usage l d x y z) i h e = absurd (none_some i e)
+suited_id (Usage login day) a i h e = absurd h
+suited_id (ListRequest day after) (reply.List d rows) i h e = absurd (none_some i e)
+suited_id (ListRequest day after) a i h e = absurd h
+suited_id r (reply.Conflict j) i h e = ap Some (sym h) ∙ e
+suited_id r (reply.Old j) i h e = ap Some (sym h) ∙ e
 suited_id (Limit id from c login) (reply.LimitSet j) i h e = ap Some (sym h) ∙ e
 suited_id (Limit id from c login) (reply.Over j day used) i h e = ap Some (sym h) ∙ e
-suited_id (Limit id from c login) (reply.Conflict j) i h e = ap Some (sym h) ∙ e
-suited_id (Limit id from c login) (reply.Old j) i h e = ap Some (sym h) ∙ e
-suited_id (Usage login day) (reply.Usage l d x y z) i h e = absurd (none_some i e)
-suited_id (ListRequest day after) (reply.List d rows) i h e = absurd (none_some i e)
+suited_id (Limit id from c login) a i h e = absurd h
 suited_id (Retire id) (reply.Retired j) i h e = ap Some (sym h) ∙ e
-suited_id (Retire id) (reply.Conflict j) i h e = ap Some (sym h) ∙ e
-suited_id (Retire id) (reply.Old j) i h e = ap Some (sym h) ∙ e
+suited_id (Retire id) a i h e = absurd h
+suited_id r (reply.Closed j) i h e = ap Some (sym h) ∙ e
+suited_id r (reply.Mismatch j) i h e = ap Some (sym h) ∙ e
+suited_id (Reserve id txn moment login count) (reply.Granted j used) i h e = ap Some (sym h) ∙ e
+suited_id (Reserve id txn moment login count) (reply.Full j used cap) i h e = ap Some (sym h) ∙ e
+suited_id (Settle id txn moment login count) (reply.Settled j n) i h e = ap Some (sym h.0) ∙ e
+suited_id (Settle id txn moment login count) (reply.TooMany j held) i h e = ap Some (sym h) ∙ e
+suited_id (Release id txn moment login) (reply.Released j held) i h e = ap Some (sym h) ∙ e
 suited_id r a i h e = absurd h
 
 -- so the request that it replies to has the number of the one that it decides
@@ -208,11 +200,7 @@ Comes written q o = (a : Reply) → Brings o a → decides q a ≡ true → In (
 -- an answer Granted comes of a reply Granted
 granted_by : (o : Option Reply) → answer_by o ≡ asked.Granted → (a : Reply) × (o ≡ Some a) × (is_grant a ≡ true)
 granted_by (Some (reply.Granted id used)) e = (reply.Granted id used, refl, refl)
-granted_by (Some (reply.Full id used cap)) e = absurd (full_not e)
-  where
-    full_not : asked.Full ≡ asked.Granted → ⊥
-    full_not e = cc
-granted_by o e = absurd (unavailable_not e)
+granted_by o e = (let no : ⊥ = cc in absurd no)
 
 grant_of : (q : Request) (o : Outcome) (d : Option Reply) (a : Reply) → IsDecision q o d → d ≡ Some a → Brings o a × (decides q a ≡ true)
 grant_of q o d a dec e = let D : Option Reply → Type 0 = λ x. IsDecision q o x in subst D e dec

@@ -1,9 +1,8 @@
 -- A ledger takes a request.
-use Rattle.mq_world.proofs.Words.{Bool, CloseEnd, Closed, Entry, Held, Id, In, IsNumbered, IsReply, IsRequest, List, Live, Never, Release, RepliesSuit, Reply, Request, Reserve, Settle, Some, Source, Standing, Step, Suits, [], answer, ap, appended, clash, closes}
-use Rattle.mq_world.proofs.Words.{closing_of, counted, either, ended, false, first_so, frame, id_in, id_of, if◌then◌else◌, inl, inr, is_commit, is_of, ledger_id, moment_of, nat_le, refl, reply_body, request_body, reserve_of, same_transaction, second_so, subst, sym, transaction, true, txn_in, view}
-use Rattle.mq_world.proofs.Words.{ℕ, ◌&&◌, ◌++◌, ◌∙◌, ◌∷◌, ◌≡◌, ◌⊎◌}
+use Rattle.mq_world.proofs.Words.{Bool, CloseEnd, Closed, Entry, Held, Id, In, IsNumbered, IsReply, IsRequest, List, Live, Never, Release, RepliesSuit, Reply, Request, Reserve, Settle, Some, Source, Standing, Step, Suits, Transaction, [], answer, ap, appended, clash, closes, closing_of, counted}
+use Rattle.mq_world.proofs.Words.{either, ended, false, first_so, frame, id_in, id_of, if◌then◌else◌, inl, inr, is_commit, is_of, ledger_id, moment_of, nat_le, refl, reply_body, request_body, reserve_of, same_transaction, second_so, subst, sym, transaction, true, txn_in, view, ℕ, ◌&&◌, ◌++◌, ◌∙◌}
+use Rattle.mq_world.proofs.Words.{◌∷◌, ◌≡◌, ◌⊎◌}
 use Rattle.mq_request.specs.declared.message.Reply.TheVariants as reply
-use Rattle.mq_ledger.specs.History.{Transaction}
 use Rattle.mq_world.proofs.Basics.{in_push, in_front, in_back, in_either, in_last, any_found}
 use Rattle.mq_world.proofs.Known.{OfFrames, OfClients, OfLedgers}
 use Rattle.mq_world.proofs.Numbers.{IsOwn}

@@ -1,9 +1,14 @@
--- Ways on which days may be forgotten.
+-- Ways through worlds, on which days may be forgotten or not.
 use Rattle.mq_world.proofs.Words.{Book, List, ℕ}
 use Rattle.mq_world.specs.World.{Site, World, Reaches, AtOnce, Later}
 use Rattle.mq_world.specs.Forgetting.{ReachesForgetting, Steps}
 use Rattle.mq_world.specs.Together.{Together, ReachesTogether}
 use Rattle.mq_world.specs.Together as servers
+
+-- steps after steps
+pub joined : {site : Site} {w v z : World} → Reaches site w v → Reaches site v z → Reaches site w z
+joined r AtOnce = r
+joined r (Later y last q n) = Later y last (joined r q) n
 
 -- by steps alone, after such a way
 pub with_steps : (site : Site) (F : ℕ) (start v w : World) → ReachesForgetting site start F v → Reaches site v w → ReachesForgetting site start F w

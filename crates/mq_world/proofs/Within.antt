@@ -1,15 +1,14 @@
 -- What was let through is held or settled by the ledgers together: of a transaction, and of a login and day.
-use Rattle.mq_world.proofs.Words.{Action, AllByRecursion, AreDistinct, AreUnderway, Ask, Book, Bool, Close, CloseEnd, Closed, Drain, Entry, Exchange, Held, In, IsLegalBook, List, Live, Never, None, NoneReturns, Option, Release, Reply, Request, Settle, Some, Source, Standing, Step, Suits, View, Zone}
-use Rattle.mq_world.proofs.Words.{[], after, after_ask, after_close, answer_by, answer_of, ap, arith, both_so, clash, closes, closing_of, counted, counted_in, day_of, decisions, either, ended_not, failures, false, first_so, granted, granted_in, held, held_by, held_on, id_of, if◌then◌else◌, inl, inr}
-use Rattle.mq_world.proofs.Words.{is_closed, is_for, is_of, is_some, length, let_through, list_any, named, names_for, nat_le, nat_tests, next_of, none_some, number_is, opened, option_cases, refl, refuses, reserve_of, same_text, second_so, settled_in, settled_on, slice_get, some_is, subst, suc}
-use Rattle.mq_world.proofs.Words.{sum_by, sum_by-append, sum_by-cons, sym, tries_in, true, view, zero, zero_or_more, ℕ, ◌&&◌, ◌+◌, ◌<◌, ◌==◌, ◌∙◌, ◌∷◌, ◌≡◌, ◌≤◌, ◌⊎◌}
-use Rattle.mq_ledger.specs.History.{Transaction}
+use Rattle.mq_world.proofs.Words.{Action, AllByRecursion, AreDistinct, AreUnderway, Ask, Book, Bool, Close, CloseEnd, Closed, Drain, Entry, Exchange, Held, In, IsLegalBook, List, Live, Never, None, NoneReturns, Option, Release, Reply, Request, Settle, Some, Source, Standing, Step, Suits}
+use Rattle.mq_world.proofs.Words.{Transaction, View, Zone, [], after, after_ask, after_close, answer_by, answer_of, ap, arith, both_so, clash, closes, closing_of, counted, counted_in, day_of, decisions, either, ended_not, failures, false, first_so, granted, granted_in, held, held_by, held_on, id_of}
+use Rattle.mq_world.proofs.Words.{if◌then◌else◌, inl, inr, is_closed, is_for, is_of, is_some, length, let_through, list_any, named, names_for, nat_le, nat_tests, next_of, none_some, number_is, opened, option_cases, refl, refuses, reserve_of, same_text, second_so, settled_in, settled_on, slice_get}
+use Rattle.mq_world.proofs.Words.{some_is, subst, suc, sum_by, sum_by-append, sum_by-cons, sum_by-le-sum_by, sym, tries_in, true, view, zero, zero_or_more, ℕ, ◌&&◌, ◌+◌, ◌<◌, ◌==◌, ◌∙◌, ◌∷◌, ◌≡◌, ◌≤◌, ◌⊎◌}
 use Rattle.mq_track.specs.declared.closing.CloseEnd.TheVariants as ending
 use Rattle.mq_client.specs.declared.held.Asked.TheVariants as asked
 use Rattle.mq_world.specs.World.{with_exchange}
 use Rattle.mq_world.specs.Law.{counting, granted_of, let_by, is_on, let_on}
 use Rattle.mq_world.specs.Together.{kept_of, used_of, cap_of}
-use Rattle.mq_world.proofs.Basics.{in_front, in_back, found, any_found, not_any, sum_below, sum_has, sum_plus, sum_zero}
+use Rattle.mq_world.proofs.Basics.{in_front, in_back, found, any_found, not_any, sum_has, sum_plus, sum_zero}
 use Rattle.mq_world.proofs.Known.{OfLedgers, OfSums}
 use Rattle.mq_world.proofs.Pools.{pool, in_one}
 use Rattle.mq_world.proofs.Ranges.{unless}
@@ -194,7 +193,7 @@ sums_on S [] legal l d ts distinct = omega (arith, sum_zero ts)
 sums_on S (b ∷ bs) legal l d ts distinct =
     let day : ℕ → ℕ = day_of b.zone in
     let H : List Entry = b.history in
-    let split = sum_below (λ t. sum_by (kept_on l d t) (b ∷ bs)) (λ t. kept_on l d t b + sum_by (kept_on l d t) bs) (λ t. omega (arith, sum_by-cons (kept_on l d t) b bs)) ts in
+    let split = sum_by-le-sum_by (λ t. sum_by (kept_on l d t) (b ∷ bs)) (λ t. kept_on l d t b + sum_by (kept_on l d t) bs) ts (λ t. omega (arith, sum_by-cons (kept_on l d t) b bs)) in
     let parts = sum_plus (λ t. kept_on l d t b) (λ t. sum_by (kept_on l d t) bs) ts in
     let two = sum_plus (held_on day H l d) (settled_on day H l d) ts in
     let h = S.held day b.default H l d ts legal.0.legal distinct in

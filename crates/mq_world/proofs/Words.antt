@@ -3,7 +3,7 @@ pub use Rattle.std.proofs.Common.{Bool, Greater, Less, List, None, Option, Some,
 pub use Rattle.std.proofs.lemmas.Bool.{ne_eqb}
 pub use Rattle.std.proofs.lemmas.Bool.Decides.{nat_tests}
 pub use Rattle.std.proofs.lemmas.List.Elements.{All-from_recursion, recursion_from_All}
-pub use Rattle.std.proofs.lemmas.List.Sums.{sum_by-append, sum_by-cons}
+pub use Rattle.std.proofs.lemmas.List.Sums.{sum_by-append, sum_by-cons, sum_by-le-sum_by}
 pub use Rattle.std.specs.List.{AllByRecursion, list_all, list_any}
 pub use Rattle.std.specs.Option.{option_map, option_or}
 pub use Rattle.std.specs.Prelude.{All, codes, count_by, filter, length, nat_lt, not, pos, slice_get, sum_by, ℤ, ◌*◌, ◌<ℤ◌, ◌||◌, ◌↔◌, ◌≢◌, ◌≤ℤ◌, ◌⊎◌}
@@ -25,7 +25,7 @@ pub use Rattle.mq_ledger.specs.Answer.{answer, appended, history_of, reply, repl
 pub use Rattle.mq_ledger.specs.Arrivals.{has_id, id_of as ledger_id, is_below}
 unfoldable pub use Rattle.mq_ledger.specs.Arrivals.{floor}
 pub use Rattle.mq_ledger.specs.Day.{ByOffset, IsDayRule, IsOffset, IsZone, clock, day_of}
-pub use Rattle.mq_ledger.specs.History.{closes, counted, counted_in, ended, granted, granted_in, held, is_of, named, requests, reserved, same_transaction, settled, settled_in, transaction, used}
+pub use Rattle.mq_ledger.specs.History.{Transaction, closes, counted, counted_in, ended, granted, granted_in, held, is_of, named, requests, reserved, same_transaction, settled, settled_in, transaction, used}
 pub use Rattle.mq_ledger.specs.Legal.{Book, IsLegal, IsLegalBook}
 pub use Rattle.mq_ledger.specs.Limits.{cap}
 pub use Rattle.mq_ledger.specs.Suits.{Suits as RepliesSuit}
@@ -33,7 +33,7 @@ pub use Rattle.mq_ledger.specs.Sums.{AreDistinct, held_on, is_for, names_for, se
 pub use Rattle.mq_ledger.specs.declared.entry.Entry.{Entry}
 pub use Rattle.mq_ledger.specs.declared.zone.Zone.{Zone}
 pub use Rattle.mq_lemmas.proofs.Booleans.{both_so, clash, either, either_of, first_so, neither_first, neither_second, not_false, second_so}
-pub use Rattle.mq_lemmas.proofs.Lists.{In, all_at, all_drop, all_filter, all_push, in_filter}
+pub use Rattle.mq_lemmas.proofs.Lists.{In, all_at, all_drop, all_filter, all_of, all_push, in_filter, weaker}
 pub use Rattle.mq_lemmas.proofs.Numbers.{number_is, number_itself, zero_or_more}
 pub use Rattle.mq_lemmas.proofs.Options.{none_some, option_cases, some_is}
 pub use Rattle.mq_line.specs.Grammar.{ConfigLine, FilterLine, IsStamp, Meaning, OtherLine, Reads as IsRead, ReadyLine, ReportLine}

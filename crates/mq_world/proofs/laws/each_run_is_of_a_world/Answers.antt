@@ -1,7 +1,7 @@
 -- One run goes on through worlds, as its contract says.
-use Rattle.mq_world.proofs.Words.{Action, AfterReady, Answers, ArePlayed, Asks, BeforeReady, Bool, Closes, Closing, ComeInTurn, Drain, Ended, EndsWith, Exchange, FilterLine, Filters, Goes, HasText, Holding, IsDecision, IsInHand, IsPlayed, IsUnderway, List, MakesAll, Meaning, None}
-use Rattle.mq_world.proofs.Words.{Option, Outside, Passes, Plays, Query, Refuses, Request, Some, Source, Stage, State, Step, StopsAt, Takes, [], action_of, ap, asking_of, at_line, close_of, closing, drained, exchanges_in, false, fault, held_back, held_for, inl, inr}
-use Rattle.mq_world.proofs.Words.{is_some, next, next_of, none_some, option_map, push, query, queue_of, refl, request_frame, subst, sym, tries_in, true, view, ℕ, ◌++◌, ◌∙◌, ◌∷◌, ◌≡◌, ◌⊎◌}
+use Rattle.mq_world.proofs.Words.{Action, AfterReady, Answers, ArePlayed, Asks, BeforeReady, Bool, Closes, Closing, ComeInTurn, Drain, Ended, EndsWith, Exchange, FilterLine, Filters, Goes, HasText, Holding, IsDecision, IsInHand, IsPlayed, IsUnderway, List, MakesAll, Meaning, None, Option, Outside}
+use Rattle.mq_world.proofs.Words.{Passes, Plays, Query, Refuses, Request, Some, Source, Stage, State, Step, StopsAt, Takes, [], action_of, ap, asking_of, at_line, close_of, closing, drained, exchanges_in, false, fault, held_back, held_for, inl, inr, is_some, next, next_of, none_some, option_map}
+use Rattle.mq_world.proofs.Words.{push, query, queue_of, refl, request_frame, subst, sym, tries_in, true, view, ℕ, ◌++◌, ◌∙◌, ◌∷◌, ◌≡◌, ◌⊎◌}
 use Rattle.std.proofs.lemmas.List.{append-nil}
 use Rattle.mq_line.specs.declared.results.Decision.{Decision}
 use Rattle.mq_client.specs.declared.spans.Spans.{Spans}
@@ -9,6 +9,7 @@ use Rattle.mq_client.specs.declared.fault.FilterFault.{FilterFault}
 use Rattle.mq_client.specs.declared.fault.FilterFault.TheVariants as faults
 use Rattle.mq_world.specs.World.{Site, Run, World, fresh, IsUp, ReadsOn, begun, after_line, after_end, next_request, with_on_way, after_exchange, after_stop, MayCome, with_run, with_sent, Next, Reads, ReadsEnd, Sends, Ends, Stops, Reaches, AtOnce, Later}
 use Rattle.mq_world.specs.Running.{ran, step_of, unsent, exchanges_of, OthersGoOn, NobodyYet, OneStep, GoesOnAround, Before, During, IsNew, lines_at, IsOrOneMore}
+use Rattle.mq_world.proofs.Ways.{joined}
 use Rattle.mq_world.proofs.Others.{twice, itself, anywhere}
 use Rattle.mq_world.proofs.Worlds.{same_itself}
 use Rattle.mq_world.proofs.laws.each_run_is_of_a_world.Goals as goal
@@ -122,13 +123,17 @@ group_goes site w mid s L a b P e y group later (During x earlier before ended e
     (exchange_ends site (with_run ended s sending) s L a b x earlier P e y (stands ended s sending) may turn.1) in
     others_on site w ended s (ran L (step_of a b (x ∷ earlier) ∷ P) e) end after now
 
-line_goes : InTurn → (site : Site) (w mid later : World) (s : Source) (L : List Meaning) (P : List Step) (m : Meaning) (step : Option Step) (text : List ℕ) (k : Holding) → site.is_run s ≡ true → IsPlayed s (site.tries s) P
-    → IsPlayed s (site.tries s) (push step P) → Takes k L m step text → GoesOnAround site s mid (exchanges_of step) later → Reaches site w (with_run mid s (ran L P false))
+played_before : (s : Source) (tries : ℕ) (step : Option Step) (P : List Step) → IsPlayed s tries (push step P) → IsPlayed s tries P
+played_before s tries None P played = played
+played_before s tries (Some x) P played = played.1
+
+line_goes : InTurn → (site : Site) (w mid later : World) (s : Source) (L : List Meaning) (P : List Step) (m : Meaning) (step : Option Step) (text : List ℕ) (k : Holding) → site.is_run s ≡ true → IsPlayed s (site.tries s) (push step P)
+    → Takes k L m step text → GoesOnAround site s mid (exchanges_of step) later → Reaches site w (with_run mid s (ran L P false))
     → Reaches site w (with_run later s (ran (m ∷ L) (push step P) false))
-line_goes T site w mid later s L P m step text k y played also takes around way =
+line_goes T site w mid later s L P m step text k y also takes around way =
     let begun : Reaches site w (with_run mid s (ran (m ∷ L) (push (option_map unsent step) P) false)) =
     goes_to site w mid s (ran L P false) (ran (m ∷ L) (push (option_map unsent step) P) false) way
-    (line_begins site (with_run mid s (ran L P false)) s L P m step text k y (stands mid s (ran L P false)) played takes) in
+    (line_begins site (with_run mid s (ran L P false)) s L P m step text k y (stands mid s (ran L P false)) (played_before s (site.tries s) step P also) takes) in
     step_goes T site w mid later s (m ∷ L) P step y also around begun
   where
     step_goes : InTurn → (site : Site) (w mid later : World) (s : Source) (L : List Meaning) (P : List Step) (step : Option Step) → site.is_run s ≡ true → IsPlayed s (site.tries s) (push step P)
@@ -149,21 +154,12 @@ exchanges_push : (step : Option Step) (P : List Step) → exchanges_in (push ste
 exchanges_push None P = refl
 exchanges_push (Some x) P = refl
 
-played_before : (s : Source) (tries : ℕ) (step : Option Step) (P : List Step) → IsPlayed s tries (push step P) → IsPlayed s tries P
-played_before s tries None P played = played
-played_before s tries (Some x) P played = played.1
-
 -- an exchange of a played step in its turn
 played_turn : InTurn → (s : Source) (tries : ℕ) (P : List Step) (a : Action) (b : Bool) (later : List Exchange) (x : Exchange) (group : List Exchange) → Plays s tries P (step_of a b (later ++ x ∷ group))
     → (next s (tries_in tries b) (view s P) a group ≡ Some x.request) × IsDecision x.request x.outcome x.decided
 played_turn T s tries P a b later x group plays = turn_of (tries_in tries b) (queue_of s (view s P) (held_for (view s P) a) a) later x group (T s tries P (step_of a b (later ++ x ∷ group)) plays)
 
 -- ---- whole runs
-
-line_more : InTurn → (site : Site) (w mid later : World) (s : Source) (L : List Meaning) (P : List Step) (m : Meaning) (step : Option Step) (text : List ℕ) (k : Holding) → site.is_run s ≡ true → IsPlayed s (site.tries s) (push step P) → Takes k L m step text
-    → GoesOnAround site s mid (exchanges_of step) later → Reaches site w (with_run mid s (ran L P false)) → Reaches site w (with_run later s (ran (m ∷ L) (push step P) false))
-line_more T site w mid later s L P m step text k y played takes around way =
-    line_goes T site w mid later s L P m step text k y (played_before s (site.tries s) step P played) played takes around way
 
 -- nothing was read, and nothing asked
 none_go : InTurn → (site : Site) (w later : World) (s : Source) (steps : List Step) → w.runs s ≡ fresh → steps ≡ [] → GoesOnAround site s w (exchanges_in steps) later → Reaches site w (with_run later s (ran [] steps false))
@@ -178,7 +174,7 @@ lines_go T site w later s spans (m ∷ L) steps text k y is (step, before, writt
     let all : GoesOnAround site s w (exchanges_of step ++ exchanges_in before) later = subst (λ l. GoesOnAround site s w l later) (ap exchanges_in whole ∙ exchanges_push step before) around in
     let (mid, first, then) = parts site s w later (exchanges_of step) (exchanges_in before) all in
     let way : Reaches site w (with_run mid s (ran L before false)) = lines_go T site w mid s spans L before written held y is h (played_before s (site.tries s) step before now) first in
-    subst (λ l. Reaches site w (with_run later s (ran (m ∷ L) l false))) (sym whole) (line_more T site w mid later s L before m step next (at_line spans m held) y now takes then way)
+    subst (λ l. Reaches site w (with_run later s (ran (m ∷ L) l false))) (sym whole) (line_goes T site w mid later s L before m step next (at_line spans m held) y now takes then way)
 
 -- the input ends, and what waits is sent
 end_goes : InTurn → (site : Site) (w mid later : World) (s : Source) (L : List Meaning) (steps : List Step) (group : List Exchange) → site.is_run s ≡ true → IsPlayed s (site.tries s) (drained group steps)
@@ -242,7 +238,7 @@ hand_goes : InTurn → (site : Site) (w mid later : World) (s : Source) (spans :
     → GoesOnAround site s mid (exchanges_of step) later → Goes spans h stage line step text → Reaches site w (with_run mid s (ran (lines_at stage) P false)) → StopsIn site w later s (lines_at stage) (push step P)
 hand_goes T site w mid later s spans h BeforeReady P line step text y played around goes way = none_goes site w mid later s [] P step y goes.1 around way
 hand_goes T site w mid later s spans h (AfterReady L) P line step text y played around (m, reads, takes) way =
-    (m ∷ L, inr (m, refl), stop_goes site w later s (m ∷ L) (push step P) y (line_more T site w mid later s L P m step text (at_line spans m h) y played takes around way))
+    (m ∷ L, inr (m, refl), stop_goes site w later s (m ∷ L) (push step P) y (line_goes T site w mid later s L P m step text (at_line spans m h) y played takes around way))
 
 stopped_goes : InTurn → (site : Site) (w later : World) (s : Source) (o : Outside) (pieces : List (List ℕ)) (source : Option (List ℕ)) (now : Outside) (read_failed write_failed : Bool) (f : FilterFault)
     (h : StopsAt o pieces source now read_failed write_failed f) → IsNew site w s o.client → GoesOnAround site s w (exchanges_in (push h.step h.steps)) later → StopsIn site w later s (lines_at h.stage) (push h.step h.steps)
@@ -257,11 +253,6 @@ stopped_goes T site w later s o pieces source now read_failed write_failed f h n
     ]
 
 -- ---- all runs together
-
--- steps from a start on
-joined : (site : Site) (start v w : World) → Reaches site start v → Reaches site v w → Reaches site start w
-joined site start v w way AtOnce = way
-joined site start v w way (Later y last r n) = Later y last (joined site start v y way r) n
 
 pub returns : goal.returns
 returns c =
@@ -278,5 +269,5 @@ returns c =
       stopped = stopped_goes T;
       limit = λ site start w later s o bytes now e h start_is reached n around l d ts distinct.
           c.never_past_the_limit.ensures.limit site start (with_run later s (ran h.after_ready (drained h.group h.steps) true)) start_is
-          (joined site start w (with_run later s (ran h.after_ready (drained h.group h.steps) true)) reached (whole_goes T site w later s o bytes now e h n around)) l d ts distinct;
+          (joined reached (whole_goes T site w later s o bytes now e h n around)) l d ts distinct;
     }

@@ -1,6 +1,5 @@
 -- Where nothing is forgotten: no day is before day 0.
-use Rattle.mq_world.proofs.Words.{Held, Some, ap, arith, inl, inr, option_cases, ℕ, ◌≡◌, ◌≤◌}
-use Rattle.mq_ledger.specs.History.{Transaction}
+use Rattle.mq_world.proofs.Words.{Held, Some, Transaction, ap, arith, inl, inr, option_cases, ℕ, ◌≡◌, ◌≤◌}
 use Rattle.mq_world.specs.World.{Site, World, Reaches}
 use Rattle.mq_world.specs.Law.{standing_of, counting, granted_of, let_by}
 use Rattle.mq_world.specs.Forgetting.{ReachesForgetting, FromStart}

@@ -1,12 +1,11 @@
 -- Every state of the world, step by step, and what follows in each.
-use Rattle.mq_world.proofs.Words.{Action, AllByRecursion, Answered, AreDistinct, AreUnderway, Book, Bool, Drain, Entry, Exchange, Faulted, Held, In, IsDecision, IsLegalBook, IsPlayed, IsReply, List, Meaning, None, NoneReturns, Option, Outcome, Request, Reserve}
-use Rattle.mq_world.proofs.Words.{Some, Source, SpellsRequest, Standing, Step, Zone, [], action_of, actions, actions_of, all_at, ap, arith, begin_count, clash, day_of, decides, either, false, fault, frame, history_of, id_of, inl, inr, ledger_id, none_some, option_map, push, refl, reply, reply_body}
-use Rattle.mq_world.proofs.Words.{request_body, request_frame, requests, slice_get, standing_in, subst, sum_by, sym, true, view, with_arrival, ℕ, ◌++◌, ◌∙◌, ◌∷◌, ◌≡◌, ◌≤◌}
-use Rattle.mq_ledger.specs.History.{Transaction}
+use Rattle.mq_world.proofs.Words.{Action, AllByRecursion, Answered, AreDistinct, AreUnderway, Book, Bool, Drain, Entry, Exchange, Faulted, Held, In, IsDecision, IsLegalBook, IsPlayed, IsReply, List, Meaning, Never, None, NoneReturns, Option, Outcome, Request, Reserve, Some, Source, SpellsRequest}
+use Rattle.mq_world.proofs.Words.{Standing, Step, Transaction, Zone, [], action_of, actions, actions_of, all_at, ap, arith, begin_count, clash, day_of, decides, either, false, fault, frame, history_of, id_of, inl, inr, ledger_id, none_some, option_map, push, refl, reply, reply_body, request_body}
+use Rattle.mq_world.proofs.Words.{request_frame, requests, slice_get, standing_in, subst, sum_by, sum_by-le-sum_by, sym, true, view, weaker, with_arrival, ℕ, ◌++◌, ◌∙◌, ◌∷◌, ◌≡◌, ◌≤◌}
 use Rattle.mq_world.specs.World.{Site, Run, World, fresh, IsOfOthers, IsFrameOfOthers, IsReplyToOthers, IsStart, IsUp, ReadsOn, begun, after_line, after_end, next_request, with_on_way, with_exchange, after_exchange, after_stop, MayCome, same_source, with_run, with_sent, after_arrival, Next, Reads, ReadsEnd, Sends, Ends, Takes, OthersSend, Stops}
 use Rattle.mq_world.specs.Forgetting.{forgotten}
 use Rattle.mq_world.specs.Together.{Together, with_ledger, IsStartTogether, ReachesTogether, FromStart, Steps, Moves, Forgets, kept_of, used_of, cap_of}
-use Rattle.mq_world.proofs.Basics.{in_back, in_either, in_get, all_put, sum_below}
+use Rattle.mq_world.proofs.Basics.{in_back, in_either, in_get, all_put}
 use Rattle.mq_world.proofs.Known.{Known, OfSums, OfFrames, OfLedgers}
 use Rattle.mq_world.proofs.Pools.{pool, places_change}
 use Rattle.mq_world.proofs.Numbers.{IsOwn, same_own}
@@ -261,10 +260,6 @@ pool_suit : OfLedgers → (bs : List Book) → AllByRecursion IsLegalBook bs →
 pool_suit L [] legal = λ e i. absurd i
 pool_suit L (b ∷ bs) legal = both_suit b.history (pool bs) (all_suit L b legal.0) (pool_suit L bs legal.1)
 
-starts_legal : (site : Site) (w : World) (bs : List Book) → AllByRecursion (λ b. IsStart site (with_ledger b w)) bs → AllByRecursion IsLegalBook bs
-starts_legal site w [] z = tt
-starts_legal site w (b ∷ bs) z = (z.0.ledger, starts_legal site w bs z.1)
-
 starts_of_others : (site : Site) (w : World) (bs : List Book) → AllByRecursion (λ b. IsStart site (with_ledger b w)) bs → NoneOwn site (pool bs)
 starts_of_others site w [] z = λ e i. absurd i
 starts_of_others site w (b ∷ bs) z = λ e i. elim (in_either b.history (pool bs) e i) [
@@ -274,7 +269,7 @@ starts_of_others site w (b ∷ bs) z = λ e i. elim (in_either b.history (pool b
 
 start_sound : OfLedgers → (F : ℕ) (site : Site) (c : Together) → IsStartTogether site c → AreSound site F c.world c.standby
 start_sound L F site c z =
-    let legal = starts_legal site c.world c.standby z.standby in
+    let legal = weaker (λ b. IsStart site (with_ledger b c.world)) IsLegalBook (λ b y. y.ledger) c.standby z.standby in
     record {
       sound = sound_start F site c.world (pool c.standby) z.first (pool_suit L c.standby legal) (starts_of_others site c.world c.standby z.standby);
       legal = legal;
@@ -319,11 +314,9 @@ reached_sound K R site F start c z (Forgets v D r below) =
 
 -- ---- from what holds in every state to the law
 
-idle_let : (r : Run) (t n : ℕ) → r ≡ fresh → let_by (standing_in r.past t) ≤ n
-idle_let r t n e = let F : Run → Type 0 = λ x. let_by (standing_in x.past t) ≤ n in subst F (sym e) (omega arith)
-
-idle_on : (day : ℕ → ℕ) (l : List ℕ) (d : ℕ) (r : Run) (t n : ℕ) → r ≡ fresh → let_on day l d (standing_in r.past t) ≤ n
-idle_on day l d r t n e = let F : Run → Type 0 = λ x. let_on day l d (standing_in x.past t) ≤ n in subst F (sym e) (omega arith)
+-- a fresh run let nothing through
+idle : (f : Standing → ℕ) (r : Run) (t n : ℕ) → r ≡ fresh → f Never ≡ 0 → f (standing_in r.past t) ≤ n
+idle f r t n e none = let F : Run → Type 0 = λ x. f (standing_in x.past t) ≤ n in subst F (sym e) (omega (arith, none))
 
 -- what holds of the ledgers of all servers
 all_legal : {F : ℕ} → (site : Site) (w : World) (bs : List Book) → AreSound site F w bs → AllByRecursion IsLegalBook (w.ledger ∷ bs)
@@ -332,7 +325,7 @@ all_legal site w bs h = (h.sound.ledger, h.legal)
 sound_each : {F : ℕ} → Known → (site : Site) (w : World) (bs : List Book) → AreSound site F w bs → (t : Transaction) (k : Held) → counting (standing_of w t) ≡ Some k → F ≤ day_of w.ledger.zone k.moment
     → let_by (standing_of w t) ≤ sum_by (kept_of t) (w.ledger ∷ bs)
 sound_each {F = F} K site w bs h t = elim (either (site.is_run (run_of t))) [
-  | inr n ↦ λ k is on. idle_let (w.runs (run_of t)) t.txn _ (h.sound.idle (run_of t) n)
+  | inr n ↦ λ k is on. idle let_by (w.runs (run_of t)) t.txn _ (h.sound.idle (run_of t) n) refl
   | inl y ↦ (let s = run_of t in
       let day : ℕ → ℕ = day_of w.ledger.zone in
       let r : Run = w.runs s in
@@ -352,7 +345,7 @@ sound_each {F = F} K site w bs h t = elim (either (site.is_run (run_of t))) [
 sound_on : {F : ℕ} → Known → (site : Site) (w : World) (bs : List Book) → AreSound site F w bs → (l : List ℕ) (d : ℕ) → F ≤ d → (t : Transaction)
     → let_on (day_of w.ledger.zone) l d (standing_of w t) ≤ sum_by (kept_on l d t) (w.ledger ∷ bs)
 sound_on {F = F} K site w bs h l d from t = elim (either (site.is_run (run_of t))) [
-  | inr n ↦ idle_on (day_of w.ledger.zone) l d (w.runs (run_of t)) t.txn _ (h.sound.idle (run_of t) n)
+  | inr n ↦ idle (let_on (day_of w.ledger.zone) l d) (w.runs (run_of t)) t.txn _ (h.sound.idle (run_of t) n) refl
   | inl y ↦ (let s = run_of t in
       let day : ℕ → ℕ = day_of w.ledger.zone in
       let r : Run = w.runs s in
@@ -376,7 +369,7 @@ sound_on {F = F} K site w bs h l d from t = elim (either (site.is_run (run_of t)
 sound_together : {F : ℕ} → Known → OfSums → (site : Site) (w : World) (bs : List Book) → AreSound site F w bs → (l : List ℕ) (d : ℕ) (ts : List Transaction) → AreDistinct ts → F ≤ d
     → let_together w l d ts ≤ sum_by (used_of l d) (w.ledger ∷ bs)
 sound_together K S site w bs h l d ts distinct from =
-    let below = sum_below (λ t. let_on (day_of w.ledger.zone) l d (standing_of w t)) (λ t. sum_by (kept_on l d t) (w.ledger ∷ bs)) (sound_on K site w bs h l d from) ts in
+    let below = sum_by-le-sum_by (λ t. let_on (day_of w.ledger.zone) l d (standing_of w t)) (λ t. sum_by (kept_on l d t) (w.ledger ∷ bs)) ts (sound_on K site w bs h l d from) in
     let used = sums_on S (w.ledger ∷ bs) (all_legal site w bs h) l d ts distinct in
     omega (arith, below, used)
 

@@ -1,14 +1,13 @@
 -- A world of two runs, step by step.
 use Rattle.mq_world.proofs.Words.{All-from_recursion, AllByRecursion, Answered, AreTries, Ask, Book, Bool, ByOffset, Close, Drain, Ended, EndsWith, Entry, Exchange, FilterLine, Filters, Greater, Held, Id, IsCount, IsHost, IsHostByte, IsId, IsLegalBook, IsMoment, IsOffset, IsOrdinal, IsPlayed}
-use Rattle.mq_world.proofs.Words.{IsRead, IsReady, IsReply, IsRequest, IsRun, IsStamp, IsTry, IsZone, Less, List, MakesAll, Meaning, None, NoneYet, Outside, Reply, ReportLine, Request, Retire, SendsAll, SendsUpTo, Settle, Some, Source, SpellsReply, State, Step, TimedOut, [], ap, arith, cap, clash}
-use Rattle.mq_world.proofs.Words.{clock, codes, count_by, day_of, decides, drained, either, either_of, exchanges_in, false, fault, first_so, floor, frame, held, id_in, id_of, if◌then◌else◌, inl, inr, is_eq, ledger_reply, length, list_all, nat_le, nat_lt, nat_tests, ne_eqb, not, nothing_held}
-use Rattle.mq_world.proofs.Words.{number_is, number_itself, pos, refl, reply_body, request_body, request_frame, requests, reserve_of, same_text, second_so, settled_in, slice_get, some_is, subst, sym, told_steps, true, ℕ, ℤ, ◌*◌, ◌++◌, ◌+◌, ◌<ℤ◌, ◌<◌, ◌==◌, ◌||◌, ◌∙◌, ◌∷◌, ◌≡◌, ◌≢◌, ◌≤ℤ◌, ◌≤◌}
+use Rattle.mq_world.proofs.Words.{IsRead, IsReady, IsReply, IsRequest, IsRun, IsStamp, IsTry, IsZone, Less, List, MakesAll, Meaning, None, NoneYet, Outside, Reply, ReportLine, Request, Retire, SendsAll, SendsUpTo, Settle, Some, Source, SpellsReply, State, Step, TimedOut, Transaction, [], all_of, ap}
+use Rattle.mq_world.proofs.Words.{arith, cap, clash, clock, codes, count_by, day_of, decides, drained, either, either_of, exchanges_in, false, fault, floor, frame, held, id_of, if◌then◌else◌, inl, inr, is_eq, ledger_reply, length, list_any, nat_le, nat_lt, nat_tests, ne_eqb, nothing_held, number_is}
+use Rattle.mq_world.proofs.Words.{number_itself, pos, refl, reply_body, request_body, request_frame, requests, reserve_of, same_text, settled_in, slice_get, some_is, subst, sym, told_steps, true, ℕ, ℤ, ◌*◌, ◌++◌, ◌+◌, ◌<ℤ◌, ◌<◌, ◌==◌, ◌||◌, ◌∙◌, ◌∷◌, ◌≡◌, ◌≢◌, ◌≤ℤ◌, ◌≤◌}
 use Rattle.std.proofs.lemmas.Int.{ints}
 use Rattle.mq_line.specs.Results.{registration, result_text}
 use Rattle.mq_line.specs.Text.{IsLine, text_of}
 use Rattle.mq_line.specs.declared.results.Decision.TheVariants.{Proceed}
 use Rattle.mq_request.specs.declared.message.Reply.TheVariants.{Granted, Full, Old, Retired, Settled, TooMany}
-use Rattle.mq_ledger.specs.History.{Transaction}
 use Rattle.mq_client.proofs.Making as making
 use Rattle.mq_client.proofs.Looping.{makes_none, makes_push}
 use Rattle.mq_client.specs.Past.{find}
@@ -21,7 +20,8 @@ use Rattle.mq_world.specs.Forgetting.{forgotten, ReachesForgetting, FromStart, F
 use Rattle.mq_world.specs.Together.{Together, with_ledger, IsStartTogether, ReachesTogether}
 use Rattle.mq_world.specs.Together as servers
 use Rattle.mq_world.proofs.Runs.{step}
-use Rattle.mq_world.proofs.Ways.{with_steps, with_steps_together}
+use Rattle.mq_world.proofs.Basics.{not_any}
+use Rattle.mq_world.proofs.Ways.{joined, with_steps, with_steps_together}
 use Rattle.mq_world.proofs.Worlds.{source_is}
 use Rattle.mq_world.proofs.laws.what_may_happen.Goals as goal
 
@@ -259,11 +259,6 @@ stored_reply : (b : Book) → 1 ≤ b.default → reply_from (taken b).ledger (r
 unfolding floor
 stored_reply b le = grants 1 1 noon b le
 
--- it knows a retired run no longer
-old_reply : (b : Book) → reply_from (retired b).ledger (settle 2 1) ≡ Old (id_of here 2)
-unfolding floor
-old_reply b = refl
-
 given_up_entries : (b : Book) → 1 ≤ b.default → (given_up b).ledger.history ≡ entry (request here) reply ∷ entry (Retire retire_id) (Retired retire_id) ∷ []
 unfolding floor
 given_up_entries b le = ap (λ a. entry (request here) a ∷ entry (Retire retire_id) (Retired retire_id) ∷ []) (grants 1 1 noon b le)
@@ -287,10 +282,6 @@ split_entries a b le = subst (λ x. (split a b).ledger.history ≡ entry (second
     (ap (λ x. entry (second_request 1 noon) (reply_from (unused b) (second_request 1 noon)) ∷ entry (settle 3 2) x ∷ []) (too_many a b le))
 
 -- the frame of its reply is written for each frame that it takes
-written_once : (b : Book) → 1 ≤ b.default → times_written reply (taken b) ≡ 1
-unfolding floor
-written_once b le = ap (λ a. count_by (same_text (frame (reply_body reply))) (frame (reply_body a) ∷ [])) (grants 1 1 noon b le)
-
 each_written : (a b : Reply) → a ≡ reply → b ≡ reply → count_by (same_text (frame (reply_body reply))) (frame (reply_body a) ∷ frame (reply_body b) ∷ []) ≡ 2
 each_written a b e f =
     ap (λ x. count_by (same_text (frame (reply_body reply))) (frame (reply_body x) ∷ frame (reply_body b) ∷ [])) e
@@ -324,11 +315,6 @@ answering w q a r up on replied range decide = Later _ _ r (Ends here (decided q
 exchanging : {first w : World} → (q : Request) (a : Reply) → Reaches site first w → (w.runs here).is_stopped ≡ false → (w.runs here).on_way ≡ None → next_request here 3 (w.runs here).past ≡ Some q → IsRequest q → reply_from w.ledger q ≡ a → IsReply a
     → decides q a ≡ true → Reaches site first (exchanged w q a)
 exchanging {w = w} q a r up none turn range replied fits decide = answering (sends w here q) q a (taking 0 q (sending here q r refl up none turn) refl range) up refl replied fits decide
-
--- steps after steps
-joined : {w v z : World} → Reaches site w v → Reaches site v z → Reaches site w z
-joined r AtOnce = r
-joined r (Later y last q n) = Later y last (joined r q) n
 
 -- ---- the ways to these worlds
 
@@ -370,14 +356,11 @@ to_late one_reply b le =
 abbrev pub OneRequest : Type 0
 OneRequest = (q r : Request) → IsRequest q → IsRequest r → frame (request_body q) ≡ frame (request_body r) → q ≡ r
 
-retire_of_others : (id : Id) → id_in (Retire retire_id) ≡ Some id → site.is_run (source_of id) ≡ false
-retire_of_others id e = ap (λ (i : Id). site.is_run (source_of i)) (sym (some_is retire_id id e))
-
 frame_of_others : OneRequest → IsFrameOfOthers site (request_frame (Retire retire_id))
 frame_of_others one_request = λ body q e spells.
     let F : List ℕ → Type 0 = λ x. frame (request_body (Retire retire_id)) ≡ frame x in
     let is : Retire retire_id ≡ q = one_request (Retire retire_id) q retire_range spells.in_range (subst F spells.bytes e) in
-    subst (IsOfOthers site) is retire_of_others
+    subst (IsOfOthers site) is (λ id same. ap (λ (i : Id). site.is_run (source_of i)) (sym (some_is retire_id id same)))
 
 -- an exchange that the reply decided is a try of its request
 decides_it : (q : Request) (a : Reply) → IsReply a → decides q a ≡ true → IsTry q (decided q a) (Some a)
@@ -393,10 +376,11 @@ asked_once =
     ((Some reply, (decides_it (request here) reply (granting_range 1 one) refl, (first, tt), omega arith)), tt)
 
 to_given_up : OneRequest → (b : Book) → 1 ≤ b.default → Reaches site (granted b) (given_up b)
+unfolding floor
 to_given_up one_request b le =
     let sent : Reaches site (granted b) (with_sent (granted b) (request_frame (Retire retire_id))) = Later _ _ AtOnce (OthersSend (request_frame (Retire retire_id)) (frame_of_others one_request)) in
     let read = reading here false commit_line (taking 0 (Retire retire_id) sent refl retire_range) refl refl refl refl refl asked_once in
-    exchanging (settle 2 1) (Old (id_of here 2)) read refl refl refl (settle_range 2 1 two one_count) (old_reply b) (id_range 2 two) refl
+    exchanging (settle 2 1) (Old (id_of here 2)) read refl refl refl (settle_range 2 1 two one_count) refl (id_range 2 two) refl
 
 -- a quiet step sends nothing, and its closing waits
 closed_quietly : IsPlayed here 3 (step (Close 1 ending.Commit) true [] ∷ asked_steps)
@@ -448,7 +432,7 @@ answers_again b legal le = reachable b legal WasAnsweredAgain (granted b) (to_gr
   fault = TimedOut;
   before = taken b;
   reached = to_taken b;
-  written = written_once b le;
+  written = ap (λ a. count_by (same_text (frame (reply_body reply))) (frame (reply_body a) ∷ [])) (grants 1 1 noon b le);
   lost = loses b;
   later = from_lost b le;
   written_again = written_twice b le;
@@ -561,9 +545,6 @@ made =
 
 -- ---- its lines
 
-abbrev pub ready_text : List ℕ
-ready_text = codes "config|ready"
-
 abbrev pub login_text : List ℕ
 login_text = codes "report|0.7|1700000000.000000|smtp-in|link-auth|s|pass|u"
 
@@ -574,37 +555,30 @@ abbrev pub recipient_text : List ℕ
 recipient_text = codes "filter|0.7|1700000000.000000|smtp-in|rcpt-to|s|t|r"
 
 abbrev pub texts : List (List ℕ)
-texts = ready_text ∷ login_text ∷ begin_text ∷ recipient_text ∷ []
+texts = codes "config|ready" ∷ login_text ∷ begin_text ∷ recipient_text ∷ []
 
-lacks : (bytes : List ℕ) → list_all (λ b. not (b == 10)) bytes ≡ true → AllByRecursion (λ b. b ≢ 10) bytes
-lacks [] e = tt
-lacks (b ∷ bytes) e = (differs b (first_so (not (b == 10)) (list_all (λ b. not (b == 10)) bytes) e), lacks bytes (second_so (not (b == 10)) (list_all (λ b. not (b == 10)) bytes) e))
-  where
-    differs : (b : ℕ) → not (b == 10) ≡ true → b ≢ 10
-    differs b e is = clash (not (b == 10)) e (ap (λ x. not (x == 10)) is)
-
-is_line : (bytes : List ℕ) → list_all (λ b. not (b == 10)) bytes ≡ true → length bytes ≤ 65536 → IsLine bytes
-is_line bytes e short = record { one = All-from_recursion (λ b. b ≢ 10) bytes (lacks bytes e); short = short }
+is_line : (bytes : List ℕ) → list_any (λ b. b == 10) bytes ≡ false → length bytes ≤ 65536 → IsLine bytes
+is_line bytes none short = record {
+  one = All-from_recursion (λ b. b ≢ 10) bytes (all_of (λ b. b ≢ 10) bytes (λ b i is. clash (b == 10) (ap (λ x. x == 10) is) (not_any (λ x. x == 10) bytes none b i)));
+  short = short;
+}
 
 stamp : (names : List (List ℕ)) → AllByRecursion (λ name. name ≢ []) names → IsStamp (codes "0.7") (codes "1700000000.000000") names noon
 stamp names named = record { protocol = refl; moment = refl; named = named }
 
-not_empty : (b : ℕ) (bytes : List ℕ) → (b ∷ bytes) ≢ []
-not_empty b bytes e = cc
-
 reads_login : IsRead login_text (login_line (codes "s") noon)
-reads_login = (codes "0.7", codes "1700000000.000000", codes "pass" ∷ codes "u" ∷ [], refl, stamp (codes "smtp-in" ∷ codes "link-auth" ∷ codes "s" ∷ []) (not_empty _ _, (not_empty _ _, (not_empty _ _, tt))), refl)
+reads_login = (codes "0.7", codes "1700000000.000000", codes "pass" ∷ codes "u" ∷ [], refl, stamp (codes "smtp-in" ∷ codes "link-auth" ∷ codes "s" ∷ []) (λ e. cc, (λ e. cc, (λ e. cc, tt))), refl)
 
 reads_begin : IsRead begin_text (begin_line (codes "s") (codes "m") noon)
-reads_begin = (codes "0.7", codes "1700000000.000000", codes "m" ∷ [], refl, stamp (codes "smtp-in" ∷ codes "tx-begin" ∷ codes "s" ∷ []) (not_empty _ _, (not_empty _ _, (not_empty _ _, tt))), refl)
+reads_begin = (codes "0.7", codes "1700000000.000000", codes "m" ∷ [], refl, stamp (codes "smtp-in" ∷ codes "tx-begin" ∷ codes "s" ∷ []) (λ e. cc, (λ e. cc, (λ e. cc, tt))), refl)
 
 reads_recipient : IsRead recipient_text (recipient_line (codes "s") noon)
-reads_recipient = (codes "0.7", codes "1700000000.000000", codes "r" ∷ [], refl, stamp (codes "smtp-in" ∷ codes "rcpt-to" ∷ codes "s" ∷ codes "t" ∷ []) (not_empty _ _, (not_empty _ _, (not_empty _ _, (not_empty _ _, tt)))), refl)
+reads_recipient = (codes "0.7", codes "1700000000.000000", codes "r" ∷ [], refl, stamp (codes "smtp-in" ∷ codes "rcpt-to" ∷ codes "s" ∷ codes "t" ∷ []) (λ e. cc, (λ e. cc, (λ e. cc, (λ e. cc, tt)))), refl)
 
 is_ready : IsReady texts (mail_lines (codes "s") (codes "m") noon)
 is_ready = record {
   before = [];
-  ready = ready_text;
+  ready = codes "config|ready";
   after = login_text ∷ begin_text ∷ recipient_text ∷ [];
   whole = refl;
   early = tt;
@@ -641,7 +615,7 @@ ends_so = record {
   results = result;
   holding = nothing_held;
   group = [];
-  whole = record { whole = refl; each = (is_line ready_text refl (omega arith), (is_line login_text refl (omega arith), (is_line begin_text refl (omega arith), (is_line recipient_text refl (omega arith), tt)))) };
+  whole = record { whole = refl; each = (is_line (codes "config|ready") refl (omega arith), (is_line login_text refl (omega arith), (is_line begin_text refl (omega arith), (is_line recipient_text refl (omega arith), tt)))) };
   ready = is_ready;
   filters = filters;
   written = refl;
@@ -663,9 +637,6 @@ goes_around b le =
     During answered [] (start b) (around_run b) (around_run b) (Before (start b) NobodyYet) taken_once
     (inr (inr (0, ap (λ a. Some (frame (reply_body a))) (grants 1 1 noon b le)))) NobodyYet
 
-abbrev pub run_ended : Book → World
-run_ended b = with_run (around_run b) here (ran (mail_lines (codes "s") (codes "m") noon) (ending_all ∷ asking ∷ []) true)
-
 is_new : (b : Book) → IsNew site (start b) here new_client
 is_new b = record { is_run = refl; run = refl; source = refl; tries = refl; stands = record { held = λ txn. refl; live = refl; numbers = refl; waiting = refl } }
 
@@ -677,7 +648,7 @@ WholeRuns = (site : Site) (w later : World) (s : Source) (o : Outside) (bytes : 
 runs_to_its_end : WholeRuns → (b : Book) → IsLegalBook (unused b) → 1 ≤ b.default → IsReachable b HasRunToItsEnd
 unfolding ends_so
 runs_to_its_end whole b legal le =
-    reachable b legal HasRunToItsEnd (run_ended b)
+    reachable b legal HasRunToItsEnd _
     (whole site (start b) (around_run b) here before_run (text_of texts ++ []) after_run (record { answers = 1; left = 0 }) ends_so (is_new b) (goes_around b le)) (record {
       transaction = mail 1;
       before = before_run;
@@ -695,10 +666,6 @@ runs_to_its_end whole b legal le =
 
 -- ---- a day is forgotten while the run goes on
 
--- a way over a forgetting of the days before D
-abbrev pub OnwardAfter : Book → ℕ → World → Type 0
-OnwardAfter b D now = Reaches site (forgotten D (granted b)) now × ReachesForgetting site (start b) D now
-
 -- noon's reserve goes with its day
 one_goes : (e : Entry) (t : Bool) → t ≡ false → (if (t || false) then e ∷ [] else []) ≡ []
 one_goes e t f = rw f refl
@@ -710,7 +677,8 @@ forgets_noon b D before = one_goes (entry (request here) (reply_from (unused b) 
 is_cleared : (b : Book) (D : ℕ) → nat_le D (day_of b.zone noon) ≡ false → forgotten D (granted b) ≡ cleared b
 is_cleared b D before = ap (λ H. with_ledger (record { zone = b.zone; default = b.default; history = H }) (granted b)) (forgets_noon b D before)
 
-onward : (b : Book) (D : ℕ) (now : World) → 1 ≤ b.default → nat_le D (day_of b.zone noon) ≡ false → Reaches site (cleared b) now → OnwardAfter b D now
+-- a way over a forgetting of the days before D
+onward : (b : Book) (D : ℕ) (now : World) → 1 ≤ b.default → nat_le D (day_of b.zone noon) ≡ false → Reaches site (cleared b) now → Reaches site (forgotten D (granted b)) now × ReachesForgetting site (start b) D now
 onward b D now le before way =
     let went : Reaches site (forgotten D (granted b)) now = subst (λ w. Reaches site w now) (sym (is_cleared b D before)) way in
     let until = with_steps site D (start b) (start b) (granted b) FromStart (to_granted b le) in
@@ -727,11 +695,7 @@ noon_is_earlier floors minutes offset =
     let less : day_of (ByOffset minutes) noon < day_of (ByOffset minutes) afterwards = omega (arith, ints, first, second) in
     grind (arith, nat_tests, less)
 
--- a frame of the forgotten reserve comes once more
-requests_later : (b : Book) → requests (takes (granted_at afterwards b)).ledger.history ≡ second_request 2 afterwards ∷ request here ∷ []
-unfolding floor
-requests_later b = refl
-
+-- the run goes on, and a frame of the forgotten reserve comes once more
 goes_on : (b : Book) → nat_le (day_of b.zone afterwards) (day_of b.zone noon) ≡ false → IsLegalBook (unused b) → 1 ≤ b.default → IsReachable b WentOnThoughForgotten
 unfolding floor
 goes_on b before legal le =
@@ -758,7 +722,7 @@ goes_on b before legal le =
       is_one = refl;
       is_first_day = refl;
       request = second_request 2 afterwards;
-      taken_again = requests_later b;
+      taken_again = refl;
     })
 
 goes_on_at : Floors → (b : Book) (minutes : ℤ) → b.zone ≡ ByOffset minutes → IsLegalBook (unused b) → 1 ≤ b.default → IsReachable b WentOnThoughForgotten
@@ -766,21 +730,18 @@ goes_on_at floors b minutes is legal le =
     goes_on b (subst (λ z. nat_le (day_of z afterwards) (day_of z noon) ≡ false) (sym is) (noon_is_earlier floors minutes (subst IsZone is legal.zone))) legal le
 
 -- a forgotten day is used once more
-together_twice : (b : Book) → let_together (granted_at noon b) (codes "u") (day_of b.zone noon) (mail 1 ∷ mail 2 ∷ []) ≡ 2
-together_twice b = let same : (day_of b.zone noon == day_of b.zone noon) ≡ true = number_itself (day_of b.zone noon) in rw same refl
-
-cap_again : (b : Book) → cap (granted_at noon b).ledger.default (granted_at noon b).ledger.history (codes "u") (day_of b.zone noon) ≡ b.default
-unfolding floor
-cap_again b = refl
-
 passes_limit : (b : Book) → IsLegalBook (unused b) → b.default ≡ 1 → IsReachable b PassedOnAForgottenDay
+unfolding floor
 passes_limit b legal one_only =
-    let D : ℕ = day_of b.zone noon + 1 in
+    let d : ℕ = day_of b.zone noon in
+    let D : ℕ = d + 1 in
+    let both_let : let_together (granted_at noon b) (codes "u") d (mail 1 ∷ mail 2 ∷ []) ≡ 2 = rw (number_itself d) refl in
+    let limit : cap b.default (granted_at noon b).ledger.history (codes "u") d ≡ b.default = refl in
     let le : 1 ≤ b.default = omega (arith, one_only) in
     let way = onward b D (granted_at noon b) le (grind (arith, nat_tests)) (to_granted_at noon b noon_range le refl) in
     reachable b legal PassedOnAForgottenDay (granted b) (to_granted b le) (record {
       day = D;
-      over = day_of b.zone noon;
+      over = d;
       is_earlier = omega arith;
       now = granted_at noon b;
       went_on = way.0;
@@ -788,7 +749,7 @@ passes_limit b legal one_only =
       login = codes "u";
       transactions = mail 1 ∷ mail 2 ∷ [];
       distinct = (refl, (refl, tt));
-      passes = (let a = together_twice b in let c = cap_again b in omega (arith, a, c, one_only));
+      passes = omega (arith, both_let, limit, one_only);
     })
 
 -- ---- two servers
@@ -824,30 +785,18 @@ reachable_together a b fit Happened before now way on h =
       happened = h;
     }
 
-taken_entry : (a : Book) → 1 ≤ a.default → (taken a).ledger.history ≡ entry (request here) reply ∷ []
-unfolding floor
-taken_entry a le = first_entry a le
-
-there_entry : (a b : Book) → 1 ≤ b.default → (granted_there a b).ledger.history ≡ entry (request here) reply ∷ []
-unfolding floor
-there_entry a b le = first_entry b le
-
-written_by_each : (a b : Book) → 1 ≤ a.default → 1 ≤ b.default → times_written reply (granted_there a b) ≡ 2
-unfolding floor
-written_by_each a b le_a le_b = each_written _ _ (grants 1 1 noon b le_b) (grants 1 1 noon a le_a)
-
 grants_by_each : (a b : Book) → AreFit a b → IsReachableTogether a b WasGrantedByEach
 unfolding floor
 grants_by_each a b fit =
-    let first = taken_entry a fit.first_default in
-    let second = there_entry a b fit.second_default in
+    let first = first_entry a fit.first_default in
+    let second = first_entry b fit.second_default in
     reachable_together a b fit WasGrantedByEach (taken a) (granted_there a b) (to_taken a) (to_granted_there a b fit.second_default) (record {
       transaction = mail 1;
       is_run = refl;
       reserve = request here;
       reply = reply;
       sent = refl;
-      written = written_by_each a b fit.first_default fit.second_default;
+      written = each_written _ _ (grants 1 1 noon b fit.second_default) (grants 1 1 noon a fit.first_default);
       decides_it = refl;
       had = (ap requests second, (ap requests first, tt));
       is_one = refl;
@@ -872,29 +821,19 @@ splits a b fit = reachable_split a b fit WasSplit (record {
   hold = (ap (λ H. held H (mail 1)) (split_entries a b fit.second_default), (ap (λ H. held H (mail 1)) (first_entry a fit.first_default), tt));
 })
 
-two_together : (a b : Book) → let_together (split a b) (codes "u") (day_of b.zone noon) (mail 1 ∷ []) ≡ 2
-two_together a b = let same : (day_of b.zone noon == day_of b.zone noon) ≡ true = number_itself (day_of b.zone noon) in rw same refl
-
-first_cap : (a : Book) (d : ℕ) → cap (granted a).ledger.default (granted a).ledger.history (codes "u") d ≡ a.default
-unfolding floor
-first_cap a d = refl
-
-second_cap : (a b : Book) (d : ℕ) → cap (split a b).ledger.default (split a b).ledger.history (codes "u") d ≡ b.default
-unfolding floor
-second_cap a b d = refl
-
 passes_each : (a b : Book) → AreFit a b → a.default ≡ 1 → b.default ≡ 1 → IsReachableTogether a b PassedEachLimit
-passes_each a b fit one_a one_b = reachable_split a b fit PassedEachLimit (
+unfolding floor
+passes_each a b fit one_a one_b =
     let d : ℕ = day_of b.zone noon in
-    let both_let = two_together a b in
-    let c = first_cap a d in
-    let e = second_cap a b d in
-    record {
+    let both_let : let_together (split a b) (codes "u") d (mail 1 ∷ []) ≡ 2 = rw (number_itself d) refl in
+    let first : cap a.default (granted a).ledger.history (codes "u") d ≡ a.default = refl in
+    let second : cap b.default (split a b).ledger.history (codes "u") d ≡ b.default = refl in
+    reachable_split a b fit PassedEachLimit (record {
       login = codes "u";
       day = d;
       transactions = mail 1 ∷ [];
       distinct = (refl, tt);
-      passes = (omega (arith, both_let, e, one_b), (omega (arith, both_let, c, one_a), tt));
+      passes = (omega (arith, both_let, second, one_b), (omega (arith, both_let, first, one_a), tt));
     })
 
 are_fit : (a b : Book) → IsLegalBook (unused a) → IsLegalBook (unused b) → b.zone ≡ a.zone → 1 ≤ a.default → 1 ≤ b.default → AreFit a b
