@@ -1,5 +1,5 @@
 -- Members of lists, what is found in them, and sums.
-use Rattle.mq_world.proofs.Words.{AllByRecursion, Bool, In, List, None, Some, [], ap, arith, clash, either, false, if◌then◌else◌, inl, inr, list_any, none_some, refl, slice_get, some_is, suc, sum_by, sum_by-cons, sum_by-le-sum_by, sym, true, zero, ℕ, ◌++◌, ◌+◌, ◌∙◌, ◌∷◌, ◌≡◌, ◌≤◌, ◌⊎◌}
+use Rattle.mq_world.proofs.Words.{AllByRecursion, Bool, In, List, Some, [], ap, arith, clash, either, false, inl, inr, list_any, none_some, refl, slice_get, some_is, suc, sum_by, sum_by-cons, sum_by-le-sum_by, sym, true, zero, ℕ, ◌++◌, ◌+◌, ◌∙◌, ◌∷◌, ◌≡◌, ◌≤◌, ◌⊎◌}
 use Rattle.std.specs.Prelude.{find}
 
 -- ---- members
@@ -43,19 +43,11 @@ pub record Found {X : Type 0} (p : X → Bool) (xs : List X) (x : X) : Type 0 wh
   pub among : In x xs
   pub so : p x ≡ true
 
-found_or : {X : Type 0} (p : X → Bool) (y : X) (xs : List X) (x : X) (b : Bool) → p y ≡ b → (if b then Some y else find p xs) ≡ Some x → (find p xs ≡ Some x → Found p xs x) → Found p (y ∷ xs) x
-found_or p y xs x true e h f = let same = some_is y x h in record { among = inl same; so = ap p (sym same) ∙ e }
-found_or p y xs x false e h f = let g = f h in record { among = inr g.among; so = g.so }
-
 pub found : {X : Type 0} (p : X → Bool) (xs : List X) (x : X) → find p xs ≡ Some x → Found p xs x
 found p [] x h = absurd (none_some x h)
-found p (y ∷ xs) x h = found_or p y xs x (p y) refl h (found p xs x)
-
-pub not_found : {X : Type 0} (p : X → Bool) (xs : List X) → find p xs ≡ None → (x : X) → In x xs → p x ≡ false
-not_found p [] h x i = absurd i
-not_found p (y ∷ xs) h x i = elim (either (p y)) [
-  | inl t ↦ (let bad : Some y ≡ None = rw t at h in absurd (none_some y (sym bad)))
-  | inr f ↦ elim i [ inl e ↦ ap p (sym e) ∙ f | inr j ↦ not_found p xs (rw f at h) x j ]
+found p (y ∷ xs) x h = elim (either (p y)) [
+  | inl t ↦ (let is : y ≡ x = some_is y x (rw t at h) in record { among = inl is; so = ap p (sym is) ∙ t })
+  | inr f ↦ (let g = found p xs x (rw f at h) in record { among = inr g.among; so = g.so })
 ]
 
 pub any_found : {X : Type 0} (p : X → Bool) (xs : List X) → list_any p xs ≡ true → (x : X) × Found p xs x

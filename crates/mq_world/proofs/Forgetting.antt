@@ -1,7 +1,8 @@
 -- What holds of a run holds once days before F are forgotten.
-use Rattle.mq_world.proofs.Words.{Bool, Entry, Id, In, IsLegal, List, Release, RepliesSuit, Reply, Request, Reserve, Settle, Source, Step, Transaction, [], ap, arith, clash, day_named, decides, either, false, filter, id_of, in_filter, inl, inr, is_about, is_of, is_set, moment_of, named, nat_le}
-use Rattle.mq_world.proofs.Words.{nat_tests, neither_first, option_cases, refl, remembered, same_transaction, some_is, stays, subst, sym, transaction, true, ℕ, ◌++◌, ◌∙◌, ◌∷◌, ◌≡◌, ◌≤◌, ◌⊎◌}
+use Rattle.mq_world.proofs.Words.{Entry, Id, In, IsLegal, List, Release, RepliesSuit, Reply, Request, Reserve, Settle, Source, Step, Transaction, ap, arith, clash, day_named, decides, either, false, id_of, in_filter, inl, inr, is_about, is_of, is_set, moment_of, named, nat_le, nat_tests}
+use Rattle.mq_world.proofs.Words.{neither_first, option_cases, refl, remembered, same_transaction, some_is, stays, subst, sym, transaction, true, ℕ, ◌++◌, ◌∙◌, ◌≡◌, ◌≤◌, ◌⊎◌}
 use Rattle.mq_request.specs.declared.message.Reply.TheVariants as reply
+use Rattle.mq_forget.proofs.Lists.{filter_in}
 use Rattle.mq_world.proofs.Basics.{in_front, in_back, in_either, found}
 use Rattle.mq_world.proofs.Known.{OfFrames, OfClients, OfLedgers}
 use Rattle.mq_world.proofs.Numbers.{IsOwn}
@@ -12,15 +13,6 @@ use Rattle.mq_world.proofs.Takes.{entry_moment}
 -- what is remembered of a legal history is legal
 abbrev pub OfForgetting : Type 0
 OfForgetting = (day : ℕ → ℕ) (default D : ℕ) (H : List Entry) → IsLegal day default H → IsLegal day default (remembered day D H)
-
--- ---- what a filter leaves
-
-pub filter_in : {X : Type 0} (p : X → Bool) (xs : List X) (x : X) → In x (filter p xs) → In x xs
-filter_in p [] x i = absurd i
-filter_in p (y ∷ xs) x i = elim (either (p y)) [
-  | inl t ↦ (let j : (y ≡ x) ⊎ In x (filter p xs) = rw t at i in elim j [ inl e ↦ inl e | inr k ↦ inr (filter_in p xs x k) ])
-  | inr f ↦ (let j : In x (filter p xs) = rw f at i in inr (filter_in p xs x j))
-]
 
 -- ---- the day of a run's transaction
 
@@ -68,7 +60,7 @@ stays_if day D H e about = rw about refl
 -- what stays, and the entries of the others
 still_in : (day : ℕ → ℕ) (D : ℕ) (H G : List Entry) (e : Entry) → In e (remembered day D H ++ G) → In e (H ++ G)
 still_in day D H G e i = elim (in_either (remembered day D H) G e i) [
-  | inl j ↦ in_front H G e (filter_in (stays day D H) H e j)
+  | inl j ↦ in_front H G e (filter_in (stays day D H) H e j).0
   | inr j ↦ in_back H G e j
 ]
 

@@ -1,19 +1,17 @@
 -- What the crates below say of frames, clients, trackers and ledgers.
 use Rattle.mq_world.proofs.Words.{All, AllByRecursion, AreDistinct, AreNumbered, AreUnderway, Entry, Id, IsAmount, IsBounded, IsDayRule, IsLegal, IsNumbered, IsReply, IsRequest, IsZone, List, Meaning, None, NoneReturns, RepliesSuit, Reply, Request, Some, Source, SpellsReply, Step, Suits}
-use Rattle.mq_world.proofs.Words.{Transaction, Zone, [], actions, actions_of, cap, day_of, ended, exchanges_in, false, frame, granted_in, held, held_on, history_of, named, numbers_in, reply, reply_body, request_body, request_under, requests, reserved, same_id, same_request, same_transaction}
-use Rattle.mq_world.proofs.Words.{settled, settled_in, settled_on, standing_in, sum_by, true, txn_in, used, view, with_arrival, ℕ, ◌++◌, ◌+◌, ◌↔◌, ◌∷◌, ◌≡◌, ◌≤◌}
+use Rattle.mq_world.proofs.Words.{Transaction, Zone, [], actions, actions_of, cap, day_of, ended, exchanges_in, false, frame, granted_in, held, held_on, history_of, named, reply, reply_body, request_body, request_under, requests, reserved, same_id, same_transaction, settled, settled_in, settled_on}
+use Rattle.mq_world.proofs.Words.{standing_in, sum_by, true, txn_in, used, view, with_arrival, ℕ, ◌++◌, ◌+◌, ◌↔◌, ◌∷◌, ◌≡◌, ◌≤◌}
 
 pub record OfFrames : Type 0 where
   pub one_request : (q r : Request) → IsRequest q → IsRequest r → frame (request_body q) ≡ frame (request_body r) → q ≡ r
   pub one_reply : (a b : Reply) → IsReply a → IsReply b → frame (reply_body a) ≡ frame (reply_body b) → a ≡ b
   pub one_body : (body : List ℕ) (a b : Reply) → SpellsReply body a → SpellsReply body b → a ≡ b
-  pub same : (q r : Request) → (same_request q r ≡ true) ↔ (q ≡ r)
   pub same_ids : (i j : Id) → (same_id i j ≡ true) ↔ (i ≡ j)
 
 pub record OfClients : Type 0 where
   pub bounded : (s : Source) (tries : ℕ) (P : List Step) → AreUnderway s tries P → IsBounded (view s P)
   pub standing : (s : Source) (P : List Step) (t : ℕ) → (view s P).standing t ≡ standing_in P t
-  pub numbers : (s : Source) (P : List Step) → (view s P).numbers ≡ numbers_in P
   pub sent : (s : Source) (tries : ℕ) (P : List Step) → AreUnderway s tries P → AllByRecursion (λ x. IsNumbered s P x.request) (exchanges_in P)
   pub suits : (s : Source) (tries : ℕ) (P : List Step) → AreUnderway s tries P → NoneReturns s P → (n txn : ℕ) (q : Request) → request_under s P n ≡ Some q → txn_in q ≡ Some txn → Suits s n txn ((view s P).standing txn) q
   pub none_returns : (s : Source) (L : List Meaning) (P : List Step) → actions P ≡ actions_of L → NoneReturns s P

@@ -1,5 +1,5 @@
 -- The entries of several ledgers.
-use Rattle.mq_world.proofs.Words.{Book, Entry, In, List, [], inl, inr, refl, ◌++◌, ◌∷◌, ◌⊎◌}
+use Rattle.mq_world.proofs.Words.{Book, Entry, In, List, [], inl, inr, refl, subst, sym, ◌++◌, ◌∷◌}
 use Rattle.mq_world.proofs.Basics.{in_front, in_back, in_either}
 
 abbrev pub pool : List Book → List Entry
@@ -19,32 +19,23 @@ in_one (b ∷ bs) e i = elim (in_either b.history (pool bs) e i) [
   | inr j ↦ (let k = in_one bs e j in record { book = k.book; among = inr k.among; entry = k.entry })
 ]
 
+pub of_one : (bs : List Book) (b : Book) (e : Entry) → In b bs → In e b.history → In e (pool bs)
+of_one [] b e i j = absurd i
+of_one (c ∷ bs) b e (inl is) j = in_front c.history (pool bs) e (subst (λ x. In e x.history) (sym is) j)
+of_one (c ∷ bs) b e (inr i) j = in_back c.history (pool bs) e (of_one bs b e i j)
+
 -- ---- one ledger in the place of another
 
-from_place : (before after : List Book) (x : Book) (e : Entry) → In e (pool (before ++ x ∷ after)) → In e x.history ⊎ In e (pool (before ++ after))
-from_place [] after x e i = in_either x.history (pool after) e i
-from_place (b ∷ before) after x e i = elim (in_either b.history (pool (before ++ x ∷ after)) e i) [
-  | inl j ↦ inr (in_front b.history (pool (before ++ after)) e j)
-  | inr j ↦ elim (from_place before after x e j) [ inl k ↦ inl k | inr k ↦ inr (in_back b.history (pool (before ++ after)) e k) ]
-]
-
-at_place : (before after : List Book) (x : Book) (e : Entry) → In e x.history → In e (pool (before ++ x ∷ after))
-at_place [] after x e i = in_front x.history (pool after) e i
-at_place (b ∷ before) after x e i = in_back b.history (pool (before ++ x ∷ after)) e (at_place before after x e i)
-
-off_place : (before after : List Book) (x : Book) (e : Entry) → In e (pool (before ++ after)) → In e (pool (before ++ x ∷ after))
-off_place [] after x e i = in_back x.history (pool after) e i
-off_place (b ∷ before) after x e i = elim (in_either b.history (pool (before ++ after)) e i) [
-  | inl j ↦ in_front b.history (pool (before ++ x ∷ after)) e j
-  | inr j ↦ in_back b.history (pool (before ++ x ∷ after)) e (off_place before after x e j)
+changed : (before after : List Book) (x y b : Book) → In b (x ∷ before ++ y ∷ after) → In b (y ∷ before ++ x ∷ after)
+changed before after x y b (inl is) = inr (in_back before (x ∷ after) b (inl is))
+changed before after x y b (inr i) = elim (in_either before (y ∷ after) b i) [
+  | inl j ↦ inr (in_front before (x ∷ after) b j)
+  | inr (inl is) ↦ inl is
+  | inr (inr j) ↦ inr (in_back before (x ∷ after) b (inr j))
 ]
 
 -- where two ledgers change places, the entries are the same
 pub places_change : (before after : List Book) (x y : Book) (e : Entry) → In e (x.history ++ pool (before ++ y ∷ after)) → In e (y.history ++ pool (before ++ x ∷ after))
-places_change before after x y e i = elim (in_either x.history (pool (before ++ y ∷ after)) e i) [
-  | inl j ↦ in_back y.history (pool (before ++ x ∷ after)) e (at_place before after x e j)
-  | inr j ↦ elim (from_place before after y e j) [
-    | inl k ↦ in_front y.history (pool (before ++ x ∷ after)) e k
-    | inr k ↦ in_back y.history (pool (before ++ x ∷ after)) e (off_place before after x e k)
-  ]
-]
+places_change before after x y e i =
+    let k = in_one (x ∷ before ++ y ∷ after) e i in
+    of_one (y ∷ before ++ x ∷ after) k.book e (changed before after x y k.book k.among) k.entry

@@ -34,13 +34,13 @@ pub use Rattle.mq_ledger.specs.declared.entry.Entry.{Entry}
 pub use Rattle.mq_ledger.specs.declared.zone.Zone.{Zone}
 pub use Rattle.mq_lemmas.proofs.Booleans.{both_so, clash, either, either_of, first_so, neither_first, neither_second, not_false, second_so}
 pub use Rattle.mq_lemmas.proofs.Lists.{In, all_at, all_drop, all_filter, all_of, all_push, in_filter, weaker}
-pub use Rattle.mq_lemmas.proofs.Numbers.{number_is, number_itself, zero_or_more}
+pub use Rattle.mq_lemmas.proofs.Numbers.{le_of, number_is, number_itself, zero_or_more}
 pub use Rattle.mq_lemmas.proofs.Options.{none_some, option_cases, some_is}
 pub use Rattle.mq_line.specs.Grammar.{ConfigLine, FilterLine, IsStamp, Meaning, OtherLine, Reads as IsRead, ReadyLine, ReportLine}
 pub use Rattle.mq_link.specs.declared.link.LinkFault.TheVariants.{Down, TimedOut}
 pub use Rattle.mq_link.specs.declared.link.Outcome.{Outcome}
 pub use Rattle.mq_link.specs.declared.link.Outcome.TheVariants.{Answered, Faulted}
-pub use Rattle.mq_request.specs.Range.{IsAmount, IsCount, IsHost, IsHostByte, IsId, IsLogin, IsMoment, IsOrdinal, IsReply, IsRequest, IsRun}
+pub use Rattle.mq_request.specs.Range.{IsWithin, between, IsAmount, IsCount, IsHost, IsHostByte, IsId, IsLogin, IsMoment, IsOrdinal, IsReply, IsRequest, IsRun}
 pub use Rattle.mq_request.specs.Same.{same_id, same_request, same_text}
 pub use Rattle.mq_request.specs.declared.message.Id.{Id}
 pub use Rattle.mq_request.specs.declared.message.Reply.{Reply}

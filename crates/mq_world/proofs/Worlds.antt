@@ -1,11 +1,12 @@
 -- Every state of the world.
-use Rattle.mq_world.proofs.Words.{All-from_recursion, AllByRecursion, Book, Bool, Drain, Entry, Id, In, IsLegalBook, IsPlayed, IsReply, IsRequest, List, None, Option, RepliesSuit, Reply, Request, Some, Source, Step, [], actions, actions_of, all_at, all_push, answer, ap, appended, begin_count}
-use Rattle.mq_world.proofs.Words.{both_so, clash, day_of, either, false, first_so, frame, has_id, id_in, id_of, if◌then◌else◌, inl, inr, is_below, is_some, ledger_id, none_some, number_is, number_itself, recursion_from_All, refl, reply_body, reply_by, reply_to, request_body, requests, same_request}
-use Rattle.mq_world.proofs.Words.{same_text, second_so, stored, subst, sym, true, with_arrival_by, ℕ, ◌++◌, ◌==◌, ◌||◌, ◌∙◌, ◌∷◌, ◌≡◌, ◌≤◌}
+use Rattle.mq_world.proofs.Words.{All-from_recursion, Book, Bool, Drain, Entry, Id, In, IsLegalBook, IsPlayed, IsReply, IsRequest, List, None, Option, RepliesSuit, Reply, Request, Some, Source, Step, [], actions, actions_of, all_at, all_push, answer, ap, appended, begin_count, both_so, clash}
+use Rattle.mq_world.proofs.Words.{day_of, either, false, first_so, frame, has_id, id_in, id_of, if◌then◌else◌, inl, inr, is_below, is_some, ledger_id, none_some, number_is, number_itself, recursion_from_All, refl, reply_body, reply_by, reply_to, request_body, requests, same_request, same_text}
+use Rattle.mq_world.proofs.Words.{second_so, stored, subst, sym, true, with_arrival_by, ℕ, ◌++◌, ◌==◌, ◌||◌, ◌∙◌, ◌∷◌, ◌≡◌, ◌≤◌}
 use Rattle.mq_request.proofs.Alike.{text_is, text_itself}
 use Rattle.mq_request.specs.declared.message.Reply.TheVariants as reply
 use Rattle.mq_world.specs.World.{Site, Run, World, fresh, same_source, put, book_after}
 use Rattle.mq_world.specs.Law.{earlier}
+use Rattle.mq_forget.proofs.Growing.{in_range}
 use Rattle.mq_world.proofs.Basics.{in_front, in_either, found}
 use Rattle.mq_world.proofs.Known.{OfFrames, OfLedgers, Known}
 use Rattle.mq_world.proofs.Grounds.{is_grant}
@@ -109,15 +110,11 @@ takes_any day default K s tries P H G sent written q None number was range fit f
     let id_same : id_in q ≡ id_in p = same_id_by K.frames s p q a own d (subst R is fit) in
     absurd (none_some (id_of s own.number) (sym number ∙ ledger_number q ∙ id_same ∙ own.id)))) h
 
-requests_all : (P : Request → Type 0) (H : List Entry) → AllByRecursion (λ e. P e.request) H → AllByRecursion P (requests H)
-requests_all P [] all = tt
-requests_all P (e ∷ H) all = (all.0, requests_all P H all.1)
-
 -- the ledger stays legal
 pub legal_after : Known → (b : Book) (q : Request) → IsRequest q → IsLegalBook b → IsLegalBook (book_after b q)
 legal_after K b q range h = record {
   zone = h.zone;
   default = h.default;
   legal = K.ledgers.legal (day_of b.zone) b.default (requests b.history ++ q ∷ [])
-      (All-from_recursion IsRequest (requests b.history ++ q ∷ []) (all_push IsRequest (requests b.history) q (requests_all IsRequest b.history (recursion_from_All (λ e. IsRequest e.request) b.history h.legal.range)) range));
+      (All-from_recursion IsRequest (requests b.history ++ q ∷ []) (all_push IsRequest (requests b.history) q (in_range (day_of b.zone) b.default b.history h.legal) range));
 }

@@ -7,7 +7,7 @@ use Rattle.mq_world.specs.Forgetting.{forgotten}
 use Rattle.mq_world.specs.Together.{Together, with_ledger, IsStartTogether, ReachesTogether, FromStart, Steps, Moves, Forgets, kept_of, used_of, cap_of}
 use Rattle.mq_world.proofs.Basics.{in_back, in_either, in_get, all_put}
 use Rattle.mq_world.proofs.Known.{Known, OfSums, OfFrames, OfLedgers}
-use Rattle.mq_world.proofs.Pools.{pool, places_change}
+use Rattle.mq_world.proofs.Pools.{pool, in_one, places_change}
 use Rattle.mq_world.proofs.Numbers.{IsOwn, same_own}
 use Rattle.mq_world.proofs.Lines.{counted, line_asks, push_actions}
 use Rattle.mq_world.proofs.Runs.{Holds, AllSuit, failing, so_far, begins, Sent, sends_on, ends_on, others_send, Comes, holds_in}
@@ -257,15 +257,13 @@ record AreSound (site : Site) (F : ℕ) (w : World) (bs : List Book) : Type 0 wh
   pub zones : AllByRecursion (λ b. b.zone ≡ w.ledger.zone) bs
 
 pool_suit : OfLedgers → (bs : List Book) → AllByRecursion IsLegalBook bs → AllSuit (pool bs)
-pool_suit L [] legal = λ e i. absurd i
-pool_suit L (b ∷ bs) legal = both_suit b.history (pool bs) (all_suit L b legal.0) (pool_suit L bs legal.1)
+pool_suit L bs legal = λ e i. let k = in_one bs e i in all_suit L k.book (all_at IsLegalBook bs k.book legal k.among) e k.entry
 
 starts_of_others : (site : Site) (w : World) (bs : List Book) → AllByRecursion (λ b. IsStart site (with_ledger b w)) bs → NoneOwn site (pool bs)
-starts_of_others site w [] z = λ e i. absurd i
-starts_of_others site w (b ∷ bs) z = λ e i. elim (in_either b.history (pool bs) e i) [
-  | inl j ↦ all_at (λ x. IsOfOthers site x.request) b.history e z.0.entries j
-  | inr j ↦ starts_of_others site w bs z.1 e j
-]
+starts_of_others site w bs z = λ e i.
+    let k = in_one bs e i in
+    let start = all_at (λ b. IsStart site (with_ledger b w)) bs k.book z k.among in
+    all_at (λ x. IsOfOthers site x.request) k.book.history e start.entries k.entry
 
 start_sound : OfLedgers → (F : ℕ) (site : Site) (c : Together) → IsStartTogether site c → AreSound site F c.world c.standby
 start_sound L F site c z =
@@ -406,13 +404,11 @@ returns c =
         one_request = c.one_spelling.ensures.one_request_frame;
         one_reply = c.one_spelling.ensures.one_reply_frame;
         one_body = c.one_spelling.ensures.one_reply;
-        same = c.same_is_equal.ensures.request;
         same_ids = c.same_is_equal.ensures.id;
       };
       clients = record {
         bounded = c.few_at_a_time.ensures.bounded;
         standing = c.readings.ensures.standing;
-        numbers = c.readings.ensures.numbers;
         sent = c.one_request_for_a_number.ensures.sent;
         suits = c.settles_are_of_what_was_let.ensures.suits;
         none_returns = c.closed_is_not_asked_for.ensures.none_returns;

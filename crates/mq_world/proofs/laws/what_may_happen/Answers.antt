@@ -1,8 +1,10 @@
 -- A world of two runs, step by step.
 use Rattle.mq_world.proofs.Words.{All-from_recursion, AllByRecursion, Answered, AreTries, Ask, Book, Bool, ByOffset, Close, Drain, Ended, EndsWith, Entry, Exchange, FilterLine, Filters, Greater, Held, Id, IsCount, IsHost, IsHostByte, IsId, IsLegalBook, IsMoment, IsOffset, IsOrdinal, IsPlayed}
-use Rattle.mq_world.proofs.Words.{IsRead, IsReady, IsReply, IsRequest, IsRun, IsStamp, IsTry, IsZone, Less, List, MakesAll, Meaning, None, NoneYet, Outside, Reply, ReportLine, Request, Retire, SendsAll, SendsUpTo, Settle, Some, Source, SpellsReply, State, Step, TimedOut, Transaction, [], all_of, ap}
-use Rattle.mq_world.proofs.Words.{arith, cap, clash, clock, codes, count_by, day_of, decides, drained, either, either_of, exchanges_in, false, fault, floor, frame, held, id_of, if◌then◌else◌, inl, inr, is_eq, ledger_reply, length, list_any, nat_le, nat_lt, nat_tests, ne_eqb, nothing_held, number_is}
-use Rattle.mq_world.proofs.Words.{number_itself, pos, refl, reply_body, request_body, request_frame, requests, reserve_of, same_text, settled_in, slice_get, some_is, subst, sym, told_steps, true, ℕ, ℤ, ◌*◌, ◌++◌, ◌+◌, ◌<ℤ◌, ◌<◌, ◌==◌, ◌||◌, ◌∙◌, ◌∷◌, ◌≡◌, ◌≢◌, ◌≤ℤ◌, ◌≤◌}
+use Rattle.mq_world.proofs.Words.{IsRead, IsReady, IsReply, IsRequest, IsRun, IsStamp, IsTry, IsWithin, IsZone, Less, List, MakesAll, Meaning, None, NoneYet, Outside, Reply, ReportLine, Request, Retire, SendsAll, SendsUpTo, Settle, Some, Source, SpellsReply, State, Step, TimedOut, Transaction, []}
+use Rattle.mq_world.proofs.Words.{all_of, ap, arith, between, cap, clash, clock, codes, count_by, day_of, decides, drained, either, either_of, exchanges_in, false, fault, first_so, floor, frame, held, id_of, if◌then◌else◌, inl, inr, is_eq, le_of, ledger_reply, length, list_any, nat_le, nat_lt}
+use Rattle.mq_world.proofs.Words.{nat_tests, ne_eqb, nothing_held, number_is, number_itself, pos, refl, reply_body, request_body, request_frame, requests, reserve_of, same_text, second_so, settled_in, slice_get, some_is, subst, sym, told_steps, true, ℕ, ℤ, ◌*◌, ◌++◌, ◌+◌, ◌<ℤ◌, ◌<◌, ◌==◌, ◌||◌, ◌∙◌}
+use Rattle.mq_world.proofs.Words.{◌∷◌, ◌≡◌, ◌≢◌, ◌≤ℤ◌, ◌≤◌}
+use Rattle.mq_world.proofs.Takes.{entry}
 use Rattle.std.proofs.lemmas.Int.{ints}
 use Rattle.mq_line.specs.Results.{registration, result_text}
 use Rattle.mq_line.specs.Text.{IsLine, text_of}
@@ -181,65 +183,47 @@ granted_there a b = ends (takes (moved_early a b)) here answered
 
 -- ---- in range
 
+within : {low high n : ℕ} → between low high n ≡ true → IsWithin low high n
+within {low = low} {high = high} {n = n} is = record { from = le_of low n (first_so (nat_le low n) (nat_le n high) is); to = le_of n high (second_so (nat_le low n) (nat_le n high) is) }
+
 -- a run of the site, whose host is one letter
 host_of : (letter : ℕ) → IsHostByte letter → (s : Source) → same_source (record { host = letter ∷ []; run = 1 }) s ≡ true → IsHost s.host × IsRun s.run
 host_of letter is s e = subst (λ u. IsHost u.host × IsRun u.run) (source_is (record { host = letter ∷ []; run = 1 }) s e) (
-  record { size = record { from = omega arith; to = omega arith }; bytes = All-from_recursion IsHostByte (letter ∷ []) (is, tt) },
-  record { from = omega arith; to = omega arith },
+  record { size = within refl; bytes = All-from_recursion IsHostByte (letter ∷ []) (is, tt) },
+  within refl,
 )
 
 here_range : (s : Source) → same_source here s ≡ true → IsHost s.host × IsRun s.run
-here_range s e = host_of 97 (inr (inr (inl (record { from = omega arith; to = omega arith })))) s e
+here_range s e = host_of 97 (inr (inr (inl (within refl)))) s e
 
 hosts : (s : Source) → site.is_run s ≡ true → IsHost s.host × IsRun s.run
 hosts s e = elim (either_of (same_source here s) (same_source there s) e) [
   | inl h ↦ here_range s h
-  | inr t ↦ host_of 98 (inr (inr (inl (record { from = omega arith; to = omega arith })))) s t
+  | inr t ↦ host_of 98 (inr (inr (inl (within refl)))) s t
 ]
 
 id_range : (number : ℕ) → IsOrdinal number → IsId (id_of here number)
 id_range number is = let h = here_range here refl in record { host = h.0; run = h.1; number = is }
 
-one : IsOrdinal 1
-one = record { from = omega arith; to = omega arith }
-
-two : IsOrdinal 2
-two = record { from = omega arith; to = omega arith }
-
-three : IsOrdinal 3
-three = record { from = omega arith; to = omega arith }
-
-one_count : IsCount 1
-one_count = record { from = omega arith; to = omega arith }
-
-noon_range : IsMoment noon
-noon_range = record { from = omega arith; to = omega arith }
-
-afterwards_range : IsMoment afterwards
-afterwards_range = record { from = omega arith; to = omega arith }
-
 reserve_range : (number txn moment : ℕ) → IsOrdinal number → IsOrdinal txn → IsMoment moment → IsRequest (reserve_of here number txn moment (codes "u"))
-reserve_range number txn moment is txn_is moment_is = (id_range number is, txn_is, moment_is, record { from = omega arith; to = omega arith }, record { from = omega arith; to = omega arith })
+reserve_range number txn moment is txn_is moment_is = (id_range number is, txn_is, moment_is, within refl, within refl)
 
 settle_range : (number count : ℕ) → IsOrdinal number → IsCount count → IsRequest (settle number count)
-settle_range number count is count_is = (id_range number is, one, noon_range, record { from = omega arith; to = omega arith }, count_is)
+settle_range number count is count_is = (id_range number is, within refl, within refl, within refl, count_is)
 
 granting_range : (number : ℕ) → IsOrdinal number → IsReply (granting number)
-granting_range number is = (id_range number is, record { from = omega arith; to = omega arith })
+granting_range number is = (id_range number is, within refl)
 
 request_range : IsRequest (request here)
-request_range = reserve_range 1 1 noon one one noon_range
+request_range = reserve_range 1 1 noon (within refl) (within refl) (within refl)
 
 retire_range : IsRequest (Retire retire_id)
-retire_range = record { host = (here_range here refl).0; run = record { from = omega arith; to = omega arith }; number = one }
+retire_range = record { host = (here_range here refl).0; run = within refl; number = within refl }
 
 is_start : (b : Book) → IsLegalBook (unused b) → IsStart site (start b)
 is_start b legal = record { hosts = hosts; runs = λ s. refl; ledger = legal; entries = tt; sent = tt; written = tt }
 
 -- ---- the ledger's replies, and what it has then
-
-abbrev pub entry : Request → Reply → Entry
-entry q a = record { request = q; reply = a }
 
 granted_by : (number : ℕ) (b : Book) (t : Bool) → t ≡ false → (if t then Full (id_of here number) 0 b.default else granting number) ≡ granting number
 granted_by number b t e = rw e refl
@@ -335,7 +319,7 @@ loses : (b : Book) → Next site (taken b) (ends (taken b) here lost)
 loses b = Ends here lost (record { is_run = refl; is_up = refl }) refl tt (λ a brings. absurd brings)
 
 from_lost : (b : Book) → 1 ≤ b.default → Reaches site (ends (taken b) here lost) (granted b)
-from_lost b le = exchanging (request here) reply AtOnce refl refl refl request_range (stored_reply b le) (granting_range 1 one) refl
+from_lost b le = exchanging (request here) reply AtOnce refl refl refl request_range (stored_reply b le) (granting_range 1 (within refl)) refl
 
 to_granted : (b : Book) → 1 ≤ b.default → Reaches site (start b) (granted b)
 to_granted b le = joined (Later (taken b) (ends (taken b) here lost) (to_taken b) (loses b)) (from_lost b le)
@@ -349,7 +333,7 @@ to_asked_there b le =
 to_late : OneReply → (b : Book) → 1 ≤ b.default → Reaches site (start b) (ends (asked_there b) there late)
 to_late one_reply b le =
     Later _ _ (to_asked_there b le) (Ends there late (record { is_run = refl; is_up = refl }) refl (inr (inr (0, ap (λ a. Some (frame (reply_body a))) (stored_reply b le))))
-    (λ a spells. (let same : reply ≡ a = one_reply (reply_body reply) reply a (record { bytes = refl; in_range = granting_range 1 one }) spells in
+    (λ a spells. (let same : reply ≡ a = one_reply (reply_body reply) reply a (record { bytes = refl; in_range = granting_range 1 (within refl) }) spells in
     subst (λ x. decides (request there) x ≡ false) same refl)))
 
 -- of a request's frame there is one request
@@ -373,14 +357,14 @@ asked_steps = step (Ask 1 noon (codes "u")) false (answered ∷ lost ∷ []) ∷
 asked_once : IsPlayed here 3 asked_steps
 asked_once =
     let first : IsTry (request here) lost None = record { request_is = refl; decision = λ a brings. absurd brings; decided_is = refl } in
-    ((Some reply, (decides_it (request here) reply (granting_range 1 one) refl, (first, tt), omega arith)), tt)
+    ((Some reply, (decides_it (request here) reply (granting_range 1 (within refl)) refl, (first, tt), omega arith)), tt)
 
 to_given_up : OneRequest → (b : Book) → 1 ≤ b.default → Reaches site (granted b) (given_up b)
 unfolding floor
 to_given_up one_request b le =
     let sent : Reaches site (granted b) (with_sent (granted b) (request_frame (Retire retire_id))) = Later _ _ AtOnce (OthersSend (request_frame (Retire retire_id)) (frame_of_others one_request)) in
     let read = reading here false commit_line (taking 0 (Retire retire_id) sent refl retire_range) refl refl refl refl refl asked_once in
-    exchanging (settle 2 1) (Old (id_of here 2)) read refl refl refl (settle_range 2 1 two one_count) refl (id_range 2 two) refl
+    exchanging (settle 2 1) (Old (id_of here 2)) read refl refl refl (settle_range 2 1 (within refl) (within refl)) refl (id_range 2 (within refl)) refl
 
 -- a quiet step sends nothing, and its closing waits
 closed_quietly : IsPlayed here 3 (step (Close 1 ending.Commit) true [] ∷ asked_steps)
@@ -392,7 +376,7 @@ to_at_end b le =
     Later _ _ read (ReadsEnd here (record { up = record { is_run = refl; is_up = refl }; before_end = refl; none_on_way = refl; played = closed_quietly }))
 
 to_settled : (b : Book) → 1 ≤ b.default → Reaches site (at_end b) (settled_at_end b)
-to_settled b le = exchanging (settle 2 1) (Settled (id_of here 2) 1) AtOnce refl refl refl (settle_range 2 1 two one_count) (settled_reply b le) (id_range 2 two, one_count) refl
+to_settled b le = exchanging (settle 2 1) (Settled (id_of here 2) 1) AtOnce refl refl refl (settle_range 2 1 (within refl) (within refl)) (settled_reply b le) (id_range 2 (within refl), within refl) refl
 
 to_granted_at : (moment : ℕ) (b : Book) → IsMoment moment → 1 ≤ b.default → next_request here 3 ((asks (cleared b) here (codes "v") (codes "n") moment).runs here).past ≡ Some (second_request 2 moment) → Reaches site (cleared b) (granted_at moment b)
 to_granted_at moment b is le turn =
@@ -400,20 +384,20 @@ to_granted_at moment b is le turn =
     let login = reading here false (login_line (codes "v") moment) first refl refl refl refl refl asked_once in
     let begin = reading here false (begin_line (codes "v") (codes "n") moment) login refl refl refl refl refl asked_once in
     let read = reading here false (recipient_line (codes "v") moment) begin refl refl refl refl refl asked_once in
-    exchanging (second_request 2 moment) (granting 2) read refl refl turn (reserve_range 2 2 moment two two is) (grants 2 2 moment b le) (granting_range 2 two) refl
+    exchanging (second_request 2 moment) (granting 2) read refl refl turn (reserve_range 2 2 moment (within refl) (within refl) is) (grants 2 2 moment b le) (granting_range 2 (within refl)) refl
 
 asked_twice : IsPlayed here 3 (step (Ask 1 noon (codes "u")) false (decided (second_request 1 noon) (granting 2) ∷ []) ∷ asked_steps)
-asked_twice = ((Some (granting 2), (decides_it (second_request 1 noon) (granting 2) (granting_range 2 two) refl, tt, omega arith)), asked_once)
+asked_twice = ((Some (granting 2), (decides_it (second_request 1 noon) (granting 2) (granting_range 2 (within refl)) refl, tt, omega arith)), asked_once)
 
 to_split : (a b : Book) → 1 ≤ b.default → Reaches site (with_ledger (unused b) (granted a)) (split a b)
 to_split a b le =
     let read = reading here false (recipient_line (codes "s") noon) AtOnce refl refl refl refl refl asked_once in
-    let more = exchanging (second_request 1 noon) (granting 2) read refl refl refl (reserve_range 2 1 noon two one noon_range) (grants 2 1 noon b le) (granting_range 2 two) refl in
+    let more = exchanging (second_request 1 noon) (granting 2) read refl refl refl (reserve_range 2 1 noon (within refl) (within refl) (within refl)) (grants 2 1 noon b le) (granting_range 2 (within refl)) refl in
     let commits = reading here false commit_line more refl refl refl refl refl asked_twice in
-    exchanging (settle 3 2) (TooMany (id_of here 3) 1) commits refl refl refl (settle_range 3 2 three (record { from = omega arith; to = omega arith })) (too_many a b le) (id_range 3 three, record { from = omega arith; to = omega arith }) refl
+    exchanging (settle 3 2) (TooMany (id_of here 3) 1) commits refl refl refl (settle_range 3 2 (within refl) (within refl)) (too_many a b le) (id_range 3 (within refl), within refl) refl
 
 to_granted_there : (a b : Book) → 1 ≤ b.default → Reaches site (moved_early a b) (granted_there a b)
-to_granted_there a b le = answering (moved_early a b) (request here) reply (taking 0 (request here) AtOnce refl request_range) refl refl (grants 1 1 noon b le) (granting_range 1 one) refl
+to_granted_there a b le = answering (moved_early a b) (request here) reply (taking 0 (request here) AtOnce refl request_range) refl refl (grants 1 1 noon b le) (granting_range 1 (within refl)) refl
 
 -- ---- what has happened then
 
@@ -524,7 +508,7 @@ abbrev pub ending_all : Step
 ending_all = step Drain false []
 
 tries_asking : AreTries 3 (request here) (answered ∷ []) (Some reply)
-tries_asking = (decides_it (request here) reply (granting_range 1 one) refl, tt, omega arith)
+tries_asking = (decides_it (request here) reply (granting_range 1 (within refl)) refl, tt, omega arith)
 
 -- what the later client has of a transaction
 found_at : (txn : ℕ) → find later_client.held txn ≡ (if 1 == txn then Some let_one else None)
@@ -690,8 +674,8 @@ Floors = (minutes : ℤ) (moment : ℕ) → IsOffset minutes → IsMoment moment
 
 noon_is_earlier : Floors → (minutes : ℤ) → IsOffset minutes → nat_le (day_of (ByOffset minutes) afterwards) (day_of (ByOffset minutes) noon) ≡ false
 noon_is_earlier floors minutes offset =
-    let first = (floors minutes noon offset noon_range).0 in
-    let second = (floors minutes afterwards offset afterwards_range).1 in
+    let first = (floors minutes noon offset (within refl)).0 in
+    let second = (floors minutes afterwards offset (within refl)).1 in
     let less : day_of (ByOffset minutes) noon < day_of (ByOffset minutes) afterwards = omega (arith, ints, first, second) in
     grind (arith, nat_tests, less)
 
@@ -701,7 +685,7 @@ unfolding floor
 goes_on b before legal le =
     let D : ℕ = day_of b.zone afterwards in
     let none = forgets_noon b D before in
-    let way = onward b D (takes (granted_at afterwards b)) le before (taking 1 (request here) (to_granted_at afterwards b afterwards_range le refl) refl request_range) in
+    let way = onward b D (takes (granted_at afterwards b)) le before (taking 1 (request here) (to_granted_at afterwards b (within refl) le refl) refl request_range) in
     reachable b legal WentOnThoughForgotten (granted b) (to_granted b le) (record {
       earlier = mail 1;
       is_run = refl;
@@ -738,7 +722,7 @@ passes_limit b legal one_only =
     let both_let : let_together (granted_at noon b) (codes "u") d (mail 1 ∷ mail 2 ∷ []) ≡ 2 = rw (number_itself d) refl in
     let limit : cap b.default (granted_at noon b).ledger.history (codes "u") d ≡ b.default = refl in
     let le : 1 ≤ b.default = omega (arith, one_only) in
-    let way = onward b D (granted_at noon b) le (grind (arith, nat_tests)) (to_granted_at noon b noon_range le refl) in
+    let way = onward b D (granted_at noon b) le (grind (arith, nat_tests)) (to_granted_at noon b (within refl) le refl) in
     reachable b legal PassedOnAForgottenDay (granted b) (to_granted b le) (record {
       day = D;
       over = d;
