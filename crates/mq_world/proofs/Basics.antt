@@ -4,12 +4,6 @@ use Rattle.std.specs.Prelude.{find}
 
 -- ---- members
 
-pub in_push : {X : Type 0} (xs : List X) (y x : X) → In x (xs ++ y ∷ []) → In x xs ⊎ (y ≡ x)
-in_push [] y x (inl e) = inr e
-in_push [] y x (inr i) = absurd i
-in_push (z ∷ xs) y x (inl e) = inl (inl e)
-in_push (z ∷ xs) y x (inr i) = elim (in_push xs y x i) [ inl j ↦ inl (inr j) | inr e ↦ inr e ]
-
 pub in_front : {X : Type 0} (xs ys : List X) (x : X) → In x xs → In x (xs ++ ys)
 in_front [] ys x i = absurd i
 in_front (y ∷ xs) ys x (inl e) = inl e
@@ -23,10 +17,6 @@ pub in_either : {X : Type 0} (xs ys : List X) (x : X) → In x (xs ++ ys) → In
 in_either [] ys x i = inr i
 in_either (y ∷ xs) ys x (inl e) = inl (inl e)
 in_either (y ∷ xs) ys x (inr i) = elim (in_either xs ys x i) [ inl j ↦ inl (inr j) | inr k ↦ inr k ]
-
-pub in_last : {X : Type 0} (xs : List X) (x : X) → In x (xs ++ x ∷ [])
-in_last [] x = inl refl
-in_last (y ∷ xs) x = inr (in_last xs x)
 
 pub in_get : {X : Type 0} (xs : List X) (n : ℕ) (x : X) → slice_get xs n ≡ Some x → In x xs
 in_get [] n x h = absurd (none_some x h)

@@ -43,15 +43,16 @@ swapped w s u r x apart = λ i. with_runs w (λ v. put_swapped s u r x w.runs ap
 stands : (w : World) (s u : Source) (r : Run) → same_source s u ≡ false → (with_run w s r).runs u ≡ w.runs u
 stands w s u r apart = rw apart refl
 
+-- a run is where it was put
+pub placed : (w : World) (s : Source) (r : Run) → (with_run w s r).runs s ≡ r
+placed w s r = rw (same_itself s) refl
+
 -- a run that was moved stands elsewhere
 moved : (w : World) (s u : Source) (x : Run) → same_source s u ≡ true → (with_run w u x).runs s ≡ w.runs s → x ≡ w.runs u
 moved w s u x same is =
     let one : s ≡ u = source_is s u same in
     let there : (with_run w u x).runs u ≡ w.runs u = subst (λ y. (with_run w u x).runs y ≡ w.runs y) one is in
-    subst (λ (y : Run). y ≡ w.runs u) (put_there w u x) there
-  where
-    put_there : (w : World) (u : Source) (x : Run) → (with_run w u x).runs u ≡ x
-    put_there w u x = rw (same_itself u) refl
+    subst (λ (y : Run). y ≡ w.runs u) (placed w u x) there
 
 is_up : (site : Site) (w : World) (s u : Source) (r : Run) → same_source s u ≡ false → IsUp site w u → IsUp site (with_run w s r) u
 is_up site w s u r apart up = record { is_run = up.is_run; is_up = ap (λ (x : Run). x.is_stopped) (stands w s u r apart) ∙ up.is_up }

@@ -3,7 +3,7 @@ use Rattle.mq_world.proofs.Words.{Bool, CloseEnd, Closed, Entry, Held, Id, In, I
 use Rattle.mq_world.proofs.Words.{either, ended, false, first_so, frame, id_in, id_of, if◌then◌else◌, inl, inr, is_commit, is_of, ledger_id, moment_of, nat_le, refl, reply_body, request_body, reserve_of, same_transaction, second_so, subst, sym, transaction, true, txn_in, view, ℕ, ◌&&◌, ◌++◌, ◌∙◌}
 use Rattle.mq_world.proofs.Words.{◌∷◌, ◌≡◌, ◌⊎◌}
 use Rattle.mq_request.specs.declared.message.Reply.TheVariants as reply
-use Rattle.mq_world.proofs.Basics.{in_push, in_front, in_back, in_either, in_last, any_found}
+use Rattle.mq_world.proofs.Basics.{in_front, in_back, in_either, any_found}
 use Rattle.mq_world.proofs.Known.{OfFrames, OfClients, OfLedgers}
 use Rattle.mq_world.proofs.Numbers.{IsOwn}
 use Rattle.mq_world.proofs.Grounds.{of_source, at_of, ground_in}
@@ -119,7 +119,7 @@ ledger_number q = refl
 
 pool_push : (H G : List Entry) (e x : Entry) → In x ((H ++ e ∷ []) ++ G) → In x (H ++ G) ⊎ (e ≡ x)
 pool_push H G e x i = elim (in_either (H ++ e ∷ []) G x i) [
-  | inl j ↦ elim (in_push H e x j) [ inl k ↦ inl (in_front H G x k) | inr same ↦ inr same ]
+  | inl j ↦ elim (in_either H (e ∷ []) x j) [ inl k ↦ inl (in_front H G x k) | inr (inl same) ↦ inr same | inr (inr k) ↦ absurd k ]
   | inr k ↦ inl (in_back H G x k)
 ]
 
@@ -144,7 +144,7 @@ takes_new {F = since} day default F s tries P H G sent written q was range fits 
         | inr same ↦ (let r : q ≡ x.request = ap (λ (y : Entry). y.request) same in subst (IsNumbered s P) r (h.sends q was range (subst (IsOwn s) (sym r) own)))
       ];
       wrote = λ b r i k own d g. elim i [
-        | inl same ↦ inl (record { entry = e; among = in_front (H ++ e ∷ []) G e (in_last H e); is = F.one_reply a b fits k same })
+        | inl same ↦ inl (record { entry = e; among = in_front (H ++ e ∷ []) G e (in_back H (e ∷ []) e (inl refl)); is = F.one_reply a b fits k same })
         | inr j ↦ elim (h.wrote b r j k own d g) [ inl o ↦ inl (record { entry = o.entry; among = pool_more H G e o.entry o.among; is = o.is }) | inr z ↦ inr z ]
       ];
       ground = ground_in day since s (H ++ G) ((H ++ e ∷ []) ++ G) (pool_more H G e) P h.ground;

@@ -71,17 +71,14 @@ put_sound {F = F} {G = G} site w s r sent h y read own other = record {
 -- ---- the ledger
 
 -- no reply but Granted is one
-conflict_not : (id : Id) (a : Reply) → reply.Conflict id ≡ a → is_grant a ≡ true → ⊥
-conflict_not id a e g = clash (is_grant a) g (ap is_grant (sym e))
-
-old_not : (id : Id) (a : Reply) → reply.Old id ≡ a → is_grant a ≡ true → ⊥
-old_not id a e g = clash (is_grant a) g (ap is_grant (sym e))
+no_grant : (b a : Reply) → is_grant b ≡ false → b ≡ a → is_grant a ≡ true → ⊥
+no_grant b a none e g = clash (is_grant a) g (ap is_grant (sym e) ∙ none)
 
 -- a request whose number is stored gets the stored reply, or Conflict
 same_reply : OfFrames → (H G : List Entry) (id : Id) (e : Entry) (b : Bool) → stored H id ≡ Some e → IsReply (if b then e.reply else reply.Conflict id)
     → (a : Reply) → frame (reply_body (if b then e.reply else reply.Conflict id)) ≡ frame (reply_body a) → IsReply a → is_grant a ≡ true → Wrote (H ++ G) a
 same_reply F H G id e true there fits a f k g = let i = found (λ x. has_id id x.request) H e there in record { entry = e; among = in_front H G e i.among; is = F.one_reply e.reply a fits k f }
-same_reply F H G id e false there fits a f k g = absurd (conflict_not id a (F.one_reply (reply.Conflict id) a fits k f) g)
+same_reply F H G id e false there fits a f k g = absurd (no_grant (reply.Conflict id) a refl (F.one_reply (reply.Conflict id) a fits k f) g)
 
 takes_by : {F : ℕ} → (day : ℕ → ℕ) (default : ℕ) → Known → (s : Source) (tries : ℕ) (P : List Step) (H G : List Entry) (sent written : List (List ℕ)) (id : Id) (q : Request) (m : Option Entry) → stored H id ≡ m
     → In (frame (request_body q)) sent → IsRequest q → IsReply (reply_by day default H q id m) → Holds day F s tries P (H ++ G) sent written
@@ -96,7 +93,7 @@ takes_if : {F : ℕ} → (day : ℕ → ℕ) (default : ℕ) → Known → (s : 
     → In (frame (request_body q)) sent → IsRequest q → IsReply (if b then reply.Old id else reply_by day default H q id (stored H id)) → Holds day F s tries P (H ++ G) sent written
     → Holds day F s tries P ((if b || is_some (stored H id) then H else appended day default H q) ++ G) sent (frame (reply_body (if b then reply.Old id else reply_by day default H q id (stored H id))) ∷ written)
 takes_if day default K s tries P H G sent written id q true was range fits h =
-    writes_on s tries P (H ++ G) sent written (frame (reply_body (reply.Old id))) (λ a p f k own d g. absurd (old_not id a (K.frames.one_reply (reply.Old id) a fits k f) g)) h
+    writes_on s tries P (H ++ G) sent written (frame (reply_body (reply.Old id))) (λ a p f k own d g. absurd (no_grant (reply.Old id) a refl (K.frames.one_reply (reply.Old id) a fits k f) g)) h
 takes_if day default K s tries P H G sent written id q false was range fits h = takes_by day default K s tries P H G sent written id q (stored H id) refl was range fits h
 
 pub takes_any : {F : ℕ} → (day : ℕ → ℕ) (default : ℕ) → Known → (s : Source) (tries : ℕ) (P : List Step) (H G : List Entry) (sent written : List (List ℕ)) (q : Request) (o : Option Id) → ledger_id q ≡ o

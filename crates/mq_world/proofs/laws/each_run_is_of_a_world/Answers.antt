@@ -10,8 +10,7 @@ use Rattle.mq_client.specs.declared.fault.FilterFault.TheVariants as faults
 use Rattle.mq_world.specs.World.{Site, Run, World, fresh, IsUp, ReadsOn, begun, after_line, after_end, next_request, with_on_way, after_exchange, after_stop, MayCome, with_run, with_sent, Next, Reads, ReadsEnd, Sends, Ends, Stops, Reaches, AtOnce, Later}
 use Rattle.mq_world.specs.Running.{ran, step_of, unsent, exchanges_of, OthersGoOn, NobodyYet, OneStep, GoesOnAround, Before, During, IsNew, lines_at, IsOrOneMore}
 use Rattle.mq_world.proofs.Ways.{joined}
-use Rattle.mq_world.proofs.Others.{twice, itself, anywhere}
-use Rattle.mq_world.proofs.Worlds.{same_itself}
+use Rattle.mq_world.proofs.Others.{twice, itself, anywhere, placed}
 use Rattle.mq_world.proofs.laws.each_run_is_of_a_world.Goals as goal
 
 -- a step is made to its end where its exchanges came in turn
@@ -48,10 +47,6 @@ accepted k L m step text h = h.0
 -- the run goes on, and all others stand as they did
 goes_to : (site : Site) (w later : World) (s : Source) (r now : Run) → Reaches site w (with_run later s r) → Next site (with_run later s r) (with_run (with_run later s r) s now) → Reaches site w (with_run later s now)
 goes_to site w later s r now way n = subst (Reaches site w) (twice later s r now) (Later (with_run later s r) (with_run (with_run later s r) s now) way n)
-
--- the run is where it was put
-stands : (w : World) (s : Source) (r : Run) → (with_run w s r).runs s ≡ r
-stands w s r = rw (same_itself s) refl
 
 is_up : (site : Site) (w : World) (s : Source) (r : Run) → site.is_run s ≡ true → w.runs s ≡ r → r.is_stopped ≡ false → IsUp site w s
 is_up site w s r y e up = record { is_run = y; is_up = ap (λ (x : Run). x.is_stopped) e ∙ up }
@@ -113,14 +108,14 @@ group_goes site w mid s L a b P e y group later (During x earlier before ended e
     let sending : Run = with_on_way (Some x.request) r in
     let there : Reaches site w (with_run before s r) = group_goes site w mid s L a b P e y earlier before around turn.2 way in
     let first : Next site (with_run before s r) (with_sent (with_run (with_run before s r) s sending) (request_frame x.request)) =
-    exchange_begins site (with_run before s r) s L a b earlier P e x.request y (stands before s r) turn.0 in
+    exchange_begins site (with_run before s r) s L a b earlier P e x.request y (placed before s r) turn.0 in
     let sent : Reaches site w (with_run (with_sent before (request_frame x.request)) s sending) =
     subst (λ v. Reaches site w (with_sent v (request_frame x.request))) (twice before s r sending)
     (Later (with_run before s r) (with_sent (with_run (with_run before s r) s sending) (request_frame x.request)) there first) in
     let came : Reaches site w (with_run ended s sending) = others_on site w (with_sent before (request_frame x.request)) s sending ended on sent in
     let now : Reaches site w (with_run ended s (ran L (step_of a b (x ∷ earlier) ∷ P) e)) =
     goes_to site w ended s sending (ran L (step_of a b (x ∷ earlier) ∷ P) e) came
-    (exchange_ends site (with_run ended s sending) s L a b x earlier P e y (stands ended s sending) may turn.1) in
+    (exchange_ends site (with_run ended s sending) s L a b x earlier P e y (placed ended s sending) may turn.1) in
     others_on site w ended s (ran L (step_of a b (x ∷ earlier) ∷ P) e) end after now
 
 played_before : (s : Source) (tries : ℕ) (step : Option Step) (P : List Step) → IsPlayed s tries (push step P) → IsPlayed s tries P
@@ -133,7 +128,7 @@ line_goes : InTurn → (site : Site) (w mid later : World) (s : Source) (L : Lis
 line_goes T site w mid later s L P m step text k y also takes around way =
     let begun : Reaches site w (with_run mid s (ran (m ∷ L) (push (option_map unsent step) P) false)) =
     goes_to site w mid s (ran L P false) (ran (m ∷ L) (push (option_map unsent step) P) false) way
-    (line_begins site (with_run mid s (ran L P false)) s L P m step text k y (stands mid s (ran L P false)) (played_before s (site.tries s) step P also) takes) in
+    (line_begins site (with_run mid s (ran L P false)) s L P m step text k y (placed mid s (ran L P false)) (played_before s (site.tries s) step P also) takes) in
     step_goes T site w mid later s (m ∷ L) P step y also around begun
   where
     step_goes : InTurn → (site : Site) (w mid later : World) (s : Source) (L : List Meaning) (P : List Step) (step : Option Step) → site.is_run s ≡ true → IsPlayed s (site.tries s) (push step P)
@@ -182,7 +177,7 @@ end_goes : InTurn → (site : Site) (w mid later : World) (s : Source) (L : List
 end_goes T site w mid later s L steps group y played around way =
     let r : Run = ran L steps false in
     let end : Next site (with_run mid s r) (with_run (with_run mid s r) s (ran L (begun false Drain ∷ steps) true)) =
-    subst (λ x. Next site (with_run mid s r) (with_run (with_run mid s r) s x)) (ap after_end (stands mid s r)) (ReadsEnd s (reads_on site (with_run mid s r) s L steps y (stands mid s r) played.1)) in
+    subst (λ x. Next site (with_run mid s r) (with_run (with_run mid s r) s x)) (ap after_end (placed mid s r)) (ReadsEnd s (reads_on site (with_run mid s r) s L steps y (placed mid s r) played.1)) in
     group_goes site w mid s L Drain false steps true y group later around (T s (site.tries s) steps (step_of Drain false group) played.0)
     (goes_to site w mid s r (ran L (begun false Drain ∷ steps) true) way end)
 
@@ -191,7 +186,7 @@ stop_goes : (site : Site) (w later : World) (s : Source) (L : List Meaning) (P :
 stop_goes site w later s L P y way =
     let r : Run = ran L P false in
     goes_to site w later s r (after_stop r) way
-    (subst (λ x. Next site (with_run later s r) (with_run (with_run later s r) s x)) (ap after_stop (stands later s r)) (Stops s (is_up site (with_run later s r) s r y (stands later s r) refl)))
+    (subst (λ x. Next site (with_run later s r) (with_run (with_run later s r) s x)) (ap after_stop (placed later s r)) (Stops s (is_up site (with_run later s r) s r y (placed later s r) refl)))
 
 -- ---- ends of a run
 

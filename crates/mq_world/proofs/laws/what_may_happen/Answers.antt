@@ -1,5 +1,5 @@
 -- A world of two runs, step by step.
-use Rattle.mq_world.proofs.Words.{All-from_recursion, AllByRecursion, Answered, AreTries, Ask, Book, Bool, ByOffset, Close, Drain, Ended, EndsWith, Entry, Exchange, FilterLine, Filters, Greater, Held, Id, IsCount, IsHost, IsHostByte, IsId, IsLegalBook, IsMoment, IsOffset, IsOrdinal, IsPlayed}
+use Rattle.mq_world.proofs.Words.{All-from_recursion, AllByRecursion, Answered, Ask, Book, Bool, ByOffset, Close, Drain, Ended, EndsWith, Exchange, FilterLine, Filters, Greater, Held, Id, IsCount, IsHost, IsHostByte, IsId, IsLegalBook, IsMoment, IsOffset, IsOrdinal, IsPlayed}
 use Rattle.mq_world.proofs.Words.{IsRead, IsReady, IsReply, IsRequest, IsRun, IsStamp, IsTry, IsWithin, IsZone, Less, List, MakesAll, Meaning, None, NoneYet, Outside, Reply, ReportLine, Request, Retire, SendsAll, SendsUpTo, Settle, Some, Source, SpellsReply, State, Step, TimedOut, Transaction, []}
 use Rattle.mq_world.proofs.Words.{all_of, ap, arith, between, cap, clash, clock, codes, count_by, day_of, decides, drained, either, either_of, exchanges_in, false, fault, first_so, floor, frame, held, id_of, if◌then◌else◌, inl, inr, is_eq, le_of, ledger_reply, length, list_any, nat_le, nat_lt}
 use Rattle.mq_world.proofs.Words.{nat_tests, ne_eqb, nothing_held, number_is, number_itself, pos, refl, reply_body, request_body, request_frame, requests, reserve_of, same_text, second_so, settled_in, slice_get, some_is, subst, sym, told_steps, true, ℕ, ℤ, ◌*◌, ◌++◌, ◌+◌, ◌<ℤ◌, ◌<◌, ◌==◌, ◌||◌, ◌∙◌}
@@ -9,7 +9,7 @@ use Rattle.std.proofs.lemmas.Int.{ints}
 use Rattle.mq_line.specs.Results.{registration, result_text}
 use Rattle.mq_line.specs.Text.{IsLine, text_of}
 use Rattle.mq_line.specs.declared.results.Decision.TheVariants.{Proceed}
-use Rattle.mq_request.specs.declared.message.Reply.TheVariants.{Granted, Full, Old, Retired, Settled, TooMany}
+use Rattle.mq_request.specs.declared.message.Reply.TheVariants.{Granted, Old, Retired, Settled, TooMany}
 use Rattle.mq_client.proofs.Making as making
 use Rattle.mq_client.proofs.Looping.{makes_none, makes_push}
 use Rattle.mq_client.specs.Past.{find}
@@ -225,13 +225,10 @@ is_start b legal = record { hosts = hosts; runs = λ s. refl; ledger = legal; en
 
 -- ---- the ledger's replies, and what it has then
 
-granted_by : (number : ℕ) (b : Book) (t : Bool) → t ≡ false → (if t then Full (id_of here number) 0 b.default else granting number) ≡ granting number
-granted_by number b t e = rw e refl
-
 -- an unused ledger grants one recipient where its default is at least one
 grants : (number txn moment : ℕ) (b : Book) → 1 ≤ b.default → reply_from (unused b) (reserve_of here number txn moment (codes "u")) ≡ granting number
 unfolding floor
-grants number txn moment b le = granted_by number b (nat_lt b.default 1) (grind (arith, nat_tests, le))
+grants number txn moment b le = let enough : nat_lt b.default 1 ≡ false = grind (arith, nat_tests, le) in rw enough refl
 
 -- of the first run's request it has the entry once, however often that is taken
 first_entry : (b : Book) → 1 ≤ b.default → (granted b).ledger.history ≡ entry (request here) reply ∷ []
@@ -507,9 +504,6 @@ asking = step (Ask 1 noon (codes "u")) false (answered ∷ [])
 abbrev pub ending_all : Step
 ending_all = step Drain false []
 
-tries_asking : AreTries 3 (request here) (answered ∷ []) (Some reply)
-tries_asking = (decides_it (request here) reply (granting_range 1 (within refl)) refl, tt, omega arith)
-
 -- what the later client has of a transaction
 found_at : (txn : ℕ) → find later_client.held txn ≡ (if 1 == txn then Some let_one else None)
 found_at txn = elim (either (1 == txn)) [
@@ -523,7 +517,7 @@ found_at txn = elim (either (1 == txn)) [
 
 made : MakesAll new_client later_client (ending_all ∷ asking ∷ [])
 made =
-    let asks = making.asked new_client later_client 1 noon (codes "u") (answered ∷ []) (Some reply) (omega arith) refl refl refl tries_asking found_at refl refl refl in
+    let asks = making.asked new_client later_client 1 noon (codes "u") (answered ∷ []) (Some reply) (omega arith) refl refl refl (decides_it (request here) reply (granting_range 1 (within refl)) refl, tt, omega arith) found_at refl refl refl in
     let ends = making.drained later_client later_client [] refl refl refl refl (SendsAll [] NoneYet) in
     makes_push new_client later_client later_client (asking ∷ []) (Some ending_all) (makes_push new_client new_client later_client [] (Some asking) (makes_none new_client) asks) ends
 
@@ -651,12 +645,9 @@ runs_to_its_end whole b legal le =
 -- ---- a day is forgotten while the run goes on
 
 -- noon's reserve goes with its day
-one_goes : (e : Entry) (t : Bool) → t ≡ false → (if (t || false) then e ∷ [] else []) ≡ []
-one_goes e t f = rw f refl
-
 forgets_noon : (b : Book) (D : ℕ) → nat_le D (day_of b.zone noon) ≡ false → (forgotten D (granted b)).ledger.history ≡ []
 unfolding floor
-forgets_noon b D before = one_goes (entry (request here) (reply_from (unused b) (request here))) (nat_le D (day_of b.zone noon)) before
+forgets_noon b D before = rw before refl
 
 is_cleared : (b : Book) (D : ℕ) → nat_le D (day_of b.zone noon) ≡ false → forgotten D (granted b) ≡ cleared b
 is_cleared b D before = ap (λ H. with_ledger (record { zone = b.zone; default = b.default; history = H }) (granted b)) (forgets_noon b D before)
