@@ -54,9 +54,6 @@ granted_of_run L s r a own suits g = absurd (clash false g refl)
 
 -- ---- the run after a forgetting
 
-stays_if : (day : ℕ → ℕ) (D : ℕ) (H : List Entry) (e : Entry) → is_about day D H e.request ≡ true → stays day D H e ≡ true
-stays_if day D H e about = rw about refl
-
 -- what stays, and the entries of the others
 still_in : (day : ℕ → ℕ) (D : ℕ) (H G : List Entry) (e : Entry) → In e (remembered day D H ++ G) → In e (H ++ G)
 still_in day D H G e i = elim (in_either (remembered day D H) G e i) [
@@ -77,7 +74,7 @@ granted_kept {day = day} {F = F} C L D below s tries P H G sent written h n txn 
       entry = k.entry;
       among = elim (in_either H G k.entry k.among) [
         | inl i ↦ (let yes : is_about day D H k.entry.request ≡ true = entry_about C L D s tries P H G sent written h txn k.entry i own ∙ ap (λ m. nat_le D (day m)) moment_is ∙ late in
-            stays_there day D H G k.entry i (stays_if day D H k.entry yes))
+            stays_there day D H G k.entry i (rw yes refl))
         | inr i ↦ in_back (remembered day D H) G k.entry i
       ];
       request = k.request;

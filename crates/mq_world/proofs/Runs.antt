@@ -137,11 +137,8 @@ own_by s q r own same = record { number = own.number; id = same ∙ own.id }
 
 -- ---- a step begins
 
-unavailable_not : asked.Unavailable ≡ asked.Granted → ⊥
-unavailable_not e = cc
-
 no_ground : (day : ℕ → ℕ) (F : ℕ) (s : Source) (H : List Entry) (v : View) (a : Action) (g : List Exchange) → answer_of g ≡ asked.Unavailable → IsGround day F s H v a g
-no_ground day F s H v (Ask txn moment login) g z = λ o f. absurd (unavailable_not (sym z ∙ o))
+no_ground day F s H v (Ask txn moment login) g z = λ o f. (let no : ⊥ = cc in absurd no)
 no_ground day F s H v a g z = tt
 
 -- what was written was granted or is forgotten, also of a past in which each request has its number still
@@ -202,9 +199,6 @@ granted_by : (o : Option Reply) → answer_by o ≡ asked.Granted → (a : Reply
 granted_by (Some (reply.Granted id used)) e = (reply.Granted id used, refl, refl)
 granted_by o e = (let no : ⊥ = cc in absurd no)
 
-grant_of : (q : Request) (o : Outcome) (d : Option Reply) (a : Reply) → IsDecision q o d → d ≡ Some a → Brings o a × (decides q a ≡ true)
-grant_of q o d a dec e = let D : Option Reply → Type 0 = λ x. IsDecision q o x in subst D e dec
-
 heard : {day : ℕ → ℕ} {F : ℕ} → OfFrames → OfClients → (s : Source) (tries : ℕ) (P : List Step) (H : List Entry) (sent written : List (List ℕ)) (txn moment : ℕ) (login : List ℕ) (g : List Exchange) (quiet : Bool) (x : Exchange)
     → AllSuit H → Holds day F s tries (step (Ask txn moment login) quiet (failing x.request ∷ g) ∷ P) H sent written → Comes written x.request x.outcome → IsDecision x.request x.outcome x.decided
     → answer_by x.decided ≡ asked.Granted → F ≤ day moment → GrantedIn s H (view s P).numbers txn moment login
@@ -212,7 +206,8 @@ heard {day = day} {F = since} F C s tries P H sent written txn moment login g qu
     let v = view s P in
     let Q : List Step = step (Ask txn moment login) quiet (failing x.request ∷ g) ∷ P in
     let k = granted_by x.decided e in
-    let d = grant_of x.request x.outcome x.decided k.0 dec k.1 in
+    let D : Option Reply → Type 0 = λ o. IsDecision x.request x.outcome o in
+    let d : Brings x.outcome k.0 × (decides x.request k.0 ≡ true) = subst D k.1 dec in
     let came = may k.0 d.0 d.1 in
     let number : IsNumbered s Q x.request = (C.sent s tries Q h.steps.underway).0 in
     let own : IsOwn s x.request = numbered_own s Q x.request number in

@@ -37,33 +37,28 @@ pub record SuitsUnder (s : Source) (t : ℕ) (st : Standing) (q : Request) : Typ
   pub id : id_in q ≡ Some (id_of s number)
   pub suits : Suits s number t st q
 
-pub numbered_suits : {day : ℕ → ℕ} {F : ℕ} → OfClients → (s : Source) (tries : ℕ) (P : List Step) (H : List Entry) (sent written : List (List ℕ)) → Holds day F s tries P H sent written → (t : ℕ) (q : Request) → IsNumbered s P q → txn_in q ≡ Some t → SuitsUnder s t ((view s P).standing t) q
-numbered_suits C s tries P H sent written h t q i named_is = record {
-  number = i.number;
-  id = i.id;
-  suits = C.suits s tries P h.steps.underway h.steps.returns i.number t q i.under named_is;
-}
-
 -- what each entry of a run's transaction is
 pub entry_suits : {day : ℕ → ℕ} {F : ℕ} → OfClients → OfLedgers → (s : Source) (tries : ℕ) (P : List Step) (H : List Entry) (sent written : List (List ℕ)) → Holds day F s tries P H sent written → (t : ℕ) (e : Entry) → In e H → is_of (of_source s t) e.request ≡ true → SuitsUnder s t ((view s P).standing t) e.request
 entry_suits C L s tries P H sent written h t e i mine =
     let o = of_source_own L s t e.request mine in
-    numbered_suits C s tries P H sent written h t e.request (h.taken e i o.0) o.1
+    let n = h.taken e i o.0 in
+    record { number = n.number; id = n.id; suits = C.suits s tries P h.steps.underway h.steps.returns n.number t e.request n.under o.1 }
 
 -- ---- all requests of a transaction are of its moment
 
-pub closing_moment : (s : Source) (n t : ℕ) (end : CloseEnd) (h : Held) → moment_of (closing_of s n t end h) ≡ h.moment
-closing_moment s n t end h = by_kind (is_commit end && nat_le 1 h.granted)
+-- what holds of a settle and of a release, holds of a closing
+pub closing_kinds : (P : Request → Type 0) (s : Source) (n t : ℕ) (end : CloseEnd) (h : Held) → P (Settle (id_of s n) t h.moment h.login h.granted) → P (Release (id_of s n) t h.moment h.login) → P (closing_of s n t end h)
+closing_kinds P s n t end h settle release = by_kind (is_commit end && nat_le 1 h.granted)
   where
-    by_kind : (b : Bool) → moment_of (if b then Settle (id_of s n) t h.moment h.login h.granted else Release (id_of s n) t h.moment h.login) ≡ h.moment
-    by_kind true = refl
-    by_kind false = refl
+    by_kind : (b : Bool) → P (if b then Settle (id_of s n) t h.moment h.login h.granted else Release (id_of s n) t h.moment h.login)
+    by_kind true = settle
+    by_kind false = release
 
 pub suits_moment : (s : Source) (n t : ℕ) (st : Standing) (q : Request) → Suits s n t st q → moment_of q ≡ at_of st
 suits_moment s n t Never q u = absurd u
 suits_moment s n t (Live h) q u = ap moment_of u
 suits_moment s n t (Closed end number h) q (inl r) = ap moment_of r
-suits_moment s n t (Closed end number h) q (inr p) = ap moment_of p.1 ∙ closing_moment s n t end h
+suits_moment s n t (Closed end number h) q (inr p) = ap moment_of p.1 ∙ closing_kinds (λ r. moment_of r ≡ h.moment) s n t end h refl refl
 
 pub entry_moment : {day : ℕ → ℕ} {F : ℕ} → OfClients → OfLedgers → (s : Source) (tries : ℕ) (P : List Step) (H : List Entry) (sent written : List (List ℕ)) → Holds day F s tries P H sent written → (t : ℕ) (e : Entry) → In e H → is_of (of_source s t) e.request ≡ true → moment_of e.request ≡ at_of ((view s P).standing t)
 entry_moment C L s tries P H sent written h t e i mine =

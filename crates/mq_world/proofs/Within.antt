@@ -1,8 +1,8 @@
 -- What was let through is held or settled by the ledgers together: of a transaction, and of a login and day.
-use Rattle.mq_world.proofs.Words.{Action, AllByRecursion, AreDistinct, AreUnderway, Ask, Book, Bool, Close, CloseEnd, Closed, Drain, Entry, Exchange, Held, In, IsLegalBook, List, Live, Never, None, NoneReturns, Option, Release, Reply, Request, Settle, Some, Source, Standing, Step, Suits}
-use Rattle.mq_world.proofs.Words.{Transaction, View, Zone, [], after, after_ask, after_close, answer_by, answer_of, ap, arith, both_so, clash, closes, closing_of, counted, counted_in, day_of, decisions, either, ended_not, failures, false, first_so, granted, granted_in, held, held_by, held_on, id_of}
-use Rattle.mq_world.proofs.Words.{if◌then◌else◌, inl, inr, is_closed, is_for, is_of, is_some, length, let_through, list_any, named, names_for, nat_le, nat_tests, next_of, none_some, number_is, opened, option_cases, refl, refuses, reserve_of, same_text, second_so, settled_in, settled_on, slice_get}
-use Rattle.mq_world.proofs.Words.{some_is, subst, suc, sum_by, sum_by-append, sum_by-cons, sum_by-le-sum_by, sym, tries_in, true, view, zero, zero_or_more, ℕ, ◌&&◌, ◌+◌, ◌<◌, ◌==◌, ◌∙◌, ◌∷◌, ◌≡◌, ◌≤◌, ◌⊎◌}
+use Rattle.mq_world.proofs.Words.{Action, AllByRecursion, AreDistinct, AreUnderway, Ask, Book, Bool, Close, CloseEnd, Closed, Drain, Entry, Exchange, Held, In, IsLegalBook, List, Live, Never, None, NoneReturns, Option, Reply, Request, Some, Source, Standing, Step, Suits, Transaction, View, Zone, []}
+use Rattle.mq_world.proofs.Words.{after, after_ask, after_close, answer_by, answer_of, ap, arith, both_so, clash, closes, closing_of, counted, counted_in, day_of, decisions, either, ended_not, failures, false, first_so, granted, granted_in, held, held_by, held_on, if◌then◌else◌, inl, inr, is_closed}
+use Rattle.mq_world.proofs.Words.{is_for, is_of, is_some, length, let_through, list_any, named, names_for, nat_le, nat_tests, next_of, none_some, number_is, opened, option_cases, refl, refuses, reserve_of, same_text, second_so, settled_in, settled_on, slice_get, some_is, subst, suc, sum_by}
+use Rattle.mq_world.proofs.Words.{sum_by-append, sum_by-cons, sum_by-le-sum_by, sym, tries_in, true, view, zero, zero_or_more, ℕ, ◌&&◌, ◌+◌, ◌<◌, ◌==◌, ◌∙◌, ◌∷◌, ◌≡◌, ◌≤◌, ◌⊎◌}
 use Rattle.mq_track.specs.declared.closing.CloseEnd.TheVariants as ending
 use Rattle.mq_client.specs.declared.held.Asked.TheVariants as asked
 use Rattle.mq_world.specs.World.{with_exchange}
@@ -14,7 +14,7 @@ use Rattle.mq_world.proofs.Pools.{pool, in_one}
 use Rattle.mq_world.proofs.Ranges.{unless}
 use Rattle.mq_world.proofs.Grounds.{of_source, let_at, at_of}
 use Rattle.mq_world.proofs.Runs.{is_settle, count_of, AllSuit, failing, so_far, step}
-use Rattle.mq_world.proofs.Takes.{SuitsUnder, not_ended, reserve_closes, closes_not, closes_settled}
+use Rattle.mq_world.proofs.Takes.{SuitsUnder, closing_kinds, not_ended, reserve_closes, closes_not, closes_settled}
 
 -- ---- an exchange on its way lets nothing through
 
@@ -90,11 +90,7 @@ kept_each L (b ∷ bs) t each =
     omega (arith, kept, rest, parts, sum_by-cons (kept_of t) b bs)
 
 closing_count : (s : Source) (n t : ℕ) (k : Held) → is_settle (closing_of s n t ending.Commit k) ≡ true → count_of (closing_of s n t ending.Commit k) ≡ k.granted
-closing_count s n t k y = by_kind (nat_le 1 k.granted) y
-  where
-    by_kind : (b : Bool) → is_settle (if b then Settle (id_of s n) t k.moment k.login k.granted else Release (id_of s n) t k.moment k.login) ≡ true → count_of (if b then Settle (id_of s n) t k.moment k.login k.granted else Release (id_of s n) t k.moment k.login) ≡ k.granted
-    by_kind true y = refl
-    by_kind false y = absurd (clash false y refl)
+closing_count s n t k = closing_kinds (λ r. is_settle r ≡ true → count_of r ≡ k.granted) s n t ending.Commit k (λ y. refl) (λ y. absurd (clash false y refl))
 
 closing_settle : (s : Source) (n t : ℕ) (k : Held) → 0 < k.granted → is_settle (closing_of s n t ending.Commit k) ≡ true
 closing_settle s n t k some = let one : nat_le 1 k.granted ≡ true = grind (arith, nat_tests, some) in rw one refl
@@ -147,11 +143,7 @@ suits_for day l d s n t Never q u on = absurd u
 suits_for day l d s n t (Live k) q u on = ap (is_for day l d) u ∙ on
 suits_for day l d s n t (Closed ending.Rollback number k) q u on = absurd (clash false on refl)
 suits_for day l d s n t (Closed ending.Commit number k) q (inl r) on = ap (is_for day l d) r ∙ on
-suits_for day l d s n t (Closed ending.Commit number k) q (inr p) on = ap (is_for day l d) p.1 ∙ by_kind (nat_le 1 k.granted)
-  where
-    by_kind : (b : Bool) → is_for day l d (if b then Settle (id_of s n) t k.moment k.login k.granted else Release (id_of s n) t k.moment k.login) ≡ true
-    by_kind true = on
-    by_kind false = on
+suits_for day l d s n t (Closed ending.Commit number k) q (inr p) on = ap (is_for day l d) p.1 ∙ closing_kinds (λ r. is_for day l d r ≡ true) s n t ending.Commit k on on
 
 on_named : (day : ℕ → ℕ) (H : List Entry) (l : List ℕ) (d : ℕ) (t : Transaction) (e : Entry) (n : ℕ) → named H t ≡ Some e → is_for day l d e.request ≡ true → n ≤ held H t + settled_in H t → n ≤ held_on day H l d t + settled_on day H l d t
 on_named day H l d t e n is here le =

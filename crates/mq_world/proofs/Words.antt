@@ -1,14 +1,14 @@
--- The names from below that many proofs cite, passed on from one place. It declares nothing.
-pub use Rattle.std.proofs.Common.{Bool, Greater, Less, List, None, Option, Some, [], ap, arith, false, if◌then◌else◌, inl, inr, is_eq, is_some, nat_le, refl, subst, suc, sym, true, zero, ℕ, ◌&&◌, ◌++◌, ◌+◌, ◌<◌, ◌==◌, ◌∙◌, ◌∷◌, ◌≡◌, ◌≤◌}
+-- The names of other crates that these proofs cite, passed on from one place. It declares nothing.
+pub use Rattle.std.proofs.Common.{Bool, List, None, Option, Some, [], ap, arith, false, if◌then◌else◌, inl, inr, is_some, nat_le, refl, subst, suc, sym, true, zero, ℕ, ◌&&◌, ◌++◌, ◌+◌, ◌<◌, ◌==◌, ◌∙◌, ◌∷◌, ◌≡◌, ◌≤◌}
 pub use Rattle.std.proofs.lemmas.Bool.{ne_eqb}
 pub use Rattle.std.proofs.lemmas.Bool.Decides.{nat_tests}
 pub use Rattle.std.proofs.lemmas.List.Elements.{All-from_recursion, recursion_from_All}
 pub use Rattle.std.proofs.lemmas.List.Sums.{sum_by-append, sum_by-cons, sum_by-le-sum_by}
-pub use Rattle.std.specs.List.{AllByRecursion, list_all, list_any}
+pub use Rattle.std.specs.List.{AllByRecursion, list_any}
 pub use Rattle.std.specs.Option.{option_map, option_or}
-pub use Rattle.std.specs.Prelude.{All, codes, count_by, filter, length, nat_lt, not, pos, slice_get, sum_by, ℤ, ◌*◌, ◌<ℤ◌, ◌||◌, ◌↔◌, ◌≢◌, ◌≤ℤ◌, ◌⊎◌}
+pub use Rattle.std.specs.Prelude.{All, codes, count_by, length, nat_lt, not, pos, slice_get, sum_by, ℤ, ◌*◌, ◌<ℤ◌, ◌||◌, ◌↔◌, ◌≢◌, ◌≤ℤ◌, ◌⊎◌}
 pub use Rattle.mq_client.proofs.Numbering.{ended_not, let_through_at, more_numbers, one_request}
-pub use Rattle.mq_client.specs.Exchanges.{AreTries, Exchange, IsDecision, IsTry, NoneYet, SendsAll, SendsUpTo, answers_closing, answers_reserve, decides, decisions}
+pub use Rattle.mq_client.specs.Exchanges.{Exchange, IsDecision, IsTry, NoneYet, SendsAll, SendsUpTo, answers_closing, answers_reserve, decides, decisions}
 pub use Rattle.mq_client.specs.Filter.{Answers, Asks, Closes, Filters, Passes, Query, Refuses, Takes, action_of, actions, actions_of, asking_of, at_line, close_of, is_login, is_moment, push, query, query_at}
 pub use Rattle.mq_client.specs.Holding.{Holding, held_back, nothing_held}
 pub use Rattle.mq_client.specs.Numbered.{IsNumbered, NoneReturns, Suits, exchanges_in, id_in, is_closed, request_under, txn_in}
@@ -36,11 +36,11 @@ pub use Rattle.mq_lemmas.proofs.Booleans.{both_so, clash, either, either_of, fir
 pub use Rattle.mq_lemmas.proofs.Lists.{In, all_at, all_drop, all_filter, all_of, all_push, in_filter, weaker}
 pub use Rattle.mq_lemmas.proofs.Numbers.{le_of, number_is, number_itself, zero_or_more}
 pub use Rattle.mq_lemmas.proofs.Options.{none_some, option_cases, some_is}
-pub use Rattle.mq_line.specs.Grammar.{ConfigLine, FilterLine, IsStamp, Meaning, OtherLine, Reads as IsRead, ReadyLine, ReportLine}
+pub use Rattle.mq_line.specs.Grammar.{FilterLine, IsStamp, Meaning, Reads as IsRead, ReportLine}
 pub use Rattle.mq_link.specs.declared.link.LinkFault.TheVariants.{Down, TimedOut}
 pub use Rattle.mq_link.specs.declared.link.Outcome.{Outcome}
 pub use Rattle.mq_link.specs.declared.link.Outcome.TheVariants.{Answered, Faulted}
-pub use Rattle.mq_request.specs.Range.{IsWithin, between, IsAmount, IsCount, IsHost, IsHostByte, IsId, IsLogin, IsMoment, IsOrdinal, IsReply, IsRequest, IsRun}
+pub use Rattle.mq_request.specs.Range.{IsAmount, IsCount, IsHost, IsHostByte, IsId, IsLogin, IsMoment, IsOrdinal, IsReply, IsRequest, IsRun, IsWithin, between}
 pub use Rattle.mq_request.specs.Same.{same_id, same_request, same_text}
 pub use Rattle.mq_request.specs.declared.message.Id.{Id}
 pub use Rattle.mq_request.specs.declared.message.Reply.{Reply}

@@ -1,9 +1,8 @@
 -- A world of two runs, step by step.
-use Rattle.mq_world.proofs.Words.{All-from_recursion, AllByRecursion, Answered, Ask, Book, Bool, ByOffset, Close, Drain, Ended, EndsWith, Exchange, FilterLine, Filters, Greater, Held, Id, IsCount, IsHost, IsHostByte, IsId, IsLegalBook, IsMoment, IsOffset, IsOrdinal, IsPlayed}
-use Rattle.mq_world.proofs.Words.{IsRead, IsReady, IsReply, IsRequest, IsRun, IsStamp, IsTry, IsWithin, IsZone, Less, List, MakesAll, Meaning, None, NoneYet, Outside, Reply, ReportLine, Request, Retire, SendsAll, SendsUpTo, Settle, Some, Source, SpellsReply, State, Step, TimedOut, Transaction, []}
-use Rattle.mq_world.proofs.Words.{all_of, ap, arith, between, cap, clash, clock, codes, count_by, day_of, decides, drained, either, either_of, exchanges_in, false, fault, first_so, floor, frame, held, id_of, if◌then◌else◌, inl, inr, is_eq, le_of, ledger_reply, length, list_any, nat_le, nat_lt}
-use Rattle.mq_world.proofs.Words.{nat_tests, ne_eqb, nothing_held, number_is, number_itself, pos, refl, reply_body, request_body, request_frame, requests, reserve_of, same_text, second_so, settled_in, slice_get, some_is, subst, sym, told_steps, true, ℕ, ℤ, ◌*◌, ◌++◌, ◌+◌, ◌<ℤ◌, ◌<◌, ◌==◌, ◌||◌, ◌∙◌}
-use Rattle.mq_world.proofs.Words.{◌∷◌, ◌≡◌, ◌≢◌, ◌≤ℤ◌, ◌≤◌}
+use Rattle.mq_world.proofs.Words.{All-from_recursion, AllByRecursion, Answered, Ask, Book, Bool, ByOffset, Close, Drain, Ended, EndsWith, Exchange, FilterLine, Filters, Held, Id, IsCount, IsHost, IsHostByte, IsId, IsLegalBook, IsMoment, IsOffset, IsOrdinal, IsPlayed, IsRead, IsReady, IsReply}
+use Rattle.mq_world.proofs.Words.{IsRequest, IsRun, IsStamp, IsTry, IsWithin, IsZone, List, MakesAll, Meaning, None, NoneYet, Outside, Reply, ReportLine, Request, Retire, SendsAll, SendsUpTo, Settle, Some, Source, SpellsReply, State, Step, TimedOut, Transaction, [], all_of, ap, arith, between, cap}
+use Rattle.mq_world.proofs.Words.{clash, clock, codes, count_by, day_of, decides, drained, either, either_of, exchanges_in, false, fault, first_so, floor, frame, held, id_of, if◌then◌else◌, inl, inr, le_of, ledger_reply, length, list_any, nat_le, nat_lt, nat_tests, ne_eqb, nothing_held, number_is}
+use Rattle.mq_world.proofs.Words.{number_itself, pos, refl, reply_body, request_body, request_frame, requests, reserve_of, same_text, second_so, settled_in, slice_get, some_is, subst, sym, told_steps, true, ℕ, ℤ, ◌*◌, ◌++◌, ◌+◌, ◌<ℤ◌, ◌<◌, ◌==◌, ◌||◌, ◌∙◌, ◌∷◌, ◌≡◌, ◌≢◌, ◌≤ℤ◌, ◌≤◌}
 use Rattle.mq_world.proofs.Takes.{entry}
 use Rattle.std.proofs.lemmas.Int.{ints}
 use Rattle.mq_line.specs.Results.{registration, result_text}
@@ -175,11 +174,8 @@ abbrev pub split : Book → Book → World
 split a b = exchanged (reads (granted_more a b) here false commit_line) (settle 3 2) (TooMany (id_of here 3) 1)
 
 -- it moves while an exchange is on its way, whose frame that server takes too
-abbrev pub moved_early : Book → Book → World
-moved_early a b = with_ledger (unused b) (taken a)
-
 abbrev pub granted_there : Book → Book → World
-granted_there a b = ends (takes (moved_early a b)) here answered
+granted_there a b = ends (takes (with_ledger (unused b) (taken a))) here answered
 
 -- ---- in range
 
@@ -235,11 +231,6 @@ first_entry : (b : Book) → 1 ≤ b.default → (granted b).ledger.history ≡ 
 unfolding floor
 first_entry b le = ap (λ a. entry (request here) a ∷ []) (grants 1 1 noon b le)
 
--- its reply is the one that is stored
-stored_reply : (b : Book) → 1 ≤ b.default → reply_from (taken b).ledger (request here) ≡ reply
-unfolding floor
-stored_reply b le = grants 1 1 noon b le
-
 given_up_entries : (b : Book) → 1 ≤ b.default → (given_up b).ledger.history ≡ entry (request here) reply ∷ entry (Retire retire_id) (Retired retire_id) ∷ []
 unfolding floor
 given_up_entries b le = ap (λ a. entry (request here) a ∷ entry (Retire retire_id) (Retired retire_id) ∷ []) (grants 1 1 noon b le)
@@ -250,8 +241,7 @@ settled_reply b le = ap (λ H. ledger_reply (day_of b.zone) b.default H (settle 
 
 settled_entries : (b : Book) → 1 ≤ b.default → (settled_at_end b).ledger.history ≡ entry (request here) reply ∷ entry (settle 2 1) (Settled (id_of here 2) 1) ∷ []
 unfolding floor
-settled_entries b le = subst (λ a. (settled_at_end b).ledger.history ≡ entry (request here) a ∷ entry (settle 2 1) (Settled (id_of here 2) 1) ∷ []) (grants 1 1 noon b le)
-    (ap (λ x. entry (request here) (reply_from (unused b) (request here)) ∷ entry (settle 2 1) x ∷ []) (settled_reply b le))
+settled_entries b le = λ i. entry (request here) (grants 1 1 noon b le i) ∷ entry (settle 2 1) (settled_reply b le i) ∷ []
 
 too_many : (a b : Book) → 1 ≤ b.default → reply_from (granted_more a b).ledger (settle 3 2) ≡ TooMany (id_of here 3) 1
 unfolding floor
@@ -259,14 +249,11 @@ too_many a b le = ap (λ x. ledger_reply (day_of b.zone) b.default (entry (secon
 
 split_entries : (a b : Book) → 1 ≤ b.default → (split a b).ledger.history ≡ entry (second_request 1 noon) (granting 2) ∷ entry (settle 3 2) (TooMany (id_of here 3) 1) ∷ []
 unfolding floor
-split_entries a b le = subst (λ x. (split a b).ledger.history ≡ entry (second_request 1 noon) x ∷ entry (settle 3 2) (TooMany (id_of here 3) 1) ∷ []) (grants 2 1 noon b le)
-    (ap (λ x. entry (second_request 1 noon) (reply_from (unused b) (second_request 1 noon)) ∷ entry (settle 3 2) x ∷ []) (too_many a b le))
+split_entries a b le = λ i. entry (second_request 1 noon) (grants 2 1 noon b le i) ∷ entry (settle 3 2) (too_many a b le i) ∷ []
 
 -- the frame of its reply is written for each frame that it takes
 each_written : (a b : Reply) → a ≡ reply → b ≡ reply → count_by (same_text (frame (reply_body reply))) (frame (reply_body a) ∷ frame (reply_body b) ∷ []) ≡ 2
-each_written a b e f =
-    ap (λ x. count_by (same_text (frame (reply_body reply))) (frame (reply_body x) ∷ frame (reply_body b) ∷ [])) e
-    ∙ ap (λ x. count_by (same_text (frame (reply_body reply))) (frame (reply_body reply) ∷ frame (reply_body x) ∷ [])) f
+each_written a b e f = λ i. count_by (same_text (frame (reply_body reply))) (frame (reply_body (e i)) ∷ frame (reply_body (f i)) ∷ [])
 
 written_twice : (b : Book) → 1 ≤ b.default → times_written reply (takes (taken b)) ≡ 2
 unfolding floor
@@ -282,7 +269,7 @@ sending : {first w : World} → (s : Source) (q : Request) → Reaches site firs
 sending s q r run up none turn = Later _ _ r (Sends s q (record { is_run = run; is_up = up }) none turn)
 
 taking : {first w : World} → (which : ℕ) (q : Request) → Reaches site first w → slice_get w.sent which ≡ Some (request_frame q) → IsRequest q → Reaches site first (after_arrival w q)
-taking which q r there range = Later _ _ r (Takes which (request_body q) q there (record { bytes = refl; in_range = range }))
+taking which q r was_sent range = Later _ _ r (Takes which (request_body q) q was_sent (record { bytes = refl; in_range = range }))
 
 -- what the ledger replied to a request, as the last reply that was written
 newest_written : (w : World) (q : Request) (a : Reply) → reply_from w.ledger q ≡ a → MayCome (after_arrival w q).written (Answered (reply_body a))
@@ -316,7 +303,8 @@ loses : (b : Book) → Next site (taken b) (ends (taken b) here lost)
 loses b = Ends here lost (record { is_run = refl; is_up = refl }) refl tt (λ a brings. absurd brings)
 
 from_lost : (b : Book) → 1 ≤ b.default → Reaches site (ends (taken b) here lost) (granted b)
-from_lost b le = exchanging (request here) reply AtOnce refl refl refl request_range (stored_reply b le) (granting_range 1 (within refl)) refl
+unfolding floor
+from_lost b le = exchanging (request here) reply AtOnce refl refl refl request_range (grants 1 1 noon b le) (granting_range 1 (within refl)) refl
 
 to_granted : (b : Book) → 1 ≤ b.default → Reaches site (start b) (granted b)
 to_granted b le = joined (Later (taken b) (ends (taken b) here lost) (to_taken b) (loses b)) (from_lost b le)
@@ -328,8 +316,9 @@ to_asked_there b le =
     sending there (request there) (reading there false (recipient_line (codes "s") noon) begin refl refl refl refl refl tt) refl refl refl refl
 
 to_late : OneReply → (b : Book) → 1 ≤ b.default → Reaches site (start b) (ends (asked_there b) there late)
+unfolding floor
 to_late one_reply b le =
-    Later _ _ (to_asked_there b le) (Ends there late (record { is_run = refl; is_up = refl }) refl (inr (inr (0, ap (λ a. Some (frame (reply_body a))) (stored_reply b le))))
+    Later _ _ (to_asked_there b le) (Ends there late (record { is_run = refl; is_up = refl }) refl (inr (inr (0, ap (λ a. Some (frame (reply_body a))) (grants 1 1 noon b le))))
     (λ a spells. (let same : reply ≡ a = one_reply (reply_body reply) reply a (record { bytes = refl; in_range = granting_range 1 (within refl) }) spells in
     subst (λ x. decides (request there) x ≡ false) same refl)))
 
@@ -393,8 +382,8 @@ to_split a b le =
     let commits = reading here false commit_line more refl refl refl refl refl asked_twice in
     exchanging (settle 3 2) (TooMany (id_of here 3) 1) commits refl refl refl (settle_range 3 2 (within refl) (within refl)) (too_many a b le) (id_range 3 (within refl), within refl) refl
 
-to_granted_there : (a b : Book) → 1 ≤ b.default → Reaches site (moved_early a b) (granted_there a b)
-to_granted_there a b le = answering (moved_early a b) (request here) reply (taking 0 (request here) AtOnce refl request_range) refl refl (grants 1 1 noon b le) (granting_range 1 (within refl)) refl
+to_granted_there : (a b : Book) → 1 ≤ b.default → Reaches site (with_ledger (unused b) (taken a)) (granted_there a b)
+to_granted_there a b le = answering (with_ledger (unused b) (taken a)) (request here) reply (taking 0 (request here) AtOnce refl request_range) refl refl (grants 1 1 noon b le) (granting_range 1 (within refl)) refl
 
 -- ---- what has happened then
 
@@ -508,12 +497,8 @@ ending_all = step Drain false []
 found_at : (txn : ℕ) → find later_client.held txn ≡ (if 1 == txn then Some let_one else None)
 found_at txn = elim (either (1 == txn)) [
   | inl same ↦ subst (λ x. find later_client.held x ≡ (if 1 == x then Some let_one else None)) (number_is 1 txn same) refl
-  | inr differs ↦ rw (differs, ne_eqb txn 1 (λ e. clash (1 == txn) (ap (λ x. 1 == x) e) differs)) (neither (nat_lt txn 1))
+  | inr differs ↦ rw (differs, ne_eqb txn 1 (λ e. clash (1 == txn) (ap (λ x. 1 == x) e) differs)) (elim (either (nat_lt txn 1)) [ inl less ↦ rw less refl | inr more ↦ rw more refl ])
 ]
-  where
-    neither : (b : Bool) → (if is_eq (if b then Less else Greater) then Some let_one else None) ≡ None
-    neither true = refl
-    neither false = refl
 
 made : MakesAll new_client later_client (ending_all ∷ asking ∷ [])
 made =
