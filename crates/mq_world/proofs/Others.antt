@@ -77,30 +77,24 @@ longer x l e = let more : suc (length l) ≡ length l = ap length e in absurd (o
 not_there : (line : Meaning) (quiet : Bool) (r : Run) → after_line quiet line r ≡ r → ⊥
 not_there line quiet r e = longer line r.lines (ap (λ (x : Run). x.lines) e)
 
+-- a run that was moved, while this one stands as it did, is another
+elsewhere : {T : Type 0} → (w : World) (s u : Source) (x : Run) → (with_run w u x).runs s ≡ w.runs s → (x ≡ w.runs u → ⊥) → (same_source s u ≡ false → T) → T
+elsewhere w s u x is moves other = elim (either (same_source s u)) [ inl same ↦ absurd (moves (moved w s u x same is)) | inr apart ↦ other apart ]
+
 -- a step that leaves the run as it is, is one wherever the run stands
 pub anywhere : (site : Site) (w later : World) (s : Source) (r : Run) → Next site w later → later.runs s ≡ w.runs s → Next site (with_run w s r) (with_run later s r)
-anywhere site w later s r (Reads u line quiet on ok) is = elim (either (same_source s u)) [
-  | inl same ↦ absurd (not_there line quiet (w.runs u) (moved w s u (after_line quiet line (w.runs u)) same is))
-  | inr apart ↦ comes_to site w s u r (after_line quiet line) apart (Reads u line quiet (reads_on site w s u r apart on) (ap (λ (x : Run). fault x.lines line) (stands w s u r apart) ∙ ok))
-]
-anywhere site w later s r (ReadsEnd u on) is = elim (either (same_source s u)) [
-  | inl same ↦ absurd (clash (w.runs u).is_at_end (sym (ap (λ (x : Run). x.is_at_end) (moved w s u (after_end (w.runs u)) same is))) on.before_end)
-  | inr apart ↦ comes_to site w s u r after_end apart (ReadsEnd u (reads_on site w s u r apart on))
-]
-anywhere site w later s r (Sends u q up none asks) is = elim (either (same_source s u)) [
-  | inl same ↦ absurd (none_some q (sym none ∙ sym (ap (λ (x : Run). x.on_way) (moved w s u (with_on_way (Some q) (w.runs u)) same is))))
-  | inr apart ↦ (let at : (with_run w s r).runs u ≡ w.runs u = stands w s u r apart in
-      subst (λ v. Next site (with_run w s r) (with_sent v (request_frame q)))
-      (ap (λ x. with_run (with_run w s r) u (with_on_way (Some q) x)) at ∙ swapped w s u r (with_on_way (Some q) (w.runs u)) apart)
-      (Sends u q (is_up site w s u r apart up) (ap (λ (x : Run). x.on_way) at ∙ none) (ap (λ (x : Run). next_request u (site.tries u) x.past) at ∙ asks)))
-]
-anywhere site w later s r (Ends u x up on_way may decision) is = elim (either (same_source s u)) [
-  | inl same ↦ absurd (none_some x.request (ap (λ (y : Run). y.on_way) (moved w s u (after_exchange x (w.runs u)) same is) ∙ on_way))
-  | inr apart ↦ comes_to site w s u r (after_exchange x) apart (Ends u x (is_up site w s u r apart up) (ap (λ (y : Run). y.on_way) (stands w s u r apart) ∙ on_way) may decision)
-]
+anywhere site w later s r (Reads u line quiet on ok) is = elsewhere w s u (after_line quiet line (w.runs u)) is (λ e. not_there line quiet (w.runs u) e)
+    (λ apart. comes_to site w s u r (after_line quiet line) apart (Reads u line quiet (reads_on site w s u r apart on) (ap (λ (x : Run). fault x.lines line) (stands w s u r apart) ∙ ok)))
+anywhere site w later s r (ReadsEnd u on) is = elsewhere w s u (after_end (w.runs u)) is (λ e. clash (w.runs u).is_at_end (sym (ap (λ (x : Run). x.is_at_end) e)) on.before_end)
+    (λ apart. comes_to site w s u r after_end apart (ReadsEnd u (reads_on site w s u r apart on)))
+anywhere site w later s r (Sends u q up none asks) is = elsewhere w s u (with_on_way (Some q) (w.runs u)) is (λ e. none_some q (sym none ∙ sym (ap (λ (x : Run). x.on_way) e)))
+    (λ apart. (let at : (with_run w s r).runs u ≡ w.runs u = stands w s u r apart in
+    subst (λ v. Next site (with_run w s r) (with_sent v (request_frame q)))
+    (ap (λ x. with_run (with_run w s r) u (with_on_way (Some q) x)) at ∙ swapped w s u r (with_on_way (Some q) (w.runs u)) apart)
+    (Sends u q (is_up site w s u r apart up) (ap (λ (x : Run). x.on_way) at ∙ none) (ap (λ (x : Run). next_request u (site.tries u) x.past) at ∙ asks))))
+anywhere site w later s r (Ends u x up on_way may decision) is = elsewhere w s u (after_exchange x (w.runs u)) is (λ e. none_some x.request (ap (λ (y : Run). y.on_way) e ∙ on_way))
+    (λ apart. comes_to site w s u r (after_exchange x) apart (Ends u x (is_up site w s u r apart up) (ap (λ (y : Run). y.on_way) (stands w s u r apart) ∙ on_way) may decision))
 anywhere site w later s r (Takes which body q there spells) is = Takes which body q there spells
 anywhere site w later s r (OthersSend bytes others) is = OthersSend bytes others
-anywhere site w later s r (Stops u up) is = elim (either (same_source s u)) [
-  | inl same ↦ absurd (clash (w.runs u).is_stopped (sym (ap (λ (x : Run). x.is_stopped) (moved w s u (after_stop (w.runs u)) same is))) up.is_up)
-  | inr apart ↦ comes_to site w s u r after_stop apart (Stops u (is_up site w s u r apart up))
-]
+anywhere site w later s r (Stops u up) is = elsewhere w s u (after_stop (w.runs u)) is (λ e. clash (w.runs u).is_stopped (sym (ap (λ (x : Run). x.is_stopped) e)) up.is_up)
+    (λ apart. comes_to site w s u r after_stop apart (Stops u (is_up site w s u r apart up)))

@@ -54,23 +54,19 @@ sound_start F site w G z suits none = record {
 
 -- ---- what an exchange brings
 
-retry_not : (q : Request) → decides q reply.Retry ≡ false
-retry_not (Reserve id txn moment login count) = refl
-retry_not q = refl
-
-bad_not : (q : Request) → decides q reply.Bad ≡ false
-bad_not (Reserve id txn moment login count) = refl
-bad_not q = refl
+neither_decides : (q : Request) → (decides q reply.Retry ≡ false) × (decides q reply.Bad ≡ false)
+neither_decides (Reserve id txn moment login count) = (refl, refl)
+neither_decides q = (refl, refl)
 
 -- what comes and decides was written
 brought : OfFrames → (written : List (List ℕ)) (o : Outcome) (q : Request) → MayCome written o → Comes written q o
 brought F written (Faulted f) q may = λ a b d. absurd b
 brought F written (Answered body) q (inl retry) = λ a b d.
     let same : a ≡ reply.Retry = F.one_body body a reply.Retry b (record { bytes = retry; in_range = tt }) in
-    absurd (clash (decides q a) d (ap (decides q) same ∙ retry_not q))
+    absurd (clash (decides q a) d (ap (decides q) same ∙ (neither_decides q).0))
 brought F written (Answered body) q (inr (inl bad)) = λ a b d.
     let same : a ≡ reply.Bad = F.one_body body a reply.Bad b (record { bytes = bad; in_range = tt }) in
-    absurd (clash (decides q a) d (ap (decides q) same ∙ bad_not q))
+    absurd (clash (decides q a) d (ap (decides q) same ∙ (neither_decides q).1))
 brought F written (Answered body) q (inr (inr w)) = λ a b d.
     let I : List ℕ → Type 0 = λ x. In (frame x) written in
     (subst I b.bytes (in_get written w.0 (frame body) w.1), b.in_range)

@@ -275,7 +275,7 @@ taking which q r was_sent range = Later _ _ r (Takes which (request_body q) q wa
 newest_written : (w : World) (q : Request) (a : Reply) → reply_from w.ledger q ≡ a → MayCome (after_arrival w q).written (Answered (reply_body a))
 newest_written w q a is = inr (inr (0, ap (λ x. Some (frame (reply_body x))) is))
 
--- a whole exchange of the first run, and its end alone
+-- the end of an exchange of the first run, once the ledger took its request, and a whole exchange
 answering : {first : World} → (w : World) (q : Request) (a : Reply) → Reaches site first (after_arrival w q) → (w.runs here).is_stopped ≡ false → (w.runs here).on_way ≡ Some q → reply_from w.ledger q ≡ a → IsReply a → decides q a ≡ true
     → Reaches site first (ends (after_arrival w q) here (decided q a))
 answering w q a r up on replied range decide = Later _ _ r (Ends here (decided q a) (record { is_run = refl; is_up = up }) on (newest_written w q a replied) (record { bytes = refl; in_range = range }, decide))
