@@ -1,5 +1,5 @@
 -- What holds of a run holds once days before F are forgotten.
-use Rattle.mq_world.proofs.Words.{Entry, Id, In, IsLegal, List, Release, RepliesSuit, Reply, Request, Reserve, Settle, Source, Step, Transaction, ap, arith, clash, day_named, decides, either, false, id_of, in_filter, inl, inr, is_about, is_of, is_set, moment_of, named, nat_le, nat_tests}
+use Rattle.mq_world.proofs.Words.{Entry, In, IsLegal, List, Release, RepliesSuit, Reply, Request, Reserve, Settle, Source, Step, Transaction, ap, arith, clash, day_named, decides, either, false, id_of, in_filter, inl, inr, is_about, is_of, is_set, moment_of, named, nat_le, nat_tests}
 use Rattle.mq_world.proofs.Words.{neither_first, option_cases, refl, remembered, same_transaction, some_is, stays, subst, sym, transaction, true, ℕ, ◌++◌, ◌∙◌, ◌≡◌, ◌≤◌, ◌⊎◌}
 use Rattle.mq_request.specs.declared.message.Reply.TheVariants as reply
 use Rattle.mq_forget.proofs.Lists.{filter_in}
@@ -43,12 +43,9 @@ record IsOfRun (s : Source) (r : Request) : Type 0 where
   pub txn : ℕ
   pub is : is_of (of_source s txn) r ≡ true
 
-reserve_is_of : OfLedgers → (s : Source) (n : ℕ) (id : Id) (txn : ℕ) → id ≡ id_of s n → same_transaction (of_source s txn) (transaction id txn) ≡ true
-reserve_is_of L s n id txn e = let S : Id → Type 0 = λ i. same_transaction (of_source s txn) (transaction i txn) ≡ true in subst S (sym e) (L.itself (of_source s txn))
-
 -- an entry of the run that was granted is of a transaction
 granted_of_run : OfLedgers → (s : Source) (r : Request) (a : Reply) → IsOwn s r → RepliesSuit r a → is_grant a ≡ true → IsOfRun s r
-granted_of_run L s (Reserve id txn moment login count) a own suits g = record { txn = txn; is = reserve_is_of L s own.number id txn (some_is id (id_of s own.number) own.id) }
+granted_of_run L s (Reserve id txn moment login count) a own suits g = record { txn = txn; is = subst (λ i. same_transaction (of_source s txn) (transaction i txn) ≡ true) (sym (some_is id (id_of s own.number) own.id)) (L.itself (of_source s txn)) }
 granted_of_run L s r (reply.Granted j u) own suits g = absurd suits
 granted_of_run L s r a own suits g = absurd (clash false g refl)
 

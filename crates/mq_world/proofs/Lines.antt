@@ -1,11 +1,11 @@
 -- What the lines that a run read have it ask for is in range.
-use Rattle.mq_world.proofs.Words.{Action, AreNumbered, Ask, Asks, Bool, Closing, FilterLine, IsLogin, IsMoment, IsOrdinal, List, Meaning, None, Option, Passes, Position, Refuses, Some, Step, action_of, actions, arith, asking_of, begin_count, close_of, closing, false, fault, first_so, if◌then◌else◌}
-use Rattle.mq_world.proofs.Words.{is_begin, is_exhausted, is_login, is_moment, length, login, nat_le, nat_tests, none_some, open_transaction, option_map, option_or, position, position_of, push, query_at, refl, second_so, some_is, subst, sym, true, ℕ, ◌&&◌, ◌+◌, ◌∷◌, ◌≡◌, ◌≤◌}
+use Rattle.mq_world.proofs.Words.{Action, AreNumbered, Ask, Asks, Bool, Closing, FilterLine, IsOrdinal, List, Meaning, None, Option, Passes, Position, Refuses, Some, Step, action_of, actions, arith, asking_of, begin_count, close_of, closing, false, fault, first_so, if◌then◌else◌}
+use Rattle.mq_world.proofs.Words.{is_begin, is_exhausted, is_login, is_moment, login, nat_le, nat_tests, none_some, open_transaction, option_map, option_or, position, position_of, push, query_at, refl, second_so, some_is, subst, sym, true, ℕ, ◌&&◌, ◌+◌, ◌∷◌, ◌≡◌, ◌≤◌}
 use Rattle.mq_track.specs.Events.{event, unreadable}
 use Rattle.mq_track.specs.Sessions.{Transaction}
 use Rattle.mq_track.specs.declared.fault.TrackFault.TheVariants.{Exhausted}
 use Rattle.mq_world.specs.World.{begun}
-use Rattle.mq_world.proofs.Ranges.{IsAsked}
+use Rattle.mq_world.proofs.Ranges.{IsAsked, within}
 
 -- ---- how many transactions began
 
@@ -26,12 +26,6 @@ counted L line e le = count_more (is_begin (event line)) (begin_count L) (not_ex
 
 -- ---- what is asked for
 
-login_range : (name : List ℕ) → is_login name ≡ true → IsLogin name
-login_range name e = record { from = grind (arith, nat_tests, first_so (nat_le 1 (length name)) _ e); to = grind (arith, nat_tests, second_so (nat_le 1 (length name)) _ e) }
-
-moment_range : (moment : ℕ) → is_moment moment ≡ true → IsMoment moment
-moment_range moment e = record { from = grind (arith, nat_tests, first_so (nat_le 86400 moment) _ e); to = grind (arith, nat_tests, second_so (nat_le 86400 moment) _ e) }
-
 asked_at : (b : Bool) (txn moment : ℕ) (login : List ℕ) (a : Action) → (b ≡ true → IsAsked (Ask txn moment login)) → asking_of (if b then Asks txn moment login else Refuses) ≡ Some a → IsAsked a
 asked_at true txn moment login a f e = subst IsAsked (some_is (Ask txn moment login) a e) (f refl)
 asked_at false txn moment login a f e = absurd (none_some a e)
@@ -39,7 +33,7 @@ asked_at false txn moment login a f e = absurd (none_some a e)
 asked_by : (o : Option (List ℕ)) (t : Option Transaction) (a : Action) → ((u : Transaction) → t ≡ Some u → IsOrdinal u.txn) → asking_of (query_at (position_of o t)) ≡ Some a → IsAsked a
 asked_by None t a f e = absurd (none_some a e)
 asked_by (Some name) None a f e = absurd (none_some a e)
-asked_by (Some name) (Some u) a f e = asked_at (is_login name && is_moment u.moment) u.txn u.moment name a (λ y. (f u refl, moment_range u.moment (second_so (is_login name) _ y), login_range name (first_so (is_login name) _ y))) e
+asked_by (Some name) (Some u) a f e = asked_at (is_login name && is_moment u.moment) u.txn u.moment name a (λ y. (f u refl, within (second_so (is_login name) _ y), within (first_so (is_login name) _ y))) e
 
 asked_if : (b : Bool) (p : Position) (a : Action) → (asking_of (query_at p) ≡ Some a → IsAsked a) → asking_of (if b then query_at p else Passes) ≡ Some a → IsAsked a
 asked_if true p a f e = f e

@@ -1,11 +1,15 @@
 -- What a run sends is in range, where its asks are.
-use Rattle.mq_world.proofs.Words.{Action, AllByRecursion, AreUnderway, Ask, Asked, Bool, Close, CloseEnd, ComeInTurn, Drain, Exchange, Held, In, IsBounded, IsHost, IsId, IsLogin, IsMoment, IsOrdinal, IsRequest, IsRun, List, Live, None, Option, Release, Request, Settle, Some, Source, Standing, Step}
-use Rattle.mq_world.proofs.Words.{View, [], after, after_ask, after_close, all_at, all_drop, all_push, answer_of, ap, arith, closing_of, decisions, either, failures, false, held_by, held_for, id_of, if◌then◌else◌, inl, inr, is_commit, is_other, lacks_numbers, length, let_through, nat_le, nat_tests}
-use Rattle.mq_world.proofs.Words.{neither_first, neither_second, next, next_of, none_some, number_is, opened, queue_of, refl, refuses, reserve_of, slice_get, some_is, subst, tries_in, true, view, ℕ, ◌&&◌, ◌+◌, ◌<◌, ◌==◌, ◌∷◌, ◌≡◌}
+use Rattle.mq_world.proofs.Words.{Action, AllByRecursion, AreUnderway, Ask, Asked, Bool, Close, CloseEnd, ComeInTurn, Drain, Exchange, Held, In, IsBounded, IsHost, IsId, IsLogin, IsMoment, IsOrdinal, IsRequest, IsRun, IsWithin, List, Live, None, Option, Release, Request, Settle, Some, Source}
+use Rattle.mq_world.proofs.Words.{Standing, Step, View, [], after, after_ask, after_close, all_at, all_drop, all_push, answer_of, ap, arith, between, closing_of, decisions, either, failures, false, first_so, held_by, held_for, id_of, if◌then◌else◌, inl, inr, is_commit, is_other, lacks_numbers}
+use Rattle.mq_world.proofs.Words.{le_of, length, let_through, nat_le, nat_tests, neither_first, neither_second, next, next_of, none_some, number_is, opened, queue_of, refl, refuses, reserve_of, second_so, slice_get, some_is, subst, tries_in, true, view, ℕ, ◌&&◌, ◌+◌, ◌<◌, ◌==◌, ◌∷◌, ◌≡◌}
 use Rattle.mq_client.specs.Held.{IsHeld}
 use Rattle.mq_client.specs.declared.held.Asked.TheVariants as asked
 use Rattle.mq_world.specs.World.{begun}
 use Rattle.mq_world.proofs.Basics.{in_get}
+
+-- a number between two is in their range
+pub within : {low high n : ℕ} → between low high n ≡ true → IsWithin low high n
+within {low = low} {high = high} {n = n} is = record { from = le_of low n (first_so (nat_le low n) (nat_le n high) is); to = le_of n high (second_so (nat_le low n) (nat_le n high) is) }
 
 -- an action asks with a transaction, a moment and a login in range
 abbrev pub IsAsked : Action → Type 0

@@ -63,7 +63,6 @@ played_alone s tries (x ∷ steps) played = (subst (λ l. Plays s tries l x) (ap
 -- ---- one run of the site, whose exchanges come in turn
 
 module _ (T : InTurn) (site : Site) (s : Source) (y : site.is_run s ≡ true) where
-
   -- ---- one step of the world more
 
   -- the run goes on, and all others stand as they did
@@ -250,7 +249,6 @@ module _ (T : InTurn) (site : Site) (s : Source) (y : site.is_run s ≡ true) wh
         | inl none ↦ none_goes w mid later (lines_at h.stage) h.steps h.step none then way
         | inr p ↦ hand_goes w mid later o.client.spans h.holding h.stage h.steps p.0 h.step (h.front ++ h.rest) played then p.1 way
       ]
-
   -- ---- all runs together
 
 pub returns : goal.returns

@@ -1,9 +1,10 @@
 -- A world of two runs, step by step.
 use Rattle.mq_world.proofs.Words.{All-from_recursion, AllByRecursion, Answered, Ask, Book, Bool, ByOffset, Close, Drain, Ended, EndsWith, Exchange, FilterLine, Filters, Held, Id, IsCount, IsHost, IsHostByte, IsId, IsLegalBook, IsMoment, IsOffset, IsOrdinal, IsPlayed, IsRead, IsReady, IsReply}
-use Rattle.mq_world.proofs.Words.{IsRequest, IsRun, IsStamp, IsTry, IsWithin, IsZone, List, MakesAll, Meaning, None, NoneYet, Outside, Reply, ReportLine, Request, Retire, SendsAll, SendsUpTo, Settle, Some, Source, SpellsReply, State, Step, TimedOut, Transaction, [], all_of, ap, arith, between, cap}
-use Rattle.mq_world.proofs.Words.{clash, clock, codes, count_by, day_of, decides, drained, either, either_of, exchanges_in, false, fault, first_so, floor, frame, held, id_of, if◌then◌else◌, inl, inr, le_of, ledger_reply, length, list_any, nat_le, nat_lt, nat_tests, ne_eqb, nothing_held, number_is}
-use Rattle.mq_world.proofs.Words.{number_itself, pos, refl, reply_body, request_body, request_frame, requests, reserve_of, same_text, second_so, settled_in, slice_get, some_is, subst, sym, told_steps, true, ℕ, ℤ, ◌*◌, ◌++◌, ◌+◌, ◌<ℤ◌, ◌<◌, ◌==◌, ◌||◌, ◌∙◌, ◌∷◌, ◌≡◌, ◌≢◌, ◌≤ℤ◌, ◌≤◌}
+use Rattle.mq_world.proofs.Words.{IsRequest, IsRun, IsStamp, IsTry, IsZone, List, MakesAll, Meaning, None, NoneYet, Outside, Reply, ReportLine, Request, Retire, SendsAll, SendsUpTo, Settle, Some, Source, SpellsReply, State, Step, TimedOut, Transaction, [], all_of, ap, arith, cap}
+use Rattle.mq_world.proofs.Words.{clash, clock, codes, count_by, day_of, decides, drained, either, either_of, exchanges_in, false, fault, floor, frame, held, id_of, if◌then◌else◌, inl, inr, ledger_reply, length, list_any, nat_le, nat_lt, nat_tests, ne_eqb, nothing_held, number_is}
+use Rattle.mq_world.proofs.Words.{number_itself, pos, refl, reply_body, request_body, request_frame, requests, reserve_of, same_text, settled_in, slice_get, some_is, subst, sym, told_steps, true, ℕ, ℤ, ◌*◌, ◌++◌, ◌+◌, ◌<ℤ◌, ◌<◌, ◌==◌, ◌||◌, ◌∙◌, ◌∷◌, ◌≡◌, ◌≢◌, ◌≤ℤ◌, ◌≤◌}
 use Rattle.mq_world.proofs.Takes.{entry}
+use Rattle.mq_world.proofs.Ranges.{within}
 use Rattle.std.proofs.lemmas.Int.{ints}
 use Rattle.mq_line.specs.Results.{registration, result_text}
 use Rattle.mq_line.specs.Text.{IsLine, text_of}
@@ -178,9 +179,6 @@ abbrev pub granted_there : Book → Book → World
 granted_there a b = ends (takes (with_ledger (unused b) (taken a))) here answered
 
 -- ---- in range
-
-within : {low high n : ℕ} → between low high n ≡ true → IsWithin low high n
-within {low = low} {high = high} {n = n} is = record { from = le_of low n (first_so (nat_le low n) (nat_le n high) is); to = le_of n high (second_so (nat_le low n) (nat_le n high) is) }
 
 -- a run of the site, whose host is one letter
 host_of : (letter : ℕ) → IsHostByte letter → (s : Source) → same_source (record { host = letter ∷ []; run = 1 }) s ≡ true → IsHost s.host × IsRun s.run
