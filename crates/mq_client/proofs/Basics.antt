@@ -1,8 +1,6 @@
 -- Small facts of options and lists.
 use Rattle.std.proofs.Common.{◌≡◌, ℕ, zero, suc, List, [], ◌∷◌, subst, Some}
-use Rattle.std.specs.Prelude.{slice_get}
-use Rattle.std.specs.List.{AllByRecursion}
-use Rattle.mq_lemmas.proofs.Options.{none_some, some_is}
+use Rattle.mq_client.proofs.Words.{AllByRecursion, none_some, slice_get, some_is}
 
 pub nil_cons : {A : Type 0} (x : A) (xs : List A) → [] ≡ x ∷ xs → ⊥
 nil_cons x xs e = cc

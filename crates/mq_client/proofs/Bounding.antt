@@ -1,15 +1,8 @@
 -- However a client was used, few transactions are live or waiting, numbers are left to close the live ones, and a
 -- step makes few exchanges.
 use Rattle.std.proofs.Common.{◌≡◌, ℕ, zero, suc, ◌+◌, ◌*◌, ◌<◌, ◌≤◌, Bool, false, true, List, [], ◌∷◌, ◌++◌, length, refl, ap, subst, arith, length-append, length-drop, Option, None, Some, is_some, if◌then◌else◌}
-use Rattle.std.specs.Prelude.{slice_get}
+use Rattle.mq_client.proofs.Words.{Action, AreUnderway, Ask, Close, CloseEnd, ComeInTurn, Drain, Exchange, Held, IsBounded, Request, Source, Step, View, after, after_close, closing_of, decisions, failures, held_by, held_for, next_of, none_some, queue_of, refuses, reserve_of, slice_get, tries_in, view, with_asked}
 use Rattle.std.proofs.Math.Nat.{mul-le-mul_left}
-use Rattle.mq_lemmas.proofs.Options.{none_some}
-use Rattle.mq_request.specs.declared.message.Request.{Request}
-use Rattle.mq_client.specs.Exchanges.{Exchange, decisions}
-use Rattle.mq_client.specs.Turns.{failures, queue_of, next_of, ComeInTurn, AreUnderway}
-use Rattle.mq_client.specs.Past.{tries_in, Source, Action, Ask, Close, Drain, Step, View, view, after, after_close, held_by, held_for, with_asked, reserve_of, closing_of, refuses, IsBounded}
-use Rattle.mq_track.specs.declared.closing.CloseEnd.{CloseEnd}
-use Rattle.mq_client.specs.declared.held.Held.{Held}
 use Rattle.mq_client.proofs.Counting.{AreCounted, counted, length_closed}
 use Rattle.mq_client.proofs.Keeping.{has_room}
 use Rattle.mq_client.proofs.Turning.{next_in_queue}
@@ -72,8 +65,7 @@ few_in_turn n queue [] turns = record { few = omega arith; room = omega arith }
 few_in_turn n queue (x ∷ group) turns =
     let (h, e) = next_in_queue n queue group x.request turns.0 in
     let more : length group + 1 ≡ length (x ∷ group) = omega arith in
-    let F : ℕ → Type 0 = λ c. IsFew n (length queue) c (decisions (x ∷ group)) (failures (x ∷ group)) in
-    subst F more (one_more n (length queue) (length group) (decisions group) (failures group) (is_some x.decided) (few_in_turn n queue group turns.2) h (in_queue queue (decisions group) x.request e))
+    subst (λ (c : ℕ). IsFew n (length queue) c (decisions (x ∷ group)) (failures (x ∷ group))) more (one_more n (length queue) (length group) (decisions group) (failures group) (is_some x.decided) (few_in_turn n queue group turns.2) h (in_queue queue (decisions group) x.request e))
 
 ask_queue : (b : Bool) (q : Request) → length (if b then [] else q ∷ []) ≤ 4096
 ask_queue true q = omega arith

@@ -1,10 +1,6 @@
 -- The live transactions of a past, each once.
 use Rattle.std.proofs.Common.{◌≡◌, ℕ, ◌+◌, ◌==◌, Bool, false, true, List, [], ◌∷◌, length, refl, sym, ap, ◌∙◌, arith, Option, None, Some, is_some, if◌then◌else◌}
-use Rattle.std.proofs.lemmas.Bool.{eqb-true, eq-eqb, ne_eqb, both_ways}
-use Rattle.mq_client.specs.Exchanges.{Exchange}
-use Rattle.mq_client.specs.Past.{Source, Action, Ask, Close, Drain, Step, Live, Closed, View, view, after, after_close, held_by, with_asked, without}
-use Rattle.mq_track.specs.declared.closing.CloseEnd.{CloseEnd}
-use Rattle.mq_client.specs.declared.held.Held.{Held}
+use Rattle.mq_client.proofs.Words.{Action, Ask, Close, CloseEnd, Closed, Drain, Exchange, Held, Live, Source, Step, View, after, after_close, both_ways, eq-eqb, eqb-true, held_by, ne_eqb, view, with_asked, without}
 
 abbrev pub count_in : ℕ → List ℕ → ℕ
 count_in t [] = 0

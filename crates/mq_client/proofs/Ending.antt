@@ -1,22 +1,8 @@
 -- Two runs over the same input, whose exchanges ended alike, do and write the same.
 use Rattle.std.proofs.Common.{◌≡◌, ℕ, Bool, true, false, List, [], ◌∷◌, ◌++◌, length, refl, sym, ap, ◌∙◌, subst, append_assoc, inl, inr, ◌⊎◌, Option, None, Some}
-use Rattle.std.specs.List.{concat}
-use Rattle.mq_lemmas.proofs.Options.{none_some, some_is}
-use Rattle.mq_lemmas.proofs.Booleans.{true_false}
-use Rattle.mq_lemmas.proofs.Lists.{no_rest}
-use Rattle.mq_line.specs.Grammar.{Meaning}
-use Rattle.mq_line.specs.Results.{registration}
-use Rattle.mq_line.specs.Text.{IsLine, IsTooLong, Holds, text_of, lines as all_lines, left as left_over}
-use Rattle.mq_client.specs.Past.{Source, Drain, Step, drained, State, StandsAt, view, ArePlayed}
-use Rattle.mq_client.specs.Turns.{outcomes, quiets, all_outcomes}
-use Rattle.mq_client.specs.Holding.{Holding}
-use Rattle.mq_client.specs.declared.spans.Spans.{Spans}
-use Rattle.mq_client.specs.Filter.{Filters, push, actions, answer_count}
-use Rattle.mq_client.specs.Run.{Stage, BeforeReady, AfterReady, Reaches, HasText, Outside, StandsFirst, EndsWith, IsFound, IsInHand, StopsAt}
+use Rattle.mq_client.proofs.Words.{AfterReady, ArePlayed, BeforeReady, Drain, Ended, EndsWith, FilterFault, Filters, HasText, Holding, Holds, IsFound, IsInHand, IsLine, IsTooLong, Meaning, Outside, Reaches, Source, Spans, Stage, StandsAt, StandsFirst, State, Step, StopsAt, actions, all_lines, all_outcomes, answer_count, concat, drained, left_over, no_rest, none_some, outcomes, push, quiets, registration, some_is, text_of, true_false, view}
 use Rattle.mq_client.specs.Place.{is_of_input}
-use Rattle.mq_client.specs.declared.fault.FilterFault.{FilterFault}
 use Rattle.mq_client.specs.declared.fault.FilterFault.TheVariants as faults
-use Rattle.mq_client.specs.declared.filter.Ended.{Ended}
 use Rattle.mq_client.proofs.Looping.{is_line_none}
 use Rattle.mq_client.proofs.Turning.{OneReply}
 use Rattle.mq_client.proofs.Sameness.{same_filters, same_played, same_lines}
@@ -67,8 +53,7 @@ found_fate C faults.CutLine stage pieces left rest read_failed write_failed i (s
 found_fate C faults.TooLong stage pieces left rest read_failed write_failed i long =
     let all = C.too_long left rest long in
     let (f, g) = no_lines C (left ++ rest) (inr all) in
-    let F : List ℕ → Type 0 = IsTooLong in
-    AtEnd f (Long (subst F (sym g) all) refl)
+    AtEnd f (Long (subst IsTooLong (sym g) all) refl)
 found_fate C faults.Read stage pieces left rest read_failed write_failed i found = absurd (true_false (sym i))
 found_fate C faults.Write stage pieces left rest read_failed write_failed i found = absurd (true_false (sym i))
 found_fate C faults.Memory stage pieces left rest read_failed write_failed i found = absurd (true_false (sym i))
@@ -102,8 +87,7 @@ meets spans spans' k k' G C text text' ls ms left left' stage stage' steps steps
     let (lines_i, left_i) = C.held text' ms left' i in
     let same : ls ++ all_lines left ≡ ms ++ all_lines left' = sym lines_h ∙ ap all_lines e ∙ lines_i in
     let last : left_over left' ≡ left_over left = sym left_i ∙ sym (ap left_over e) ∙ left_h in
-    let F : List ℕ → Type 0 = λ l. Fate stage' (all_lines left') l b in
-    same_place spans spans' k k' G ls ms (all_lines left) (all_lines left') (left_over left) stage stage' steps steps' written written' a b same r t r' t' f (subst F last g)
+    same_place spans spans' k k' G ls ms (all_lines left) (all_lines left') (left_over left) stage stage' steps steps' written written' a b same r t r' t' f (subst (λ (l : List ℕ). Fate stage' (all_lines left') l b) last g)
 
 -- ---- what was done
 
@@ -140,12 +124,10 @@ same_stops U G C o p pieces others rest more now last read_failed write_failed r
       same,
       λ P st start ended.
           let S : Stage → State → Type 0 = λ s c. HasText c.spans s i.steps i.text i.holding in
-          let A : Stage → Type 0 = λ s. S s p.client in
-          let B : State → Type 0 = λ c. S h.stage c in
           let T : List Step → Type 0 = λ l. ArePlayed o.client.source o.client.tries P l in
           let mine = h.made.plays P st in
           let theirs = played_from o.client p.client P (push i.step i.steps) start (i.made.plays P (stands_from o.client p.client P start st)) in
-          let (done, wrote) = same_done U o.client.spans o.client.source o.client.tries P h.stage h.steps i.steps h.text i.text h.holding i.holding h.has_text (subst B start (subst A (sym stages) i.has_text))
+          let (done, wrote) = same_done U o.client.spans o.client.source o.client.tries P h.stage h.steps i.steps h.text i.text h.holding i.holding h.has_text (subst (S h.stage) start (subst (λ (s : Stage). S s p.client) (sym stages) i.has_text))
           (subst T steps mine) (subst T steps' theirs) (sym (ap all_outcomes steps) ∙ ended ∙ ap all_outcomes steps') in
           (steps ∙ done ∙ sym steps', text ∙ wrote ∙ sym text'),
     )
@@ -186,15 +168,13 @@ same_ends U G C o p bytes now last e f P h i st start ended =
     let lines : h.lines ≡ i.lines = sym ((C.unique bytes h.lines [] h.whole none).0) ∙ (C.unique bytes i.lines [] i.whole none).0 in
     let past : h.after_ready ≡ i.after_ready = same_lines G.unique h.lines i.lines h.after_ready i.after_ready lines h.ready i.ready in
     let c = o.client in
-    let F : List Meaning → Type 0 = λ l. Filters c.spans l h.steps h.results h.holding in
-    let filters : Filters c.spans i.after_ready h.steps h.results h.holding = subst F past h.filters in
-    let S : State → Type 0 = λ x. Filters x.spans i.after_ready i.steps i.results i.holding in
+    let filters : Filters c.spans i.after_ready h.steps h.results h.holding = subst (λ (l : List Meaning). Filters c.spans l h.steps h.results h.holding) past h.filters in
     let mine : List Step = drained h.group h.steps in
     let theirs : List Step = drained i.group i.steps in
     let st' = stands_from o.client p.client P start st in
     let played = h.made.plays P st in
     let played' = played_from o.client p.client P theirs start (i.made.plays P st') in
-    let told = same_filters U c.spans c.source c.tries P i.after_ready h.steps i.steps h.results i.results h.holding i.holding (outcomes h.group) (outcomes i.group) filters (subst S start i.filters) played.1 played'.1 ended in
+    let told = same_filters U c.spans c.source c.tries P i.after_ready h.steps i.steps h.results i.results h.holding i.holding (outcomes h.group) (outcomes i.group) filters (subst (λ (x : State). Filters x.spans i.after_ready i.steps i.results i.holding) start i.filters) played.1 played'.1 ended in
     let steps : h.steps ≡ i.steps = told.steps in
     let all : mine ≡ theirs = same_played U c.source c.tries P mine theirs played played' (ap (λ l. Drain ∷ actions l) steps) (ap (λ l. false ∷ quiets l) steps) ended in
     let group : h.group ≡ i.group = ap (λ (x : Step). x.group) (cons_head (record { action = Drain; group = h.group; quiet = false }) (record { action = Drain; group = i.group; quiet = false }) h.steps i.steps all) in

@@ -1,19 +1,8 @@
 -- Without spans nothing is held back.
 use Rattle.std.proofs.Common.{◌≡◌, ℕ, ◌-◌, true, false, List, [], ◌∷◌, refl, ap, ◌∙◌, sym, subst, Option, None, Some, is_some, arith, not, if◌then◌else◌}
-use Rattle.std.specs.Prelude.{nat_lt, nat_le, filter}
-use Rattle.std.specs.List.{AllByRecursion}
+use Rattle.mq_client.proofs.Words.{AllByRecursion, Answers, Asks, Closes, Closing, ConfigLine, Decision, FilterLine, Filters, Full, Holding, Meaning, OtherLine, Passes, Query, ReadyLine, Refuses, ReportLine, Spans, Step, Takes, at_line, closing, filter, held_back, is_full, is_over, nat_le, nat_lt, or_second, push, query, still, still_paused}
 use Rattle.std.proofs.lemmas.Bool.Decides.{nat_tests}
-use Rattle.mq_lemmas.proofs.Booleans.{or_second}
-use Rattle.mq_line.specs.Grammar.{Meaning, ConfigLine, ReadyLine, ReportLine, FilterLine, OtherLine}
-use Rattle.mq_line.specs.declared.results.Decision.{Decision}
 use Rattle.mq_line.specs.declared.results.Decision.TheVariants.{RejectLimit, RejectService}
-use Rattle.mq_track.specs.Sessions.{closing}
-use Rattle.mq_track.specs.declared.closing.Closing.{Closing}
-use Rattle.mq_client.specs.Past.{Step}
-use Rattle.mq_client.specs.Holding.{Holding, is_over, still_paused, still, is_full, held_back}
-use Rattle.mq_client.specs.Filter.{Query, Passes, Refuses, Asks, query, Answers, Closes, Takes, at_line, push, Filters}
-use Rattle.mq_client.specs.declared.spans.Spans.{Spans}
-use Rattle.mq_client.specs.declared.holdup.Full.{Full}
 
 from_zero : (n : ℕ) → nat_le 0 n ≡ true
 from_zero n = grind (arith, nat_tests)
@@ -49,9 +38,7 @@ record IsFree (h : Holding) : Type 0 where
 
 none_held : (h : Holding) (login : List ℕ) → IsFree h → held_back h login ≡ None
 none_held h login f =
-    let F : List Full → Type 0 = λ l. (if is_full login l then Some RejectLimit else (if is_some h.paused then Some RejectService else None)) ≡ None in
-    let G : Option ℕ → Type 0 = λ o. (if is_some o then Some RejectService else None) ≡ None in
-    subst F (sym f.full) (subst G (sym f.paused) refl)
+    subst (λ (l : List Full). (if is_full login l then Some RejectLimit else (if is_some h.paused then Some RejectService else None)) ≡ None) (sym f.full) (subst (λ (o : Option ℕ). (if is_some o then Some RejectService else None) ≡ None) (sym f.paused) refl)
 
 loud_none : (step : Option Step) → step ≡ None → IsLoud step
 loud_none step e = subst IsLoud (sym e) tt

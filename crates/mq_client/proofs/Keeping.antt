@@ -1,14 +1,8 @@
 -- What stays so of a client over its steps.
 use Rattle.std.proofs.Common.{◌≡◌, ℕ, ◌+◌, ◌-◌, ◌<◌, ◌≤◌, ◌==◌, nat_le, Bool, false, true, List, refl, sym, ◌∙◌, subst, arith, Option, None, Some, is_some, if◌then◌else◌}
-use Rattle.std.proofs.lemmas.Bool.{eqb-true, leb-false, ltb-false}
-use Rattle.mq_lemmas.proofs.Booleans.{neither}
-use Rattle.mq_lemmas.proofs.Options.{none_some, some_is}
+use Rattle.mq_client.proofs.Words.{AllHeld, Asked, Held, IsHeld, eqb-true, find, is_other, leb-false, let_through, ltb-false, neither, none_some, opened, refuses, some_is}
 use Rattle.mq_request.specs.Range.{IsOrdinal, IsMoment, IsLogin}
-use Rattle.mq_client.specs.Past.{find, opened, let_through, refuses, is_other}
-use Rattle.mq_client.specs.Held.{IsHeld, AllHeld}
-use Rattle.mq_client.specs.declared.held.Asked.{Asked}
 use Rattle.mq_client.specs.declared.held.Asked.TheVariants as asked
-use Rattle.mq_client.specs.declared.held.Held.{Held}
 
 held_where : (old new : List (ℕ × Held)) (txn t : ℕ) (o : Option Held) (h : Held) (b : Bool) → (txn == t) ≡ b → find new t ≡ (if b then o else find old t) → AllHeld old → ((k : Held) → o ≡ Some k → IsHeld txn k) → find new t ≡ Some h → IsHeld t h
 held_where old new txn t o h true e n all here f = subst (λ (k : ℕ). IsHeld k h) (eqb-true txn t e) (here h (sym n ∙ f))

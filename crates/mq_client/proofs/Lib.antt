@@ -1,3 +1,4 @@
+pub mod Words
 pub mod Basics
 pub mod Telling
 pub mod Sending

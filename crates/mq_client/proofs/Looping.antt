@@ -1,34 +1,12 @@
 -- Lines handled one after another.
 use Rattle.std.proofs.Common.{◌≡◌, ℕ, ◌+◌, Bool, true, false, List, [], ◌∷◌, ◌++◌, length, refl, sym, ap, ◌∙◌, subst, append_assoc, append-nil, arith, rules, cond, inl, inr, ◌⊎◌, Option, None, Some, is_some}
-use Rattle.std.specs.Prelude.{Result, Ok, Err, IfSome, IsOk}
+use Rattle.mq_client.proofs.Words.{AfterReady, AllByRecursion, Appends, Appends-trans, BeforeReady, Carries, Closes, Does, Drain, Ended, EndsWith, Err, Exchange, FilterFault, FilterLine, HasText, Holding, Holds, IfSome, IsAt, IsAtWork, IsCut, IsEarly, IsFound, IsInHand, IsLine, IsOk, IsReady, IsRefused, Makes, MakesAll, MakesOne, MayGo, Meaning, Ok, Outside, Plays, Reaches, Reads, ReadyLine, Replies, Result, SoFar, Source, Spans, Stage, StandsAt, StandsFirst, State, Step, StopsAt, StopsWithin, Takes, Tells, Told, TrackFault, TrackState as State', TracksAt, after_line, all_push, answer_count, around, at_line, closing, concat, is_early, is_filter, meaning, nothing_held, push, registration, still, sum_by-cons, text_of, told_all, told_one, told_steps, track_fault as fault, view}
 use Rattle.std.specs.Borrow.{Bor}
-use Rattle.std.specs.List.{AllByRecursion, concat}
-use Rattle.std.specs.Io.KnownBytes.{Appends}
-use Rattle.std.proofs.KnownBytes.{Appends-trans}
-use Rattle.std.proofs.lemmas.List.Sums.{sum_by-cons}
-use Rattle.mq_lemmas.proofs.Lists.{all_push}
-use Rattle.mq_line.specs.Grammar.{Meaning, ReadyLine, FilterLine, Reads, meaning}
-use Rattle.mq_line.specs.Results.{registration}
-use Rattle.mq_line.specs.Text.{IsLine, Holds, text_of}
 use Rattle.mq_line.specs.declared.reading.Line.{Line}
 use Rattle.mq_line.specs.declared.reading.Line.TheVariants as line
 use Rattle.mq_line.proofs.TextLaws.{holds-taken}
-use Rattle.mq_track.specs.Sessions.{closing, fault}
-use Rattle.mq_track.specs.State.{TracksAt, State as State'}
-use Rattle.mq_track.specs.declared.fault.TrackFault.{TrackFault}
-use Rattle.mq_link.specs.Link.{Tells}
-use Rattle.mq_client.specs.Exchanges.{Exchange, told_all}
-use Rattle.mq_client.specs.Past.{Source, Drain, Step, State, StandsAt, view, Plays, Makes, MakesAll, told_steps}
-use Rattle.mq_client.specs.Holding.{Holding, nothing_held, still}
-use Rattle.mq_client.specs.declared.spans.Spans.{Spans}
-use Rattle.mq_client.specs.Filter.{Takes, at_line, after_line, Closes, push, is_filter, answer_count}
-use Rattle.mq_client.specs.Run.{IsEarly, is_early, IsReady, Stage, BeforeReady, AfterReady, Outside, around, StandsFirst, EndsWith, IsAtWork, IsFound, MayGo, IsInHand, StopsAt}
-use Rattle.mq_client.specs.Loop.{Does, MakesOne, told_one, IsAt, SoFar, Carries, IsCut, IsRefused, Replies, StopsWithin}
-use Rattle.mq_client.specs.declared.fault.FilterFault.{FilterFault}
 use Rattle.mq_client.specs.declared.fault.FilterFault.TheVariants as faults
-use Rattle.mq_client.specs.declared.filter.Ended.{Ended}
 use Rattle.mq_client.specs.declared.filter.Filter.{Filter}
-use Rattle.mq_link.specs.declared.link.Told.{Told}
 use Rattle.mq_client.proofs.Telling.{Tells-none, Tells-trans}
 use Rattle.mq_client.proofs.Supplying.{concat_push}
 
@@ -37,6 +15,9 @@ Appends-none None = tt
 Appends-none (Some xs) = sym (append-nil xs)
 
 -- nothing was done
+pub Does-still : (now : Outside) → Does now now None []
+Does-still now = record { written = Appends-none now.sink; exchanged = Tells-none now.told; made = refl }
+
 pub Does-nothing : {T : Type 0} (told : T → Option (List Told)) (sink : Option (List ℕ)) (old new : T) (client client' : State) → new ≡ old → client' ≡ client → Does (around sink (told old) client) (around sink (told new) client') None []
 Does-nothing told sink old new client client' e f = record {
   written = Appends-none sink;
@@ -47,7 +28,7 @@ Does-nothing told sink old new client client' e f = record {
 -- a line that was accepted has no fault
 pub accepted : {X : Type 0} (o : Option TrackFault) (x : X) → IfSome o (λ f. ◌≡◌ {A = Result X TrackFault} (Ok x) (Err f)) → o ≡ None
 accepted None x h = refl
-accepted (Some f) x h = let no : ⊥ = cc (h) in absurd no
+accepted (Some f) x h = absurd cc
 
 -- ---- steps that add up
 
@@ -55,21 +36,18 @@ pub makes_none : (c : State) → MakesAll c c []
 makes_none c = record { source = refl; tries = refl; plays = λ P st. tt; stands = λ P st. st }
 
 pub makes_push : (a b c : State) (steps : List Step) (step : Option Step) → MakesAll a b steps → MakesOne b c step → MakesAll a c (push step steps)
-makes_push a b c steps None m e = let F : State → Type 0 = λ x. MakesAll a x steps in subst F (sym e) m
+makes_push a b c steps None m e = subst (λ (x : State). MakesAll a x steps) (sym e) m
 makes_push a b c steps (Some x) m n = record {
   source = n.source ∙ m.source;
   tries = n.tries ∙ m.tries;
   plays = λ P st.
-      let F : Source → Type 0 = λ s. Plays s b.tries (steps ++ P) x in
-      let G : ℕ → Type 0 = λ k. Plays a.source k (steps ++ P) x in
-      (subst G m.tries (subst F m.source (n.plays (steps ++ P) (m.stands P st))), m.plays P st);
+      (subst (λ (k : ℕ). Plays a.source k (steps ++ P) x) m.tries (subst (λ (s : Source). Plays s b.tries (steps ++ P) x) m.source (n.plays (steps ++ P) (m.stands P st))), m.plays P st);
   stands = λ P st. n.stands (steps ++ P) (m.stands P st);
 }
 
 pub told_push : (a b c : Option (List Told)) (steps : List Step) (step : Option Step) → Tells a b (told_steps steps) → Tells b c (told_one step) → Tells a c (told_steps (push step steps))
 told_push a b c steps None h i =
-    let F : List Told → Type 0 = λ l. Tells a c l in
-    subst F (append-nil (told_steps steps)) (Tells-trans a b c (told_steps steps) [] h i)
+    subst (Tells a c) (append-nil (told_steps steps)) (Tells-trans a b c (told_steps steps) [] h i)
 told_push a b c steps (Some x) h i = Tells-trans a b c (told_steps steps) (told_all x.group) h i
 
 -- an answer that is an error isn't Ok, and one that is Ok is
@@ -104,30 +82,35 @@ ready_more lines line L m r h = record {
 
 pub at_before : (f : Filter) (stage : Stage) → f.is_ready ≡ false → IsAt f stage → stage ≡ BeforeReady
 at_before f BeforeReady h a = refl
-at_before f (AfterReady L) h a = let no : ⊥ = cc (h, a.0) in absurd no
+at_before f (AfterReady L) h a = absurd (cc (h, a.0))
 
 pub at_after : (f : Filter) (stage : Stage) → f.is_ready ≡ true → IsAt f stage → (L : List Meaning) × (stage ≡ AfterReady L) × TracksAt f.tracker L × (f.answers ≡ answer_count L)
-at_after f BeforeReady h a = let no : ⊥ = cc (h, a.0) in absurd no
+at_after f BeforeReady h a = absurd (cc (h, a.0))
 at_after f (AfterReady L) h a = (L, refl, a.1, a.2)
+
+-- one more line was handled, by which the filter came to this stage
+so_far_more : (o : Outside) (bytes line rest : List ℕ) (f f' : Filter) (old new : Outside) (step : Option Step) (text : List ℕ) (stage : Stage) → IsLine line → (s : SoFar o bytes (line ++ 10 ∷ rest) f old) → Does old new step text
+    → Reaches (s.lines ++ line ∷ []) stage → IsAt f' stage → f'.holdup.0 ≡ f.holdup.0 → HasText o.client.spans stage (push step s.steps) (s.text ++ text) f'.holdup.1 → SoFar o bytes rest f' new
+so_far_more o bytes line rest f f' old new step text stage one s does reaches is_at spans has_text = record {
+  lines = s.lines ++ line ∷ [];
+  stage = stage;
+  steps = push step s.steps;
+  text = s.text ++ text;
+  whole = holds-taken bytes s.lines line rest one s.whole;
+  reaches = reaches;
+  is_at = is_at;
+  spans = spans ∙ s.spans;
+  has_text = has_text;
+  written = Appends-trans o.sink old.sink new.sink s.text text s.written does.written;
+  exchanged = told_push o.told old.told new.told s.steps step s.exchanged does.exchanged;
+  made = makes_push o.client old.client new.client s.steps step s.made does.made;
+}
 
 -- a line before `config|ready` is passed over
 pub carries_early : (m : Meaning) (f : Filter) (now : Outside) → f.is_ready ≡ false → is_early m ≡ true → Carries m f f now now
 carries_early m f now h e = λ o bytes line rest one reads s.
     let is = at_before f s.stage h s.is_at in
-    record {
-      lines = s.lines ++ line ∷ [];
-      stage = s.stage;
-      steps = s.steps;
-      text = s.text;
-      whole = holds-taken bytes s.lines line rest one s.whole;
-      reaches = rw is (early_more s.lines line (rw is at s.reaches) (m, reads, e));
-      is_at = s.is_at;
-      spans = s.spans;
-      has_text = s.has_text;
-      written = s.written;
-      exchanged = s.exchanged;
-      made = s.made;
-    }
+    so_far_more o bytes line rest f f now now None [] s.stage one s (Does-still now) (rw is (early_more s.lines line (rw is at s.reaches) (m, reads, e))) s.is_at refl (subst (λ (t : List ℕ). HasText o.client.spans s.stage s.steps t f.holdup.1) (sym (append-nil s.text)) s.has_text)
 
 -- `config|ready` is answered by the registration
 pub carries_ready : (m : Meaning) (f f' : Filter) (sink sink' : Option (List ℕ)) (told : Option (List Told)) (client : State) → f.is_ready ≡ false → m ≡ ReadyLine → Appends sink sink' registration
@@ -136,20 +119,10 @@ carries_ready m f f' sink sink' told client h e app now tracker answers holdup =
     let is = at_before f s.stage h s.is_at in
     let (never, tracks, none) = rw is at s.is_at in
     let (no_step, no_text, none_held) = rw is at s.has_text in
-    record {
-      lines = s.lines ++ line ∷ [];
-      stage = AfterReady [];
-      steps = s.steps;
-      text = s.text ++ registration;
-      whole = holds-taken bytes s.lines line rest one s.whole;
-      reaches = ready_new s.lines line (rw is at s.reaches) (rw e at reads);
-      is_at = (now, rw tracker tracks, answers ∙ none);
-      spans = ap (λ x. x.0) holdup ∙ s.spans;
-      has_text = ([], (no_step, refl, ap (λ x. x.1) holdup ∙ none_held), ap (λ t. t ++ registration) no_text ∙ sym (append-nil registration));
-      written = Appends-trans o.sink sink sink' s.text registration s.written app;
-      exchanged = s.exchanged;
-      made = s.made;
-    }
+    so_far_more o bytes line rest f f' (around sink told client) (around sink' told client) None registration (AfterReady []) one s
+    (record { written = app; exchanged = Tells-none told; made = refl })
+    (ready_new s.lines line (rw is at s.reaches) (rw e at reads)) (now, rw tracker tracks, answers ∙ none) (ap (λ x. x.0) holdup)
+    ([], (no_step, refl, ap (λ x. x.1) holdup ∙ none_held), ap (λ t. t ++ registration) no_text ∙ sym (append-nil registration))
 
 -- a line after `config|ready`
 pub carries_take : (m : Meaning) (f f' : Filter) (old new : Outside) (step : Option Step) (text : List ℕ)
@@ -161,27 +134,13 @@ carries_take m f f' old new step text h does takes holdup now count = λ o bytes
     let (L, is, tracks, counted) = at_after f s.stage h s.is_at in
     let (taken, tracks') = takes L tracks in
     let (results, filters, whole) = rw is at s.has_text in
-    let T : Spans → Type 0 = λ p. Takes (at_line p m f.holdup.1) L m step text in
-    let N : Spans → Type 0 = λ p. f'.holdup.1 ≡ after_line p m step (at_line p m f.holdup.1) in
-    record {
-      lines = s.lines ++ line ∷ [];
-      stage = AfterReady (m ∷ L);
-      steps = push step s.steps;
-      text = s.text ++ text;
-      whole = holds-taken bytes s.lines line rest one s.whole;
-      reaches = ready_more s.lines line L m (rw is at s.reaches) reads;
-      is_at = (now, tracks', count L counted);
-      spans = ap (λ x. x.0) holdup ∙ s.spans;
-      has_text = (results ++ text, (step, s.steps, results, text, f.holdup.1, filters, subst T s.spans taken, refl, refl, subst N s.spans (ap (λ x. x.1) holdup)), ap (λ t. t ++ text) whole ∙ append_assoc registration results text);
-      written = Appends-trans o.sink old.sink new.sink s.text text s.written does.written;
-      exchanged = told_push o.told old.told new.told s.steps step s.exchanged does.exchanged;
-      made = makes_push o.client old.client new.client s.steps step s.made does.made;
-    }
+    so_far_more o bytes line rest f f' old new step text (AfterReady (m ∷ L)) one s does (ready_more s.lines line L m (rw is at s.reaches) reads) (now, tracks', count L counted) (ap (λ x. x.0) holdup) (
+      results ++ text,
+      (step, s.steps, results, text, f.holdup.1, filters, subst (λ (p : Spans). Takes (at_line p m f.holdup.1) L m step text) s.spans taken, refl, refl, subst (λ (p : Spans). f'.holdup.1 ≡ after_line p m step (at_line p m f.holdup.1)) s.spans (ap (λ x. x.1) holdup)),
+      ap (λ t. t ++ text) whole ∙ append_assoc registration results text,
+    )
 
 -- ---- where the filter stops
-
-pub Does-still : (now : Outside) → Does now now None []
-Does-still now = record { written = Appends-none now.sink; exchanged = Tells-none now.told; made = refl }
 
 pub stops : (o : Outside) (pieces : List (List ℕ)) (left : List ℕ) (f : Filter) (source : Option (List ℕ)) (old new : Outside) (read_failed write_failed : Bool) (fault : FilterFault) (step : Option Step) (front rest : List ℕ)
     → SoFar o (concat pieces) left f old → Does old new step front
@@ -202,7 +161,7 @@ stops o pieces left f source old new read_failed write_failed fault step front r
   step = step;
   front = front;
   rest = rest;
-  in_hand = (let H : Spans → Type 0 = λ p. IsInHand fault p f.holdup.1 s.stage left step (front ++ rest) in subst H s.spans (in_hand s.stage s.is_at));
+  in_hand = subst (λ (p : Spans). IsInHand fault p f.holdup.1 s.stage left step (front ++ rest)) s.spans (in_hand s.stage s.is_at);
   written = Appends-trans o.sink old.sink new.sink s.text front s.written does.written;
   exchanged = told_push o.told old.told new.told s.steps step s.exchanged does.exchanged;
   made = makes_push o.client old.client new.client s.steps step s.made does.made;
@@ -223,24 +182,12 @@ stops_within o pieces left f source old new read_failed write_failed fault step 
 pub cut_found : (fault : FilterFault) (stage : Stage) (pieces : List (List ℕ)) (left : List ℕ) (source : Option (List ℕ)) (read_failed write_failed : Bool) → IsCut fault write_failed → IsAtWork stage left → IsFound fault stage pieces left source read_failed write_failed
 cut_found faults.Write stage pieces left source read_failed write_failed c w = c
 cut_found faults.Memory stage pieces left source read_failed write_failed c w = inr w
-cut_found (faults.Line f) stage pieces left source read_failed write_failed c w = absurd c
-cut_found (faults.Track f) stage pieces left source read_failed write_failed c w = absurd c
-cut_found faults.NotReady stage pieces left source read_failed write_failed c w = absurd c
-cut_found faults.EndedEarly stage pieces left source read_failed write_failed c w = absurd c
-cut_found faults.CutLine stage pieces left source read_failed write_failed c w = absurd c
-cut_found faults.TooLong stage pieces left source read_failed write_failed c w = absurd c
-cut_found faults.Read stage pieces left source read_failed write_failed c w = absurd c
+cut_found fault stage pieces left source read_failed write_failed c w = absurd c
 
 pub cut_in_hand : (fault : FilterFault) (spans : Spans) (k : Holding) (stage : Stage) (left : List ℕ) (write_failed : Bool) (step : Option Step) (next : List ℕ) → IsCut fault write_failed → MayGo spans k stage left step next → IsInHand fault spans k stage left step next
 cut_in_hand faults.Write spans k stage left write_failed step next c h = h
 cut_in_hand faults.Memory spans k stage left write_failed step next c h = h
-cut_in_hand (faults.Line f) spans k stage left write_failed step next c h = absurd c
-cut_in_hand (faults.Track f) spans k stage left write_failed step next c h = absurd c
-cut_in_hand faults.NotReady spans k stage left write_failed step next c h = absurd c
-cut_in_hand faults.EndedEarly spans k stage left write_failed step next c h = absurd c
-cut_in_hand faults.CutLine spans k stage left write_failed step next c h = absurd c
-cut_in_hand faults.TooLong spans k stage left write_failed step next c h = absurd c
-cut_in_hand faults.Read spans k stage left write_failed step next c h = absurd c
+cut_in_hand fault spans k stage left write_failed step next c h = absurd c
 
 pub first_of : (line rest : List ℕ) → IsLine line → StandsFirst line (line ++ 10 ∷ rest)
 first_of line rest one = record { is_line = one; rest = rest; whole = refl }
@@ -249,18 +196,12 @@ first_of line rest one = record { is_line = one; rest = rest; whole = refl }
 
 -- a line that is no request makes the step of its closing, and nothing is written for it
 pub takes_noted : (k : Holding) (L : List Meaning) (l : Line) (step : Option Step) → ((seconds : ℕ) (subsystem phase session token rest : Bor (List ℕ)) → l ≡ line.Filter seconds subsystem phase session token rest → ⊥) → fault L (meaning l) ≡ None → Closes (is_some k.paused) (closing L (meaning l)) step → Takes k L (meaning l) step []
-takes_noted k L (line.Config key value) step apart none c = (none, c, refl)
-takes_noted k L line.Ready step apart none c = (none, c, refl)
-takes_noted k L (line.Report seconds subsystem event session params) step apart none c = (none, c, refl)
 takes_noted k L (line.Filter seconds subsystem phase session token rest) step apart none c = absurd (apart seconds subsystem phase session token rest refl)
-takes_noted k L line.Other step apart none c = (none, c, refl)
+takes_noted k L l step apart none c = (none, c, refl)
 
 pub count_noted : (L : List Meaning) (l : Line) → ((seconds : ℕ) (subsystem phase session token rest : Bor (List ℕ)) → l ≡ line.Filter seconds subsystem phase session token rest → ⊥) → answer_count (meaning l ∷ L) ≡ answer_count L
-count_noted L (line.Config key value) apart = refl
-count_noted L line.Ready apart = refl
-count_noted L (line.Report seconds subsystem event session params) apart = refl
 count_noted L (line.Filter seconds subsystem phase session token rest) apart = absurd (apart seconds subsystem phase session token rest refl)
-count_noted L line.Other apart = refl
+count_noted L l apart = refl
 
 -- a request says nothing of sessions
 pub tracks_filter : (t : State') (L : List Meaning) (seconds : ℕ) (subsystem phase session token rest : List ℕ) → TracksAt t L → TracksAt t (FilterLine seconds subsystem phase session token rest ∷ L)
@@ -287,28 +228,19 @@ request_works f stage line rest seconds subsystem phase session token more h a o
     let (L, is, tracks, counted) = at_after f stage h a in
     rw is (FilterLine seconds subsystem phase session token more, line, first_of line rest one, reads, refl, refl)
 
-track_apart : {e : TrackFault} → faults.Track e ≡ faults.Memory → ⊥
-track_apart h = cc (h)
-
 -- a line that wasn't noted
 pub refused_stops : (fault : FilterFault) (f : Filter) (stage : Stage) (pieces : List (List ℕ)) (line rest : List ℕ) (m : Meaning) (source : Option (List ℕ)) (read_failed write_failed : Bool) → f.is_ready ≡ true → IsAt f stage → IsLine line → Reads line m
     → ((L : List Meaning) → TracksAt f.tracker L → IsRefused fault L m)
     → IsFound fault stage pieces (line ++ 10 ∷ rest) source read_failed write_failed × IsInHand fault f.holdup.0 f.holdup.1 stage (line ++ 10 ∷ rest) None [] × (fault ≡ faults.Memory → IsAtWork stage (line ++ 10 ∷ rest))
 refused_stops (faults.Track e) f stage pieces line rest m source read_failed write_failed h a one reads refused =
     let (L, is, tracks, counted) = at_after f stage h a in
-    ((L, m, line, is, first_of line rest one, reads, refused L tracks), (refl, refl), λ e. absurd (track_apart e))
+    ((L, m, line, is, first_of line rest one, reads, refused L tracks), (refl, refl), λ e. absurd (cc (e)))
 refused_stops faults.Memory f stage pieces line rest m source read_failed write_failed h a one reads refused =
     let (L, is, tracks, counted) = at_after f stage h a in
     let (none, may) = refused L tracks in
     let work : IsAtWork stage (line ++ 10 ∷ rest) = rw is (m, line, first_of line rest one, reads, none, may) in
     (inr work, inl (refl, refl), λ e. work)
-refused_stops (faults.Line e) f stage pieces line rest m source read_failed write_failed h a one reads refused = let (L, is, tracks, counted) = at_after f stage h a in absurd (refused L tracks)
-refused_stops faults.NotReady f stage pieces line rest m source read_failed write_failed h a one reads refused = let (L, is, tracks, counted) = at_after f stage h a in absurd (refused L tracks)
-refused_stops faults.EndedEarly f stage pieces line rest m source read_failed write_failed h a one reads refused = let (L, is, tracks, counted) = at_after f stage h a in absurd (refused L tracks)
-refused_stops faults.CutLine f stage pieces line rest m source read_failed write_failed h a one reads refused = let (L, is, tracks, counted) = at_after f stage h a in absurd (refused L tracks)
-refused_stops faults.TooLong f stage pieces line rest m source read_failed write_failed h a one reads refused = let (L, is, tracks, counted) = at_after f stage h a in absurd (refused L tracks)
-refused_stops faults.Read f stage pieces line rest m source read_failed write_failed h a one reads refused = let (L, is, tracks, counted) = at_after f stage h a in absurd (refused L tracks)
-refused_stops faults.Write f stage pieces line rest m source read_failed write_failed h a one reads refused = let (L, is, tracks, counted) = at_after f stage h a in absurd (refused L tracks)
+refused_stops fault f stage pieces line rest m source read_failed write_failed h a one reads refused = let (L, is, tracks, counted) = at_after f stage h a in absurd (refused L tracks)
 
 -- ---- the end
 
@@ -321,8 +253,6 @@ pub ends : (o : Outside) (bytes held : List ℕ) (f : Filter) (sink : Option (Li
 ends o bytes held f sink told told' client client' group e s h none tells makes answers left =
     let (L, is, tracks, counted) = at_after f s.stage h s.is_at in
     let (results, filters, whole) = rw is at s.has_text in
-    let H : List ℕ → Type 0 = λ l. Holds bytes s.lines l in
-    let A : List ℕ → Type 0 = λ t. Appends o.sink sink t in
     record {
       lines = s.lines;
       after_ready = L;
@@ -330,10 +260,10 @@ ends o bytes held f sink told told' client client' group e s h none tells makes 
       results = results;
       holding = f.holdup.1;
       group = group;
-      whole = subst H none s.whole;
+      whole = subst (Holds bytes s.lines) none s.whole;
       ready = rw is at s.reaches;
       filters = filters;
-      written = subst A whole s.written;
+      written = subst (Appends o.sink sink) whole s.written;
       exchanged = told_push o.told told told' s.steps (Some (record { action = Drain; group = group; quiet = false })) s.exchanged tells;
       made = makes_push o.client client client' s.steps (Some (record { action = Drain; group = group; quiet = false })) s.made makes;
       answers = answers ∙ counted;
@@ -341,9 +271,6 @@ ends o bytes held f sink told told' client client' group e s h none tells makes 
     }
 
 -- ---- bytes that come
-
-no_line : IsLine []
-no_line = record { one = search rules; short = omega arith }
 
 -- nothing was read yet
 pub so_far_start : (sink : Option (List ℕ)) (told : Option (List Told)) (client : State) (f : Filter) (held : List ℕ) → held ≡ [] → f.is_ready ≡ false → TracksAt f.tracker [] → f.answers ≡ 0 → f.holdup ≡ (client.spans, nothing_held)
@@ -388,4 +315,4 @@ so_far_none o pieces piece held f now e s =
     so_far_fed o pieces held held piece f now (sym (ap (λ (l : List ℕ). held ++ l) e ∙ append-nil held)) s
 
 pub is_line_none : (held : List ℕ) → held ≡ [] → IsLine held
-is_line_none held e = rw e no_line
+is_line_none held e = rw e (record { one = search rules; short = omega arith })

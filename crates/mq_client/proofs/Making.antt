@@ -1,14 +1,6 @@
 -- A step of a client, at each past at which it stands.
 use Rattle.std.proofs.Common.{◌≡◌, ℕ, ◌+◌, ◌≤◌, ◌==◌, Bool, false, true, List, [], ◌∷◌, ◌++◌, length, drop, refl, sym, ap, ◌∙◌, subst, arith, Option, None, Some, is_some, if◌then◌else◌, MatchBool}
-use Rattle.std.proofs.lemmas.Bool.{eq-eqb}
-use Rattle.std.proofs.lemmas.List.{drop-drop}
-use Rattle.mq_request.specs.declared.message.Request.{Request}
-use Rattle.mq_request.specs.declared.message.Reply.{Reply}
-use Rattle.mq_client.specs.Exchanges.{Exchange, AreFailed, AreTries, IsUndecided, SendsSome, NoneYet, OneMore, Sends, SendsAll, SendsUpTo, decisions}
-use Rattle.mq_client.specs.Past.{Source, Action, Ask, Close, Drain, Standing, Live, Closed, View, view, held_by, opened, let_through, answer_of, answer_by, reserve_of, closing_of, with_asked, refuses, PlaysFrom, tries_in, State, find, Makes}
-use Rattle.mq_track.specs.declared.closing.CloseEnd.{CloseEnd}
-use Rattle.mq_client.specs.declared.held.Asked.{Asked}
-use Rattle.mq_client.specs.declared.held.Held.{Held}
+use Rattle.mq_client.proofs.Words.{Action, AreFailed, AreTries, Ask, Asked, Close, CloseEnd, Closed, Drain, Exchange, Held, IsUndecided, Live, Makes, NoneYet, OneMore, PlaysFrom, Reply, Request, Sends, SendsAll, SendsSome, SendsUpTo, Source, Standing, State, View, answer_by, answer_of, closing_of, decisions, drop-drop, eq-eqb, find, held_by, let_through, opened, refuses, reserve_of, tries_in, view, with_asked}
 use Rattle.mq_client.proofs.Counting.{counted, length_closed}
 
 -- the answer is that of the reply that decided
@@ -25,11 +17,7 @@ not_empty n q (Some r) h t = t
 -- what may come next depends on what the past leaves
 plays_alike : (s : Source) (n : ℕ) (a : Action) (group : List Exchange) (o p : Option Held) (l m u v : ℕ) (w x : List Request) → o ≡ p → l ≡ m → u ≡ v → w ≡ x → PlaysFrom s n o l u w a group → PlaysFrom s n p m v x a group
 plays_alike s n a group o p l m u v w x e f g h play =
-    let A : Option Held → Type 0 = λ i. PlaysFrom s n i l u w a group in
-    let B : ℕ → Type 0 = λ i. PlaysFrom s n p i u w a group in
-    let C : ℕ → Type 0 = λ i. PlaysFrom s n p m i w a group in
-    let D : List Request → Type 0 = λ i. PlaysFrom s n p m v i a group in
-    subst D h (subst C g (subst B f (subst A e play)))
+    subst (λ (i : List Request). PlaysFrom s n p m v i a group) h (subst (λ (i : ℕ). PlaysFrom s n p m i w a group) g (subst (λ (i : ℕ). PlaysFrom s n p i u w a group) f (subst (λ (i : Option Held). PlaysFrom s n i l u w a group) e play)))
 
 match_true : (b : Bool) (A B : Type 0) → b ≡ true → A → MatchBool b A B
 match_true true A B e a = a
@@ -148,11 +136,10 @@ sends_left n queue group left (SendsUpTo q more done tries s t) =
 -- a close of a transaction that isn't held
 pub closed_nothing : (c : State) (txn : ℕ) (end : CloseEnd) (quiet : Bool) → find c.held txn ≡ None → Makes c c (record { action = Close txn end; group = []; quiet = quiet })
 closed_nothing c txn end quiet e =
-    let F : Option Held → Type 0 = λ o. PlaysFrom c.source (tries_in c.tries quiet) o (length c.held) c.numbers c.waiting (Close txn end) [] in
     record {
       source = refl;
       tries = refl;
-      plays = λ P st. plays_alike c.source (tries_in c.tries quiet) (Close txn end) [] _ _ _ _ _ _ _ _ (st.held txn) st.live st.numbers st.waiting (subst F (sym e) refl);
+      plays = λ P st. plays_alike c.source (tries_in c.tries quiet) (Close txn end) [] _ _ _ _ _ _ _ _ (st.held txn) st.live st.numbers st.waiting (subst (λ (o : Option Held). PlaysFrom c.source (tries_in c.tries quiet) o (length c.held) c.numbers c.waiting (Close txn end) []) (sym e) refl);
       stands = λ P st. let gone : held_by ((view c.source P).standing txn) ≡ None = sym (st.held txn) ∙ e in
           record { held = rw gone st.held; live = rw gone st.live; numbers = rw gone st.numbers; waiting = rw gone st.waiting };
     }
@@ -167,11 +154,10 @@ pub closed : (c d : State) (txn : ℕ) (end : CloseEnd) (quiet : Bool) (h : Held
     → ((t : ℕ) → find d.held t ≡ (if txn == t then None else find c.held t)) → length d.held + 1 ≡ length c.held → d.numbers ≡ c.numbers + 1
     → Makes c d (record { action = Close txn end; group = group; quiet = quiet })
 closed c d txn end quiet h group source same e sends held len numbers =
-    let F : Option Held → Type 0 = λ o. PlaysFrom c.source (tries_in c.tries quiet) o (length c.held) c.numbers c.waiting (Close txn end) group in
     record {
       source = source;
       tries = same;
-      plays = λ P st. plays_alike c.source (tries_in c.tries quiet) (Close txn end) group _ _ _ _ _ _ _ _ (st.held txn) st.live st.numbers st.waiting (subst F (sym e) (d.waiting, sends));
+      plays = λ P st. plays_alike c.source (tries_in c.tries quiet) (Close txn end) group _ _ _ _ _ _ _ _ (st.held txn) st.live st.numbers st.waiting (subst (λ (o : Option Held). PlaysFrom c.source (tries_in c.tries quiet) o (length c.held) c.numbers c.waiting (Close txn end) group) (sym e) (d.waiting, sends));
       stands = λ P st. rw source (
           let v : View = view c.source P in
           let was : held_by (v.standing txn) ≡ Some h = sym (st.held txn) ∙ e in

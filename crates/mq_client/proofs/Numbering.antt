@@ -1,27 +1,9 @@
 -- Each number has one request, and each request that is sent is the one of its number.
 use Rattle.std.proofs.Common.{◌≡◌, ℕ, ◌+◌, ◌≤◌, ◌==◌, ◌&&◌, ◌||◌, not, nat_le, Bool, false, true, List, [], ◌∷◌, ◌++◌, refl, sym, ap, ◌∙◌, subst, arith, inl, inr, Option, None, Some, is_some, if◌then◌else◌}
-use Rattle.std.specs.Prelude.{length}
-use Rattle.std.specs.List.{AllByRecursion}
-use Rattle.std.specs.Option.{option_map, option_or}
+use Rattle.mq_client.proofs.Words.{Action, AllByRecursion, AreUnderway, Ask, Asked, AsksForNoClosed, Close, CloseEnd, Closed, ComeInTurn, Drain, Exchange, Held, Id, IsNumbered, Limit, ListRequest, Live, Never, NoneReturns, Release, Request, Reserve, Retire, Settle, SettlesWhatWasLet, Source, Standing, Step, Suits, Usage, View, WasCommitted, after, after_close, all_append, all_drop, all_push, answer_of, closing_of, decisions, eq-eqb, eqb-true, exchanges_in, held_by, held_for, id_in, id_of, is_closed, is_commit, is_other, length, let_through, live_in, ne_eqb, neither_first, neither_second, none_some, not_false, numbers_in, opened, option_map, option_or, queue_of, refuses, request_by, request_under, reserve_of, same_text, some_is, takes_number, tries_in, txn_in, view}
 use Rattle.std.specs.Cmp.Lexicographic.{bytes_decides}
-use Rattle.std.proofs.lemmas.Bool.{eq-eqb, eqb-true, ne_eqb}
-use Rattle.mq_lemmas.proofs.Booleans.{neither_first, neither_second, not_false}
-use Rattle.mq_lemmas.proofs.Options.{none_some, some_is}
-use Rattle.mq_lemmas.proofs.Lists.{all_push, all_append, all_drop}
-use Rattle.mq_request.specs.Same.{same_text}
-use Rattle.mq_request.specs.declared.message.Id.{Id}
-use Rattle.mq_request.specs.declared.message.Request.{Request}
-use Rattle.mq_request.specs.declared.message.Request.TheVariants.{Reserve, Settle, Release, Limit, Usage, List as ListRequest, Retire}
-use Rattle.mq_client.specs.Exchanges.{Exchange, decisions}
-use Rattle.mq_client.specs.Past.{tries_in, Source, Action, Ask, Close, Drain, Step, Standing, Never, Live, Closed, View, view, after, after_close, held_by, held_for, opened, let_through, answer_of, id_of, reserve_of, is_commit, closing_of, is_other, refuses}
-use Rattle.mq_client.specs.Reading.{live_in, numbers_in, takes_number}
-use Rattle.mq_client.specs.Turns.{queue_of, ComeInTurn, AreUnderway}
-use Rattle.mq_client.specs.Numbered.{id_in, txn_in, exchanges_in, request_by, request_under, IsNumbered, WasCommitted, SettlesWhatWasLet, is_closed, AsksForNoClosed, NoneReturns, Suits}
-use Rattle.mq_track.specs.declared.closing.CloseEnd.{CloseEnd}
 use Rattle.mq_track.specs.declared.closing.CloseEnd.TheVariants as ending
-use Rattle.mq_client.specs.declared.held.Asked.{Asked}
 use Rattle.mq_client.specs.declared.held.Asked.TheVariants as asked
-use Rattle.mq_client.specs.declared.held.Held.{Held}
 use Rattle.mq_client.proofs.ReadingOff.{live_read, numbers_read}
 use Rattle.mq_client.proofs.Turning.{next_in_queue}
 use Rattle.mq_client.proofs.Bounding.{asked_free}
@@ -273,16 +255,14 @@ suits_old s n t q v (Ask txn moment login) (x ∷ group) fresh suits = by_txn (t
     by_txn : (b : Bool) → (txn == t) ≡ b → Suits s n t (if b then Live (let_through (answer_of (x ∷ group)) (opened moment login (held_by (v.standing txn)))) else v.standing t) q
     by_txn true e =
         let is : txn ≡ t = eqb-true txn t e in
-        let F : ℕ → Type 0 = λ u. Suits s n t (v.standing u) q in
-        reserve_stays s n t moment login (answer_of (x ∷ group)) (v.standing txn) q fresh (subst F (sym is) suits)
+        reserve_stays s n t moment login (answer_of (x ∷ group)) (v.standing txn) q fresh (subst (λ (u : ℕ). Suits s n t (v.standing u) q) (sym is) suits)
     by_txn false e = suits
 suits_old s n t q v (Close txn end) group fresh suits = by_held (held_by (v.standing txn)) refl
   where
     by_txn : (h : Held) (b : Bool) → (txn == t) ≡ b → held_by (v.standing txn) ≡ Some h → Suits s n t (if b then Closed end (v.numbers + 1) h else v.standing t) q
     by_txn h true e f =
         let is : txn ≡ t = eqb-true txn t e in
-        let F : ℕ → Type 0 = λ u. Suits s n t (v.standing u) q in
-        closed_stays s n t (v.numbers + 1) end h (v.standing txn) q f (subst F (sym is) suits)
+        closed_stays s n t (v.numbers + 1) end h (v.standing txn) q f (subst (λ (u : ℕ). Suits s n t (v.standing u) q) (sym is) suits)
     by_txn h false e f = suits
 
     by_held : (o : Option Held) → held_by (v.standing txn) ≡ o → Suits s n t ((after_close s txn end group v o).standing t) q

@@ -1,20 +1,7 @@
 -- The place where a run comes to its end follows from its whole input.
 use Rattle.std.proofs.Common.{◌≡◌, ℕ, ◌+◌, true, false, List, [], ◌∷◌, ◌++◌, length, refl, sym, ap, ◌∙◌, subst, append_assoc, length-append, arith, Option, None, Some}
-use Rattle.std.specs.Prelude.{◌≢◌}
-use Rattle.std.specs.List.{AllByRecursion}
-use Rattle.mq_lemmas.proofs.Options.{none_some, some_is}
-use Rattle.mq_lemmas.proofs.Booleans.{true_false}
-use Rattle.mq_line.specs.Grammar.{Meaning, ConfigLine, ReadyLine, ReportLine, FilterLine, OtherLine, Reads, fault}
-use Rattle.mq_line.specs.Text.{IsLine, IsTooLong}
+use Rattle.mq_client.proofs.Words.{AfterReady, AllByRecursion, AreRead, BeforeReady, ConfigLine, FilterFault, FilterLine, Filters, HasText, Holding, IsEarly, IsLine, IsReady, IsTooLong, Meaning, OtherLine, Reaches, Reads, ReadyLine, ReportLine, Spans, Stage, Step, Takes, TrackFault, at_line, fault, is_early, is_stamped, none_some, some_is, track_fault, true_false, ◌≢◌}
 use Rattle.mq_line.specs.declared.fault.LineFault.{LineFault}
-use Rattle.mq_track.specs.Sessions.{fault as track_fault}
-use Rattle.mq_track.specs.declared.fault.TrackFault.{TrackFault}
-use Rattle.mq_client.specs.Past.{Step}
-use Rattle.mq_client.specs.Holding.{Holding}
-use Rattle.mq_client.specs.declared.spans.Spans.{Spans}
-use Rattle.mq_client.specs.Filter.{Takes, at_line, Filters}
-use Rattle.mq_client.specs.Run.{is_early, is_stamped, IsEarly, AreRead, IsReady, Stage, BeforeReady, AfterReady, Reaches, HasText}
-use Rattle.mq_client.specs.declared.fault.FilterFault.{FilterFault}
 use Rattle.mq_client.specs.declared.fault.FilterFault.TheVariants as faults
 use Rattle.mq_client.proofs.Sameness.{push_front, early_apart, same_after, same_read, same_lines}
 use Rattle.mq_client.proofs.Basics.{nil_cons, cons_head, cons_tail}
@@ -104,8 +91,7 @@ same_end stage last a b (Long l i) (Long l' i') = i ∙ sym i'
 
 same_fate : (G : Grammar) (stage : Stage) (next : List (List ℕ)) (last : List ℕ) (a b : Option FilterFault) → Fate stage next last a → Fate stage next last b → a ≡ b
 same_fate G stage next last a b (AtLine line more e f) (AtLine line' more' e' f') =
-    let F : List ℕ → Type 0 = λ l. Front stage l a in
-    same_front G stage line' a b (subst F (cons_head line line' more more' (sym e ∙ e')) f) f'
+    same_front G stage line' a b (subst (λ (l : List ℕ). Front stage l a) (cons_head line line' more more' (sym e ∙ e')) f) f'
 same_fate G stage next last a b (AtLine line more e f) (AtEnd e' f') = absurd (nil_cons line more (sym e' ∙ e))
 same_fate G stage next last a b (AtEnd e f) (AtLine line' more' e' f') = absurd (nil_cons line' more' (sym e ∙ e'))
 same_fate G stage next last a b (AtEnd e f) (AtEnd e' f') = same_end stage last a b f f'
@@ -152,21 +138,17 @@ all_front P (x ∷ ls) d h = (h.0, all_front P ls d h.1)
 -- the line after early ones is early, or it is the first `config|ready`
 early_or_ready : (G : Grammar) (before ls : List (List ℕ)) (r y : List ℕ) (after d : List (List ℕ)) → AllByRecursion IsEarly before → AllByRecursion IsEarly ls → Reads r ReadyLine → ls ++ y ∷ d ≡ before ++ r ∷ after → Passed BeforeReady y
 early_or_ready G [] [] r y after d hb hl hr e =
-    let F : List ℕ → Type 0 = λ l. Reads l ReadyLine in
-    Early ReadyLine refl (subst F (sym (cons_head y r d after e)) hr) refl
+    Early ReadyLine refl (subst (λ (l : List ℕ). Reads l ReadyLine) (sym (cons_head y r d after e)) hr) refl
 early_or_ready G [] (x ∷ ls) r y after d hb hl hr e =
-    let F : List ℕ → Type 0 = λ l. Reads l ReadyLine in
-    absurd (early_apart G.unique x hl.0 (subst F (sym (cons_head x r (ls ++ y ∷ d) after e)) hr))
+    absurd (early_apart G.unique x hl.0 (subst (λ (l : List ℕ). Reads l ReadyLine) (sym (cons_head x r (ls ++ y ∷ d) after e)) hr))
 early_or_ready G (b ∷ before) [] r y after d hb hl hr e =
-    let F : List ℕ → Type 0 = IsEarly in
-    let (m, reads, early) = subst F (sym (cons_head y b d (before ++ r ∷ after) e)) hb.0 in
+    let (m, reads, early) = subst IsEarly (sym (cons_head y b d (before ++ r ∷ after) e)) hb.0 in
     Early m refl reads (early_plain m early)
 early_or_ready G (b ∷ before) (x ∷ ls) r y after d hb hl hr e = early_or_ready G before ls r y after d hb.1 hl.1 hr (cons_tail x b (ls ++ y ∷ d) (before ++ r ∷ after) e)
 
 ready_not_early : (G : Grammar) (ls : List (List ℕ)) (L : List Meaning) → IsReady ls L → AllByRecursion IsEarly ls → ⊥
 ready_not_early G ls L h all =
-    let F : List (List ℕ) → Type 0 = λ l. AllByRecursion IsEarly l in
-    early_apart G.unique h.ready (all_at IsEarly h.before h.ready h.after (subst F h.whole all)) h.reads_ready
+    early_apart G.unique h.ready (all_at IsEarly h.before h.ready h.after (subst (AllByRecursion IsEarly) h.whole all)) h.reads_ready
 
 data Snoc (d : List (List ℕ)) : Type 0 where
   Empty : d ≡ [] → Snoc d
@@ -192,16 +174,12 @@ taken_at spans k G xs d y L (m ∷ M) steps text h (before, line, whole, reads, 
   where
     by_end : Snoc d → ((front : List (List ℕ)) → AreRead (xs ++ y ∷ front) M → (n : Meaning) × Reads y n × (track_fault L n ≡ None)) → (n : Meaning) × Reads y n × (track_fault L n ≡ None)
     by_end (Empty none) again =
-        let F : List (List ℕ) → Type 0 = λ l. xs ++ y ∷ l ≡ before ++ line ∷ [] in
-        let (same, same_line) = push_front xs before y line (subst F none whole) in
+        let (same, same_line) = push_front xs before y line (subst (λ (l : List (List ℕ)). xs ++ y ∷ l ≡ before ++ line ∷ []) none whole) in
         let past : M ≡ L = same_read G.unique before xs M L (sym same) rest h in
-        let R : List ℕ → Type 0 = λ l. Reads l m in
-        (m, subst R (sym same_line) reads, ap (λ l. track_fault l m) (sym past) ∙ takes_sound (at_line spans m held) M m step next takes)
+        (m, subst (λ (l : List ℕ). Reads l m) (sym same_line) reads, ap (λ l. track_fault l m) (sym past) ∙ takes_sound (at_line spans m held) M m step next takes)
     by_end (Last front z more) again =
-        let F : List (List ℕ) → Type 0 = λ l. xs ++ y ∷ l ≡ before ++ line ∷ [] in
-        let (same, same_line) = push_front (xs ++ y ∷ front) before z line (append_assoc xs (y ∷ front) (z ∷ []) ∙ subst F more whole) in
-        let R : List (List ℕ) → Type 0 = λ l. AreRead l M in
-        again front (subst R (sym same) rest)
+        let (same, same_line) = push_front (xs ++ y ∷ front) before z line (append_assoc xs (y ∷ front) (z ∷ []) ∙ subst (λ (l : List (List ℕ)). xs ++ y ∷ l ≡ before ++ line ∷ []) more whole) in
+        again front (subst (λ (l : List (List ℕ)). AreRead l M) (sym same) rest)
 
 passes : (spans : Spans) (k : Holding) (G : Grammar) (ls : List (List ℕ)) (y : List ℕ) (d : List (List ℕ)) (stage stage' : Stage) (steps : List Step) (text : List ℕ) → Reaches ls stage → Reaches (ls ++ y ∷ d) stage' → HasText spans stage' steps text k → Passed stage y
 passes spans k G ls y d BeforeReady BeforeReady steps text h i t =
@@ -212,8 +190,7 @@ passes spans k G ls y d (AfterReady L) BeforeReady steps text h i t = absurd (re
 passes spans k G ls y d (AfterReady L) (AfterReady M) steps text h i (results, filters, whole) =
     let longer = ap (λ l. l ++ y ∷ d) h.whole ∙ append_assoc h.before (h.ready ∷ h.after) (y ∷ d) in
     let after : h.after ++ y ∷ d ≡ i.after = same_after G.unique h.before i.before h.ready i.ready (h.after ++ y ∷ d) i.after h.early i.early h.reads_ready i.reads_ready (sym longer ∙ i.whole) in
-    let F : List (List ℕ) → Type 0 = λ l. AreRead l M in
-    let (m, reads, none) = taken_at spans k G h.after d y L M steps results h.read (subst F (sym after) i.read) filters in
+    let (m, reads, none) = taken_at spans k G h.after d y L M steps results h.read (subst (λ (l : List (List ℕ)). AreRead l M) (sym after) i.read) filters in
     Taken L m refl reads none
 
 -- ---- two runs
@@ -245,10 +222,8 @@ not_passed : (spans : Spans) (k : Holding) (G : Grammar) (ls ms next more : List
     → Reaches ls stage → Reaches ms stage' → HasText spans stage' steps text k → ms ≡ ls ++ y ∷ d → next ≡ y ∷ more → Fate stage next last o → ⊥
 not_passed spans k G ls ms next more y d last stage stage' steps text o h i t e n (AtEnd none end) = nil_cons y more (sym none ∙ n)
 not_passed spans k G ls ms next more y d last stage stage' steps text o h i t e n (AtLine line others same front) =
-    let F : List (List ℕ) → Type 0 = λ l. Reaches l stage' in
-    let passed : Passed stage y = passes spans k G ls y d stage stage' steps text h (subst F e i) t in
-    let A : List ℕ → Type 0 = λ l. Front stage l o in
-    passed_on G stage y o (subst A (cons_head line y others more (sym same ∙ n)) front) passed
+    let passed : Passed stage y = passes spans k G ls y d stage stage' steps text h (subst (λ (l : List (List ℕ)). Reaches l stage') e i) t in
+    passed_on G stage y o (subst (λ (l : List ℕ). Front stage l o) (cons_head line y others more (sym same ∙ n)) front) passed
 
 -- two runs over the same lines come to the same place, and end there alike
 pub same_place : (spans spans' : Spans) (k k' : Holding) (G : Grammar) (ls ms next next' : List (List ℕ)) (last : List ℕ) (stage stage' : Stage) (steps steps' : List Step) (text text' : List ℕ) (a b : Option FilterFault)
@@ -260,8 +235,5 @@ same_place spans spans' k k' G ls ms next next' last stage stage' steps steps' t
     by_place (Further y d more rest) = absurd (not_passed spans' k' G ls ms next (d ++ next') y d last stage stage' steps' text' a h i t' more rest f)
     by_place (Shorter y d more rest) = absurd (not_passed spans k G ms ls next' (d ++ next) y d last stage' stage steps text b i h t more rest g)
     by_place (Equal same rest) =
-        let F : List (List ℕ) → Type 0 = λ l. Reaches l stage' in
-        let stages : stage ≡ stage' = same_stage G ls stage stage' h (subst F (sym same) i) in
-        let A : List (List ℕ) → Type 0 = λ l. Fate stage l last a in
-        let B : Stage → Type 0 = λ s. Fate s next' last a in
-        (same, stages, same_fate G stage' next' last a b (subst B stages (subst A rest f)) g)
+        let stages : stage ≡ stage' = same_stage G ls stage stage' h (subst (λ (l : List (List ℕ)). Reaches l stage') (sym same) i) in
+        (same, stages, same_fate G stage' next' last a b (subst (λ (s : Stage). Fate s next' last a) stages (subst (λ (l : List (List ℕ)). Fate stage l last a) rest f)) g)

@@ -1,15 +1,7 @@
 -- What a past leaves is what is read off the whole list of its steps.
 use Rattle.std.proofs.Common.{◌≡◌, ℕ, ◌+◌, ◌==◌, Bool, false, true, List, [], ◌∷◌, refl, sym, ap, ◌∙◌, arith, cond, Option, None, Some, is_some, if◌then◌else◌, count_by}
-use Rattle.std.specs.List.{filter_map, cons_option}
-use Rattle.std.proofs.lemmas.Bool.{eqb-true}
-use Rattle.std.proofs.lemmas.List.Sums.{sum_by-cons}
-use Rattle.mq_client.specs.Exchanges.{Exchange}
-use Rattle.mq_client.specs.Past.{Source, Action, Ask, Close, Drain, Step, Standing, Live, Closed, View, view, after, after_close, held_by, opened, let_through, answer_of}
-use Rattle.mq_client.specs.Reading.{Asking, since_close, asking, asks_of, first_of, is_granted, live_by, live_in, numbers_in, closed_by, standing_or, closed_in, live_or, standing_in}
-use Rattle.mq_track.specs.declared.closing.CloseEnd.{CloseEnd}
-use Rattle.mq_client.specs.declared.held.Asked.{Asked}
+use Rattle.mq_client.proofs.Words.{Action, Ask, Asked, Asking, Close, CloseEnd, Closed, Drain, Exchange, Held, Live, Source, Standing, Step, View, after, after_close, answer_of, asking, asks_of, closed_by, closed_in, cons_option, eqb-true, filter_map, first_of, held_by, is_granted, let_through, live_by, live_in, live_or, numbers_in, opened, since_close, standing_in, standing_or, sum_by-cons, view}
 use Rattle.mq_client.specs.declared.held.Asked.TheVariants as asked
-use Rattle.mq_client.specs.declared.held.Held.{Held}
 use Rattle.mq_client.proofs.Counting.{count_in, one_if, counted}
 
 -- one more ask

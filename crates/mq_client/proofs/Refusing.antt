@@ -1,20 +1,10 @@
 -- A line that the tracker refuses.
 use Rattle.std.proofs.Common.{◌≡◌, ℕ, Bool, true, false, ◌||◌, List, refl, sym, ap, ◌∙◌, subst, Option, None, Some, is_some, if◌then◌else◌}
-use Rattle.std.specs.Prelude.{Result, Ok, Err, IfSome, IfErr, OnErr, is_none, codes}
-use Rattle.std.specs.Option.{option_or}
-use Rattle.std.specs.Str.{bytes_eq}
-use Rattle.mq_line.specs.Grammar.{Meaning, ConfigLine, ReadyLine, ReportLine, FilterLine, OtherLine}
+use Rattle.mq_client.proofs.Words.{Closing, ConfigLine, Err, FilterFault, FilterLine, IfErr, IfSome, IsRefused, Meaning, Ok, OnErr, OtherLine, ReadyLine, ReportLine, Result, TrackFault, begin_count, bytes_eq, closing, codes, filter_fault, is_exhausted, is_filter, is_none, may_ask_for_memory, option_or, track_fault as fault}
 use Rattle.mq_line.specs.Parameters.{auth, message}
 use Rattle.mq_track.specs.Events.{event, has_message, report_fault, unreadable}
-use Rattle.mq_track.specs.Sessions.{closing, fault, begin_count, is_exhausted}
-use Rattle.mq_track.specs.declared.fault.TrackFault.{TrackFault}
 use Rattle.mq_track.specs.declared.fault.TrackFault.TheVariants as track
-use Rattle.mq_track.specs.declared.closing.Closing.{Closing}
 use Rattle.mq_track.specs.Steps.{needs_memory}
-use Rattle.mq_client.specs.Filter.{is_filter}
-use Rattle.mq_client.specs.Run.{may_ask_for_memory}
-use Rattle.mq_client.specs.Loop.{IsRefused, filter_fault}
-use Rattle.mq_client.specs.declared.fault.FilterFault.{FilterFault}
 use Rattle.mq_client.specs.declared.fault.FilterFault.TheVariants as faults
 
 -- no lack of memory

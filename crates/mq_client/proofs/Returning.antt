@@ -1,22 +1,7 @@
 -- What the lines have the client do: a transaction that was closed is never asked for again.
 use Rattle.std.proofs.Common.{◌≡◌, ℕ, ◌+◌, ◌==◌, ◌&&◌, Bool, false, true, List, [], ◌∷◌, ◌++◌, refl, sym, ap, ◌∙◌, subst, inl, inr, ◌⊎◌, Option, None, Some, if◌then◌else◌}
-use Rattle.std.specs.Prelude.{codes}
-use Rattle.std.specs.Option.{option_map}
-use Rattle.std.specs.Str.{bytes_eq}
-use Rattle.std.proofs.lemmas.Bool.{eqb-true}
-use Rattle.mq_lemmas.proofs.Options.{none_some}
-use Rattle.mq_line.specs.Grammar.{Meaning, ConfigLine, ReadyLine, ReportLine, FilterLine, OtherLine}
+use Rattle.mq_client.proofs.Words.{Action, Ask, Asks, AsksForNoClosed, Close, CloseEnd, Closed, Closing, ConfigLine, Drain, Exchange, FilterLine, Filters, Held, Holding, Live, Meaning, Never, NoneReturns, OtherLine, Passes, Query, ReadyLine, Refuses, ReportLine, Source, Spans, Step, Transaction, View, action_of, actions, actions_of, after, after_close, asking_of, at_line, bytes_eq, close_of, closing, codes, eqb-true, held_by, is_closed, is_login, is_moment, login, none_some, open_transaction, option_map, position_of, push, query, query_at, view}
 use Rattle.mq_track.specs.Laws.{StayClosed}
-use Rattle.mq_track.specs.Sessions.{Transaction, login, open_transaction, closing, position_of}
-use Rattle.mq_track.specs.declared.closing.Closing.{Closing}
-use Rattle.mq_track.specs.declared.closing.CloseEnd.{CloseEnd}
-use Rattle.mq_client.specs.Exchanges.{Exchange}
-use Rattle.mq_client.specs.Past.{Source, Action, Ask, Close, Drain, Step, Never, Live, Closed, View, view, after, after_close, held_by}
-use Rattle.mq_client.specs.Holding.{Holding}
-use Rattle.mq_client.specs.declared.spans.Spans.{Spans}
-use Rattle.mq_client.specs.Filter.{Query, Passes, Refuses, Asks, is_login, is_moment, query_at, query, at_line, push, Filters, actions, asking_of, close_of, action_of, actions_of}
-use Rattle.mq_client.specs.Numbered.{is_closed, AsksForNoClosed, NoneReturns}
-use Rattle.mq_client.specs.declared.held.Held.{Held}
 use Rattle.mq_client.proofs.Sameness.{taken_kind, actions_push}
 use Rattle.mq_client.proofs.Basics.{nil_cons, cons_head, cons_tail}
 
@@ -168,8 +153,7 @@ fresh_ask S s L P session t same is_open = by_standing (is_closed ((view s P).st
 asks_fresh : (S : StayClosed) (s : Source) (L : List Meaning) (m : Meaning) (P : List Step) (a : Action) → actions P ≡ actions_of L → action_of L m ≡ Some a → AsksForNoClosed (view s P) a
 asks_fresh S s L m P (Ask txn moment login) same e =
     let (session, t, is_open, is) = asked_open L m txn moment login e in
-    let F : ℕ → Type 0 = λ u. is_closed ((view s P).standing u) ≡ false in
-    subst F is (fresh_ask S s L P session t same is_open)
+    subst (λ (u : ℕ). is_closed ((view s P).standing u) ≡ false) is (fresh_ask S s L P session t same is_open)
 asks_fresh S s L m P (Close txn end) same e = tt
 asks_fresh S s L m P Drain same e = tt
 

@@ -1,23 +1,6 @@
 -- A run depends on the bytes that were read, on what stood before it, and on how its exchanges ended.
 use Rattle.std.proofs.Common.{◌≡◌, ℕ, Bool, true, List, [], ◌∷◌, ◌++◌, refl, sym, ap, ◌∙◌, subst, append_assoc, Option, None, Some, is_some}
-use Rattle.std.proofs.lemmas.List.{append_cancel_right}
-use Rattle.std.specs.List.{AllByRecursion}
-use Rattle.std.specs.Option.{option_map}
-use Rattle.mq_lemmas.proofs.Options.{none_some}
-use Rattle.mq_line.specs.Grammar.{Meaning, ConfigLine, ReadyLine, ReportLine, FilterLine, OtherLine, Reads}
-use Rattle.mq_line.specs.Results.{result_text}
-use Rattle.mq_line.specs.declared.results.Decision.{Decision}
-use Rattle.mq_track.specs.Sessions.{closing}
-use Rattle.mq_track.specs.declared.closing.Closing.{Closing}
-use Rattle.mq_request.specs.declared.message.Request.{Request}
-use Rattle.mq_client.specs.Exchanges.{Exchange}
-use Rattle.mq_client.specs.Past.{Source, Action, Ask, Step, view, held_for, tries_in, Plays, ArePlayed}
-use Rattle.mq_client.specs.Holding.{Holding, held_back}
-use Rattle.mq_client.specs.declared.spans.Spans.{Spans}
-use Rattle.mq_client.specs.Turns.{outcomes, quiets, all_outcomes, queue_of, next_of, ComeInTurn}
-use Rattle.mq_client.specs.Filter.{Query, Passes, Refuses, Asks, query, decision_by, Answers, Closes, Takes, at_line, after_line, push, Filters, actions, asking_of, close_of, action_of}
-use Rattle.mq_client.specs.Run.{is_early, IsEarly, AreRead, IsReady}
-use Rattle.mq_link.specs.declared.link.Outcome.{Outcome}
+use Rattle.mq_client.proofs.Words.{Action, AllByRecursion, Answers, ArePlayed, AreRead, Ask, Asks, Closes, Closing, ComeInTurn, ConfigLine, Decision, Exchange, FilterLine, Filters, Holding, IsEarly, IsReady, Meaning, OtherLine, Outcome, Passes, Plays, Query, Reads, ReadyLine, Refuses, ReportLine, Request, Source, Spans, Step, Takes, action_of, actions, after_line, all_outcomes, append_cancel_right, asking_of, at_line, close_of, closing, decision_by, held_back, held_for, is_early, next_of, none_some, option_map, outcomes, push, query, queue_of, quiets, result_text, tries_in, view}
 use Rattle.mq_client.proofs.Turning.{OneReply, turns, none_next, same_turns}
 use Rattle.mq_client.proofs.Basics.{nil_cons, cons_head, cons_tail}
 
@@ -139,13 +122,9 @@ same_next : OneReply → (s : Source) (n : ℕ) (P : List Step) (x y : Step) (A 
     → A ++ outcomes x.group ≡ B ++ outcomes y.group → x ≡ y
 same_next U s n P x y A B h i action quiet ended =
     let F : Action → Bool → Type 0 = λ a k. ComeInTurn (tries_in n k) (queue_of s (view s P) (held_for (view s P) a) a) x.group in
-    let G : Action → Type 0 = λ a. F a x.quiet in
-    let H : Bool → Type 0 = λ k. F y.action k in
-    let mine : F y.action y.quiet = subst H quiet (subst G action (turns s n P x h)) in
+    let mine : F y.action y.quiet = subst (F y.action) quiet (subst (λ (a : Action). F a x.quiet) action (turns s n P x h)) in
     let L : Action → Bool → Type 0 = λ a k. next_of (tries_in n k) (queue_of s (view s P) (held_for (view s P) a) a) x.group ≡ None in
-    let M : Action → Type 0 = λ a. L a x.quiet in
-    let N : Bool → Type 0 = λ k. L y.action k in
-    let last : L y.action y.quiet = subst N quiet (subst M action (none_next s n P x h)) in
+    let last : L y.action y.quiet = subst (L y.action) quiet (subst (λ (a : Action). L a x.quiet) action (none_next s n P x h)) in
     same_step x y action quiet (same_groups U (tries_in n y.quiet) _ x.group y.group A B mine (turns s n P y i) last (none_next s n P y i) ended)
 
 -- steps of the same actions, of which the same are quiet, whose exchanges ended alike one after another, are the same
@@ -157,10 +136,8 @@ same_from U s n P (x ∷ steps) [] A B h i e q f = absurd (nil_cons x.action (ac
 same_from U s n P (x ∷ steps) (y ∷ others) A B h i e q f =
     let ends = append_assoc A (outcomes x.group) (all_outcomes steps) ∙ f ∙ sym (append_assoc B (outcomes y.group) (all_outcomes others)) in
     let rest : steps ≡ others = same_from U s n P steps others (A ++ outcomes x.group) (B ++ outcomes y.group) h.1 i.1 (cons_tail x.action y.action (actions steps) (actions others) e) (cons_tail x.quiet y.quiet (quiets steps) (quiets others) q) ends in
-    let E : List Step → Type 0 = λ l. (A ++ outcomes x.group) ++ all_outcomes l ≡ (B ++ outcomes y.group) ++ all_outcomes others in
-    let ended : A ++ outcomes x.group ≡ B ++ outcomes y.group = append_cancel_right (A ++ outcomes x.group) (B ++ outcomes y.group) (all_outcomes others) (subst E rest ends) in
-    let F : List Step → Type 0 = λ l. Plays s n (l ++ P) x in
-    let next = same_next U s n (others ++ P) x y A B (subst F rest h.0) i.0 (cons_head x.action y.action (actions steps) (actions others) e) (cons_head x.quiet y.quiet (quiets steps) (quiets others) q) ended in
+    let ended : A ++ outcomes x.group ≡ B ++ outcomes y.group = append_cancel_right (A ++ outcomes x.group) (B ++ outcomes y.group) (all_outcomes others) (subst (λ (l : List Step). (A ++ outcomes x.group) ++ all_outcomes l ≡ (B ++ outcomes y.group) ++ all_outcomes others) rest ends) in
+    let next = same_next U s n (others ++ P) x y A B (subst (λ (l : List Step). Plays s n (l ++ P) x) rest h.0) i.0 (cons_head x.action y.action (actions steps) (actions others) e) (cons_head x.quiet y.quiet (quiets steps) (quiets others) q) ended in
     ap (λ z. z ∷ steps) next ∙ ap (λ l. y ∷ l) rest
 
 pub same_played : OneReply → (s : Source) (n : ℕ) (P steps others : List Step) → ArePlayed s n P steps → ArePlayed s n P others → actions steps ≡ actions others → quiets steps ≡ quiets others → all_outcomes steps ≡ all_outcomes others → steps ≡ others
@@ -215,11 +192,9 @@ same_line U spans s n P L m (Some x) None next next' xs ys text more k j A B h i
 same_line U spans s n P L m (Some x) (Some y) next next' xs ys text more k j A B h i e alike before f =
     let ends = append_assoc A (outcomes x.group) (all_outcomes xs) ∙ f ∙ sym (append_assoc B (outcomes y.group) (all_outcomes ys)) in
     let told = before (A ++ outcomes x.group) (B ++ outcomes y.group) h.1 i.1 ends in
-    let E : List Step → Type 0 = λ l. (A ++ outcomes x.group) ++ all_outcomes l ≡ (B ++ outcomes y.group) ++ all_outcomes ys in
-    let ended : A ++ outcomes x.group ≡ B ++ outcomes y.group = append_cancel_right (A ++ outcomes x.group) (B ++ outcomes y.group) (all_outcomes ys) (subst E told.steps ends) in
-    let F : List Step → Type 0 = λ l. Plays s n (l ++ P) x in
+    let ended : A ++ outcomes x.group ≡ B ++ outcomes y.group = append_cancel_right (A ++ outcomes x.group) (B ++ outcomes y.group) (all_outcomes ys) (subst (λ (l : List Step). (A ++ outcomes x.group) ++ all_outcomes l ≡ (B ++ outcomes y.group) ++ all_outcomes ys) told.steps ends) in
     let both = alike told.held_is in
-    let step : Some x ≡ Some y = ap Some (same_next U s n (ys ++ P) x y A B (subst F told.steps h.0) i.0 (one_action x y e) (one_quiet x y both.quiet) ended) in
+    let step : Some x ≡ Some y = ap Some (same_next U s n (ys ++ P) x y A B (subst (λ (l : List Step). Plays s n (l ++ P) x) told.steps h.0) i.0 (one_action x y e) (one_quiet x y both.quiet) ended) in
     record { step = step; next_is = both.text_is step; before = told }
 
 -- what lines have the client do, what is written for them and what is held back follows from how the exchanges ended
@@ -227,13 +202,10 @@ pub same_filters : OneReply → (spans : Spans) (s : Source) (n : ℕ) (P : List
     → Filters spans L steps text k → Filters spans L others more j → ArePlayed s n P steps → ArePlayed s n P others → A ++ all_outcomes steps ≡ B ++ all_outcomes others → Told steps others text more k j
 same_filters U spans s n P [] steps others text more k j A B h i p q e = record { steps = h.0 ∙ sym i.0; text_is = h.1 ∙ sym i.1; held_is = h.2 ∙ sym i.2 }
 same_filters U spans s n P (m ∷ L) steps others text more k j A B (a, xs, written, next, held, h, takes, e, f, g) (b, ys, written', next', held', i, takes', e', f', g') p q ended =
-    let T : Holding → Type 0 = λ z. Takes (at_line spans m z) L m a next in
-    let O : List Step → Type 0 = λ l. A ++ all_outcomes l ≡ B ++ all_outcomes others in
-    let Q : List Step → Type 0 = λ l. A ++ all_outcomes (push a xs) ≡ B ++ all_outcomes l in
     let one = same_line U spans s n P L m a b next next' xs ys written written' held held' A B (subst (ArePlayed s n P) e p) (subst (ArePlayed s n P) e' q)
     (taken_kind (at_line spans m held) L m a next takes ∙ sym (taken_kind (at_line spans m held') L m b next' takes'))
-    (λ same. same_takes (at_line spans m held') L m a b next next' (subst T same takes) takes')
-    (λ C D r t. same_filters U spans s n P L xs ys written written' held held' C D h i r t) (subst Q e' (subst O e ended)) in
+    (λ same. same_takes (at_line spans m held') L m a b next next' (subst (λ (z : Holding). Takes (at_line spans m z) L m a next) same takes) takes')
+    (λ C D r t. same_filters U spans s n P L xs ys written written' held held' C D h i r t) (subst (λ (l : List Step). A ++ all_outcomes (push a xs) ≡ B ++ all_outcomes l) e' (subst (λ (l : List Step). A ++ all_outcomes l ≡ B ++ all_outcomes others) e ended)) in
     let told = one.before in
     record {
       steps = e ∙ ap (λ z. push z xs) one.step ∙ ap (push b) told.steps ∙ sym e';

@@ -1,11 +1,6 @@
 -- A queue that is sent from its front.
 use Rattle.std.proofs.Common.{◌≡◌, ℕ, ◌<◌, true, false, List, [], ◌∷◌, ◌++◌, length, ◌||◌, is_some, refl, sym, ap, ◌∙◌, subst, arith, Option, None, Some, if◌then◌else◌}
-use Rattle.std.specs.Prelude.{slice_index_or}
-use Rattle.std.specs.List.{list_any}
-use Rattle.mq_request.specs.declared.message.Request.{Request}
-use Rattle.mq_client.specs.declared.tries.Framed.{Framed}
-use Rattle.mq_request.specs.declared.message.Reply.{Reply}
-use Rattle.mq_client.specs.Exchanges.{Exchange, AreFailed, AreTries, IsUndecided, IsSent, SendsSome, NoneYet, OneMore, Sends, SendsAll, SendsUpTo, ran_out, has_timed_out}
+use Rattle.mq_client.proofs.Words.{AreFailed, AreTries, Exchange, Framed, IsSent, IsUndecided, NoneYet, OneMore, Reply, Request, Sends, SendsAll, SendsSome, SendsUpTo, has_timed_out, list_any, ran_out, slice_index_or}
 
 -- the request in front
 pub starts_with : (now : List Framed) (q : Framed) → q ≡ slice_index_or now 0 q → 0 < length now → (rest : List Framed) × (now ≡ q ∷ rest)
@@ -24,13 +19,11 @@ sends_more n queue now rest q done tries e s (r, t) = OneMore q rest done tries 
 
 pub sends_stop : (n : ℕ) (queue now rest : List Request) (q : Request) (done tries : List Exchange) → now ≡ q ∷ rest → SendsSome n queue done now → IsSent n q tries false → Sends n queue (tries ++ done) now
 sends_stop n queue now rest q done tries e s t =
-    let P : List Request → Type 0 = λ l. Sends n queue (tries ++ done) l in
-    subst P (sym e) (SendsUpTo q rest done tries (subst (λ (l : List Request). SendsSome n queue done l) e s) t)
+    subst (λ (l : List Request). Sends n queue (tries ++ done) l) (sym e) (SendsUpTo q rest done tries (subst (λ (l : List Request). SendsSome n queue done l) e s) t)
 
 pub sends_all : (n : ℕ) (queue now : List Request) (done : List Exchange) → now ≡ [] → SendsSome n queue done now → Sends n queue done now
 sends_all n queue now done e s =
-    let P : List Request → Type 0 = λ l. Sends n queue done l in
-    subst P (sym e) (SendsAll done (subst (λ (l : List Request). SendsSome n queue done l) e s))
+    subst (Sends n queue done) (sym e) (SendsAll done (subst (λ (l : List Request). SendsSome n queue done l) e s))
 
 -- the exchanges of decided requests end in time
 pub some_in_time : (n : ℕ) (queue : List Request) (group : List Exchange) (left : List Request) → SendsSome n queue group left → has_timed_out group ≡ false
@@ -47,8 +40,7 @@ late_after q (x ∷ tries) done failed e = ap (λ b. if is_some (x.decided) then
 late_failed : (q : Request) (tries : List Exchange) → AreFailed q tries → has_timed_out tries ≡ list_any (λ (x : Exchange). ran_out x.outcome) tries
 late_failed q [] failed = refl
 late_failed q (x ∷ tries) failed =
-    let F : Option Reply → Type 0 = λ d. (if is_some d then false else (ran_out x.outcome || has_timed_out tries)) ≡ (ran_out x.outcome || list_any (λ (y : Exchange). ran_out y.outcome) tries) in
-    subst F (sym failed.0.decided_is) (ap (λ b. ran_out x.outcome || b) (late_failed q tries failed.1))
+    subst (λ (d : Option Reply). (if is_some d then false else (ran_out x.outcome || has_timed_out tries)) ≡ (ran_out x.outcome || list_any (λ (y : Exchange). ran_out y.outcome) tries)) (sym failed.0.decided_is) (ap (λ b. ran_out x.outcome || b) (late_failed q tries failed.1))
 
 pub late_decided : (n : ℕ) (q : Request) (group : List Exchange) (r : Reply) → AreTries n q group (Some r) → has_timed_out group ≡ false
 late_decided n q [] r t = absurd t

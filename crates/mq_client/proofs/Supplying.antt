@@ -1,11 +1,6 @@
 -- Reads made one after another.
 use Rattle.std.proofs.Common.{◌≡◌, ◌<◌, ◌≤◌, ℕ, List, [], ◌∷◌, ◌++◌, length, length-append, refl, sym, ap, ◌∙◌, subst, append_assoc, append-nil, arith, Option, None, Some}
-use Rattle.std.specs.List.{concat}
-use Rattle.std.specs.Io.KnownBytes.{Consumes}
-use Rattle.std.proofs.KnownBytes.{Consumes-trans}
-use Rattle.mq_lemmas.proofs.Lists.{all_push}
-use Rattle.mq_stream.specs.Flow.{TellsReads}
-use Rattle.mq_client.specs.Run.{Supply, IsPiece, Supplies}
+use Rattle.mq_client.proofs.Words.{Consumes, Consumes-trans, IsPiece, Supplies, Supply, TellsReads, all_push, concat}
 
 pub concat_push : (pieces : List (List ℕ)) (piece : List ℕ) → concat (pieces ++ piece ∷ []) ≡ concat pieces ++ piece
 concat_push [] piece = append-nil piece
@@ -33,9 +28,8 @@ supplied_start a = record { consumed = Consumes-none a.remaining; told = TellsRe
 pub supplied_more : (a b c : Supply) (pieces : List (List ℕ)) (piece : List ℕ) → Supplies a b pieces → Consumes b.remaining c.remaining piece → TellsReads b.reads c.reads (piece ∷ []) → length piece ≤ 4096
     → length pieces < 1099511627776 → Supplies a c (pieces ++ piece ∷ [])
 supplied_more a b c pieces piece s consumed told small few =
-    let P : List ℕ → Type 0 = λ l. Consumes a.remaining c.remaining l in
     record {
-      consumed = subst P (sym (concat_push pieces piece)) (Consumes-trans _ _ _ _ _ s.consumed consumed);
+      consumed = subst (Consumes a.remaining c.remaining) (sym (concat_push pieces piece)) (Consumes-trans _ _ _ _ _ s.consumed consumed);
       told = TellsReads-trans a.reads b.reads c.reads pieces (piece ∷ []) s.told told;
       each = all_push IsPiece pieces piece s.each small;
       few = omega (arith, few, length-append pieces (piece ∷ []));

@@ -1,20 +1,9 @@
 -- What a link reports of several exchanges, and how tries add up.
 use Rattle.std.proofs.Common.{◌≡◌, ℕ, ◌<◌, Bool, true, false, List, [], ◌∷◌, ◌++◌, length, ◌||◌, is_some, refl, sym, ap, ◌∙◌, subst, append_assoc, append-nil, Option, None, Some, if◌then◌else◌}
-use Rattle.mq_lemmas.proofs.Booleans.{or_false}
-use Rattle.mq_frame.specs.Spelling.{SpellsReply, request_frame}
-use Rattle.mq_request.specs.declared.message.Request.{Request}
-use Rattle.mq_request.specs.declared.message.Reply.{Reply}
-use Rattle.mq_link.specs.Link.{Tells}
-use Rattle.mq_client.specs.Exchanges.{Exchange, IsDecision, IsTry, AreFailed, AreTries, IsSent, decides, told_of, told_all, ran_out, has_timed_out}
-use Rattle.mq_client.specs.Verdict.{IsVerdict, deciding}
+use Rattle.mq_client.proofs.Words.{Answered, AreFailed, AreTries, ComesOf, Exchange, Faulted, IsDecision, IsSent, IsTry, IsVerdict, Outcome, Reply, Request, SpellsReply, Tells, Told, Tried, decides, deciding, has_timed_out, is_decided, is_late, or_false, ran_out, request_frame, told_all, told_of, verdict_of}
 use Rattle.mq_client.specs.declared.verdict.Verdict.{Verdict}
-use Rattle.mq_client.specs.declared.tries.Tried.{Tried}
 use Rattle.mq_client.specs.declared.tries.Tried.TheVariants as tried
-use Rattle.mq_client.specs.Tried.{ComesOf, verdict_of, is_decided, is_late}
-use Rattle.mq_link.specs.declared.link.Outcome.{Outcome}
 use Rattle.mq_link.specs.declared.link.LinkFault.{LinkFault}
-use Rattle.mq_link.specs.declared.link.Outcome.TheVariants.{Answered, Faulted}
-use Rattle.mq_link.specs.declared.link.Told.{Told}
 
 pub Tells-none : (t : Option (List Told)) → Tells t t []
 Tells-none None = tt
@@ -84,10 +73,8 @@ no_verdict tried.TimedOut not = refl
 -- one more try that decides nothing
 pub late_more : (x : Exchange) (done : List Exchange) (a b : Bool) → x.decided ≡ None → a ≡ has_timed_out (x ∷ []) → b ≡ has_timed_out done → (a || b) ≡ has_timed_out (x ∷ done)
 late_more x done a b none last before =
-    let F : Option Reply → Type 0 = λ d. a ≡ (if is_some d then false else (ran_out x.outcome || false)) in
-    let G : Option Reply → Type 0 = λ d. (a || b) ≡ (if is_some d then false else (ran_out x.outcome || has_timed_out done)) in
-    let one : a ≡ ran_out x.outcome = subst F none last ∙ or_false (ran_out x.outcome) in
-    subst G (sym none) (ap (λ k. k || b) one ∙ ap (λ k. ran_out x.outcome || k) before)
+    let one : a ≡ ran_out x.outcome = subst (λ (d : Option Reply). a ≡ (if is_some d then false else (ran_out x.outcome || false))) none last ∙ or_false (ran_out x.outcome) in
+    subst (λ (d : Option Reply). (a || b) ≡ (if is_some d then false else (ran_out x.outcome || has_timed_out done))) (sym none) (ap (λ k. k || b) one ∙ ap (λ k. ran_out x.outcome || k) before)
 
 -- one that decides ends them in time
 pub comes_decided : (request : Request) (x : Exchange) (done : List Exchange) (decided : Option Reply) (v : Verdict) → IsTry request x decided → IsVerdict decided (Some v) → ComesOf decided (x ∷ done) (tried.Decided v)

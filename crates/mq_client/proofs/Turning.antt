@@ -1,19 +1,6 @@
 -- The exchanges of a step come in turn, until none is the next one.
 use Rattle.std.proofs.Common.{◌≡◌, ℕ, zero, suc, ◌+◌, ◌<◌, ◌≤◌, Bool, false, true, List, [], ◌∷◌, ◌++◌, length, drop, refl, sym, ap, ◌∙◌, subst, append-nil, arith, Option, None, Some, if◌then◌else◌, MatchBool}
-use Rattle.std.specs.Prelude.{slice_get, nat_le}
-use Rattle.std.proofs.lemmas.Bool.{lt-leb, le-leb, leb-false}
-use Rattle.mq_lemmas.proofs.Options.{none_some, some_is}
-use Rattle.mq_lemmas.proofs.Booleans.{true_false}
-use Rattle.mq_request.specs.declared.message.Request.{Request}
-use Rattle.mq_request.specs.declared.message.Reply.{Reply}
-use Rattle.mq_frame.specs.Spelling.{SpellsReply}
-use Rattle.mq_client.specs.Exchanges.{Exchange, IsTry, IsDecision, AreFailed, AreTries, SendsSome, NoneYet, OneMore, Sends, SendsAll, SendsUpTo, decisions}
-use Rattle.mq_link.specs.Link.{Brings}
-use Rattle.mq_client.specs.Past.{tries_in, Source, Action, Ask, Close, Drain, Step, View, view, held_for, reserve_of, refuses, PlaysFrom, Plays, IsPlayed}
-use Rattle.mq_client.specs.Turns.{failures, queue_of, next_of, next_in, ComeInTurn, IsUnderway, AreUnderway, outcomes}
-use Rattle.mq_client.specs.declared.held.Held.{Held}
-use Rattle.mq_link.specs.declared.link.Outcome.{Outcome}
-use Rattle.mq_link.specs.declared.link.Outcome.TheVariants.{Answered, Faulted}
+use Rattle.mq_client.proofs.Words.{Action, Answered, AreFailed, AreTries, AreUnderway, Ask, Brings, Close, ComeInTurn, Drain, Exchange, Faulted, Held, IsDecision, IsPlayed, IsTry, IsUnderway, NoneYet, OneMore, Outcome, Plays, PlaysFrom, Reply, Request, Sends, SendsAll, SendsSome, SendsUpTo, Source, SpellsReply, Step, View, decisions, failures, held_for, le-leb, leb-false, lt-leb, nat_le, next_in, next_of, none_some, outcomes, queue_of, refuses, reserve_of, slice_get, some_is, tries_in, true_false, view}
 use Rattle.mq_client.proofs.Making.{some_left}
 use Rattle.mq_client.proofs.Basics.{cons_head, cons_tail}
 
@@ -51,8 +38,7 @@ all_failed : (n : ℕ) (queue : List Request) (done tries : List Exchange) (q : 
 all_failed n queue done [] q k c e f h = c
 all_failed n queue done (x ∷ tries) q k c e f h =
     let more : length tries + 1 ≡ length (x ∷ tries) = omega arith in
-    let G : ℕ → Type 0 = λ i. Comes n queue (x ∷ (tries ++ done)) i k in
-    subst G more (come_failed n queue (tries ++ done) q x (length tries) k (all_failed n queue done tries q k c e f.1 (omega (arith, h))) (omega (arith, h)) e f.0)
+    subst (λ (i : ℕ). Comes n queue (x ∷ (tries ++ done)) i k) more (come_failed n queue (tries ++ done) q x (length tries) k (all_failed n queue done tries q k c e f.1 (omega (arith, h))) (omega (arith, h)) e f.0)
 
 tried : (n : ℕ) (queue : List Request) (done tries : List Exchange) (q : Request) (r : Reply) (k : ℕ) → Comes n queue done 0 k → slice_get queue k ≡ Some q → AreTries n q tries (Some r) → Comes n queue (tries ++ done) 0 (k + 1)
 tried n queue done [] q r k c e t = absurd t
@@ -142,14 +128,12 @@ sends_end n queue group left (SendsUpTo q more done tries s t) =
 tries_end : (n : ℕ) (q : Request) (group : List Exchange) (decided : Option Reply) → AreTries n q group decided → next_of n (q ∷ []) group ≡ None
 tries_end n q group None t =
     let c = all_failed n (q ∷ []) [] group q 0 (nothing_yet n (q ∷ [])) refl t.0 (omega (arith, t.1)) in
-    let F : List Exchange → Type 0 = λ l. failures l ≡ length group in
-    let failed : failures group ≡ length group = subst F (append-nil group) c.failed_is in
+    let failed : failures group ≡ length group = subst (λ (l : List Exchange). failures l ≡ length group) (append-nil group) c.failed_is in
     none_by_tries n (q ∷ []) group (omega (arith, failed, t.1))
 tries_end n q [] (Some r) t = absurd t
 tries_end n q (x ∷ group) (Some r) t =
     let c = tried n (q ∷ []) [] (x ∷ group) q r 0 (nothing_yet n (q ∷ [])) refl t in
-    let F : List Exchange → Type 0 = λ l. decisions l ≡ 1 in
-    let decided : decisions (x ∷ group) ≡ 1 = subst F (append-nil (x ∷ group)) c.decided_is in
+    let decided : decisions (x ∷ group) ≡ 1 = subst (λ (l : List Exchange). decisions l ≡ 1) (append-nil (x ∷ group)) c.decided_is in
     none_by_queue n (q ∷ []) (x ∷ group) (ap (slice_get (q ∷ [])) decided)
 
 ask_ends : (b : Bool) (n : ℕ) (q : Request) (group : List Exchange) → MatchBool b (group ≡ []) ((decided : Option Reply) × AreTries n q group decided) → next_of n (if b then [] else q ∷ []) group ≡ None
@@ -185,9 +169,7 @@ same_decision U q o (Some r) (Some p) h i = ap Some (one_brought U o r p h.0 i.0
 
 same_exchange : OneReply → (x y : Exchange) → x.request ≡ y.request → x.outcome ≡ y.outcome → IsDecision x.request x.outcome x.decided → IsDecision y.request y.outcome y.decided → x ≡ y
 same_exchange U x y e f h i =
-    let F : Request → Type 0 = λ q. IsDecision q x.outcome x.decided in
-    let G : Outcome → Type 0 = λ o. IsDecision y.request o x.decided in
-    let decided : x.decided ≡ y.decided = same_decision U y.request y.outcome x.decided y.decided (subst G f (subst F e h)) i in
+    let decided : x.decided ≡ y.decided = same_decision U y.request y.outcome x.decided y.decided (subst (λ (o : Outcome). IsDecision y.request o x.decided) f (subst (λ (q : Request). IsDecision q x.outcome x.decided) e h)) i in
     let A : Request → Exchange = λ q. record { request = q; outcome = x.outcome; decided = x.decided } in
     let B : Outcome → Exchange = λ o. record { request = y.request; outcome = o; decided = x.decided } in
     let C : Option Reply → Exchange = λ d. record { request = y.request; outcome = y.outcome; decided = d } in

@@ -1,24 +1,10 @@
 -- What waits is what is read off the whole past: the closings that no exchange decided.
 use Rattle.std.proofs.Common.{◌≡◌, ℕ, zero, suc, ◌+◌, ◌<◌, ◌≤◌, ◌==◌, ◌&&◌, ◌||◌, not, Bool, false, true, List, [], ◌∷◌, ◌++◌, refl, sym, ap, ◌∙◌, subst, arith, append_assoc, append-nil, Option, None, Some, is_some, if◌then◌else◌, filter}
-use Rattle.std.specs.Prelude.{drop, slice_get}
-use Rattle.std.proofs.lemmas.List.{drop-drop}
-use Rattle.std.specs.List.{AllByRecursion}
+use Rattle.mq_client.proofs.Words.{Action, AllByRecursion, all_append, and_false, AreUnderway, Ask, Close, CloseEnd, ComeInTurn, Drain, Exchange, Held, Id, Limit, Release, Request, Reserve, Retire, Settle, Source, Step, View, after, after_close, all_push, closing_of, closing_under, closings_in, decisions, drop, drop-drop, held_by, held_for, is_decided_by, is_decided_in, live_in, neither_so, never, none_some, numbers_in, or_first, or_second, queue_of, reserve_of, same_id, same_request, same_text, slice_get, some_is, tries_in, view, waiting_in}
 use Rattle.std.proofs.lemmas.List.Elements.{filter-append}
-use Rattle.mq_lemmas.proofs.Booleans.{or_second, or_first, neither_so, never}
 use Rattle.mq_lemmas.proofs.Numbers.{number_itself, other_number}
-use Rattle.mq_lemmas.proofs.Options.{none_some, some_is}
-use Rattle.mq_lemmas.proofs.Lists.{all_push}
-use Rattle.mq_request.specs.Same.{same_text, same_id, same_request}
-use Rattle.mq_request.specs.declared.message.Id.{Id}
-use Rattle.mq_request.specs.declared.message.Request.{Request}
-use Rattle.mq_request.specs.declared.message.Request.TheVariants.{Reserve, Settle, Release, Limit, Usage, List as ListRequest, Retire}
 use Rattle.mq_request.proofs.Alike.{text_itself, id_itself}
-use Rattle.mq_client.specs.Exchanges.{Exchange, decisions}
-use Rattle.mq_client.specs.Turns.{queue_of, ComeInTurn, AreUnderway}
-use Rattle.mq_client.specs.Past.{tries_in, Source, Action, Ask, Close, Drain, Step, View, view, after, after_close, held_by, held_for, reserve_of, closing_of}
-use Rattle.mq_client.specs.Reading.{live_in, numbers_in, closing_under, closings_in, is_decided_by, is_decided_in, waiting_in}
-use Rattle.mq_track.specs.declared.closing.CloseEnd.{CloseEnd}
-use Rattle.mq_client.specs.declared.held.Held.{Held}
+use Rattle.mq_client.proofs.Basics.{all_weaker}
 use Rattle.mq_client.proofs.Turning.{next_in_queue}
 use Rattle.mq_client.proofs.ReadingOff.{live_read, numbers_read}
 
@@ -29,9 +15,8 @@ seq_of (Reserve id txn moment login count) = id.number
 seq_of (Settle id txn moment login count) = id.number
 seq_of (Release id txn moment login) = id.number
 seq_of (Limit id from_day cap login) = id.number
-seq_of (Usage login day) = 0
-seq_of (ListRequest day after) = 0
 seq_of (Retire id) = id.number
+seq_of _ = 0
 
 abbrev IsClosing : Request → Type 0
 IsClosing (Settle id txn moment login count) = Unit {0}
@@ -41,15 +26,10 @@ IsClosing _ = ⊥
 request_itself : (q : Request) → IsClosing q → same_request q q ≡ true
 request_itself (Settle id txn moment login count) c = rw (id_itself id, number_itself txn, number_itself moment, text_itself login, number_itself count) refl
 request_itself (Release id txn moment login) c = rw (id_itself id, number_itself txn, number_itself moment, text_itself login) refl
-request_itself (Reserve id txn moment login count) c = absurd c
-request_itself (Limit id from_day cap login) c = absurd c
-request_itself (Usage login day) c = absurd c
-request_itself (ListRequest day after) c = absurd c
-request_itself (Retire id) c = absurd c
+request_itself q c = absurd c
 
 first_false : (a b : Bool) → a ≡ false → (a && b) ≡ false
-first_false true b e = let no : ⊥ = cc in absurd no
-first_false false b e = refl
+first_false a b e = rw e refl
 
 other_id : (a b : Id) → a.number < b.number → same_id a b ≡ false
 other_id a b h = never (same_text a.host b.host) _ (never (a.run == b.run) _ (other_number a.number b.number h))
@@ -58,33 +38,15 @@ other_id a b h = never (same_text a.host b.host) _ (never (a.run == b.run) _ (ot
 other_request : (r q : Request) → IsClosing q → seq_of r < seq_of q → same_request r q ≡ false
 other_request (Settle a txn moment login count) (Settle b txn' moment' login' count') c h = first_false (same_id a b) _ (other_id a b h)
 other_request (Release a txn moment login) (Release b txn' moment' login') c h = first_false (same_id a b) _ (other_id a b h)
-other_request (Reserve a txn moment login count) (Settle b txn' moment' login' count') c h = refl
-other_request (Reserve a txn moment login count) (Release b txn' moment' login') c h = refl
-other_request (Settle a txn moment login count) (Release b txn' moment' login') c h = refl
-other_request (Release a txn moment login) (Settle b txn' moment' login' count') c h = refl
-other_request (Limit a from_day cap login) (Settle b txn' moment' login' count') c h = refl
-other_request (Limit a from_day cap login) (Release b txn' moment' login') c h = refl
-other_request (Usage login day) (Settle b txn' moment' login' count') c h = refl
-other_request (Usage login day) (Release b txn' moment' login') c h = refl
-other_request (ListRequest day after) (Settle b txn' moment' login' count') c h = refl
-other_request (ListRequest day after) (Release b txn' moment' login') c h = refl
-other_request (Retire a) (Settle b txn' moment' login' count') c h = refl
-other_request (Retire a) (Release b txn' moment' login') c h = refl
-other_request r (Reserve b txn' moment' login' count') c h = absurd c
-other_request r (Limit b from_day cap login) c h = absurd c
-other_request r (Usage login day) c h = absurd c
-other_request r (ListRequest day after) c h = absurd c
-other_request r (Retire b) c h = absurd c
+other_request r (Settle b txn' moment' login' count') c h = refl
+other_request r (Release b txn' moment' login') c h = refl
+other_request r q c h = absurd c
 
 -- a reserve is no closing
 reserve_other : (s : Source) (n txn moment : ℕ) (login : List ℕ) (q : Request) → IsClosing q → same_request (reserve_of s n txn moment login) q ≡ false
 reserve_other s n txn moment login (Settle id txn' moment' login' count) c = refl
 reserve_other s n txn moment login (Release id txn' moment' login') c = refl
-reserve_other s n txn moment login (Reserve id txn' moment' login' count) c = absurd c
-reserve_other s n txn moment login (Limit id from_day cap login') c = absurd c
-reserve_other s n txn moment login (Usage login' day) c = absurd c
-reserve_other s n txn moment login (ListRequest day after) c = absurd c
-reserve_other s n txn moment login (Retire id) c = absurd c
+reserve_other s n txn moment login q c = absurd c
 
 closing_at : (s : Source) (n txn moment count : ℕ) (login : List ℕ) (b : Bool) → let q = (if b then Settle (record { host = s.host; run = s.run; number = n }) txn moment login count else Release (record { host = s.host; run = s.run; number = n }) txn moment login) in IsClosing q × (seq_of q ≡ n)
 closing_at s n txn moment count login true = (tt, refl)
@@ -95,13 +57,9 @@ closing_is s n txn end h = closing_at s n txn h.moment h.granted h.login _
 
 -- ---- which requests a group decided
 
-unmarked : (b c : Bool) → ((b && false) || c) ≡ c
-unmarked true c = refl
-unmarked false c = refl
-
 -- an exchange that fails decides nothing
 failed_more : (x : Exchange) (group : List Exchange) (q : Request) → is_some x.decided ≡ false → is_decided_by (x ∷ group) q ≡ is_decided_by group q
-failed_more x group q e = rw e (unmarked (same_request x.request q) (is_decided_by group q))
+failed_more x group q e = rw (e, and_false (same_request x.request q)) refl
 
 the_only : (k : ℕ) (q r : Request) → slice_get (q ∷ []) k ≡ Some r → r ≡ q
 the_only zero q r e = sym (some_is q r e)
@@ -127,14 +85,6 @@ all_both : (P : Request → Type 0) (xs ys : List Request) → AllByRecursion P 
 all_both P [] ys all = (tt, all)
 all_both P (x ∷ xs) ys all = let (a, b) = all_both P xs ys all.1 in ((all.0, a), b)
 
-all_joined : (P : Request → Type 0) (xs ys : List Request) → AllByRecursion P xs → AllByRecursion P ys → AllByRecursion P (xs ++ ys)
-all_joined P [] ys a b = b
-all_joined P (x ∷ xs) ys a b = (a.0, all_joined P xs ys a.1 b)
-
-all_map : (P Q : Request → Type 0) (qs : List Request) → ((q : Request) → P q → Q q) → AllByRecursion P qs → AllByRecursion Q qs
-all_map P Q [] f all = tt
-all_map P Q (q ∷ qs) f all = (f q all.0, all_map P Q qs f all.1)
-
 all_two : (P Q : Request → Type 0) (R : Request → Type 0) (qs : List Request) → ((q : Request) → P q → Q q → R q) → AllByRecursion P qs → AllByRecursion Q qs → AllByRecursion R qs
 all_two P Q R [] f a b = tt
 all_two P Q R (q ∷ qs) f a b = (f q a.0 b.0, all_two P Q R qs f a.1 b.1)
@@ -152,7 +102,7 @@ abbrev ComesAfter : List Request → Request → Type 0
 ComesAfter xs q = AllByRecursion (λ r. seq_of r < seq_of q) xs
 
 comes_after : (xs ys : List Request) → Ascends (xs ++ ys) → AllByRecursion (ComesAfter xs) ys
-comes_after [] ys a = all_map (λ q. Unit {0}) (ComesAfter []) ys (λ q u. u) (units ys)
+comes_after [] ys a = all_weaker (λ q. Unit {0}) (ComesAfter []) ys (λ q u. u) (units ys)
   where
     units : (ys : List Request) → AllByRecursion (λ q. Unit {0}) ys
     units [] = tt
@@ -179,7 +129,7 @@ splits_more : (n : ℕ) (queue : List Request) (x : Exchange) (group : List Exch
 splits_more n queue x group false e all at p = record {
   done = p.done;
   whole = p.whole;
-  decided = all_map (λ q. is_decided_by group q ≡ true) (λ q. is_decided_by (x ∷ group) q ≡ true) p.done (λ q h. failed_more x group q e ∙ h) p.decided;
+  decided = all_weaker (λ q. is_decided_by group q ≡ true) (λ q. is_decided_by (x ∷ group) q ≡ true) p.done (λ q h. failed_more x group q e ∙ h) p.decided;
   others = λ q c h. failed_more x group q e ∙ p.others q c h;
 }
 splits_more n queue x group true e all at p =
@@ -192,7 +142,7 @@ splits_more n queue x group true e all at p =
       done = p.done ++ r ∷ [];
       whole = parts ∙ sym (append_assoc p.done (r ∷ []) left);
       decided = all_push (λ q. is_decided_by (x ∷ group) q ≡ true) p.done r
-          (all_map (λ q. is_decided_by group q ≡ true) (λ q. is_decided_by (x ∷ group) q ≡ true) p.done (λ q h. or_second _ (is_decided_by group q) h) p.decided)
+          (all_weaker (λ q. is_decided_by group q ≡ true) (λ q. is_decided_by (x ∷ group) q ≡ true) p.done (λ q h. or_second _ (is_decided_by group q) h) p.decided)
           (or_first _ (is_decided_by group r) (rw (request_itself r closing) e));
       others = λ q c h.
           let (first, last) = all_both (λ y. seq_of y < seq_of q) p.done (r ∷ []) h in
@@ -224,8 +174,8 @@ waits_more dec closings waiting n q w c e = record {
   decided = w.decided;
   undecided = all_push (λ r. dec r ≡ false) waiting q w.undecided (w.beyond q c (omega (arith, e)));
   closing = all_push IsClosing closings q w.closing c;
-  ascends = ascends_push closings q w.ascends (all_map (λ r. seq_of r ≤ n) (λ r. seq_of r < seq_of q) closings (λ r h. omega (arith, h, e)) w.below);
-  below = all_push (λ r. seq_of r ≤ n + 1) closings q (all_map (λ r. seq_of r ≤ n) (λ r. seq_of r ≤ n + 1) closings (λ r h. omega (arith, h)) w.below) (omega (arith, e));
+  ascends = ascends_push closings q w.ascends (all_weaker (λ r. seq_of r ≤ n) (λ r. seq_of r < seq_of q) closings (λ r h. omega (arith, h, e)) w.below);
+  below = all_push (λ r. seq_of r ≤ n + 1) closings q (all_weaker (λ r. seq_of r ≤ n) (λ r. seq_of r ≤ n + 1) closings (λ r h. omega (arith, h)) w.below) (omega (arith, e));
   beyond = λ r d h. w.beyond r d (omega (arith, h));
 }
 
@@ -241,15 +191,15 @@ waits_sent dec closings queue left n group w p =
     record {
       done = w.done ++ p.done;
       whole = parts ∙ sym (append_assoc w.done p.done left);
-      decided = all_joined (λ q. (is_decided_by group q || dec q) ≡ true) w.done p.done
-          (all_map (λ q. dec q ≡ true) (λ q. (is_decided_by group q || dec q) ≡ true) w.done (λ q e. or_second (is_decided_by group q) (dec q) e) w.decided)
-          (all_map (λ q. is_decided_by group q ≡ true) (λ q. (is_decided_by group q || dec q) ≡ true) p.done (λ q e. or_first (is_decided_by group q) (dec q) e) p.decided);
+      decided = all_append (λ q. (is_decided_by group q || dec q) ≡ true) w.done p.done
+          (all_weaker (λ q. dec q ≡ true) (λ q. (is_decided_by group q || dec q) ≡ true) w.done (λ q e. or_second (is_decided_by group q) (dec q) e) w.decided)
+          (all_weaker (λ q. is_decided_by group q ≡ true) (λ q. (is_decided_by group q || dec q) ≡ true) p.done (λ q e. or_first (is_decided_by group q) (dec q) e) p.decided);
       undecided = all_two (λ q. IsClosing q × ComesAfter p.done q) (λ q. dec q ≡ false) (λ q. (is_decided_by group q || dec q) ≡ false) left (λ q a b. neither_so (is_decided_by group q) (dec q) (p.others q a.0 a.1) b)
           (all_two IsClosing (ComesAfter p.done) (λ q. IsClosing q × ComesAfter p.done q) left (λ q a b. (a, b)) (all_both IsClosing p.done left closing_parts.1).1 (comes_after p.done left ordered)) open_parts.1;
       closing = w.closing;
       ascends = w.ascends;
       below = w.below;
-      beyond = λ q c h. neither_so (is_decided_by group q) (dec q) (p.others q c (all_map (λ r. seq_of r ≤ n) (λ r. seq_of r < seq_of q) p.done (λ r i. omega (arith, i, h)) below_done)) (w.beyond q c h);
+      beyond = λ q c h. neither_so (is_decided_by group q) (dec q) (p.others q c (all_weaker (λ r. seq_of r ≤ n) (λ r. seq_of r < seq_of q) p.done (λ r i. omega (arith, i, h)) below_done)) (w.beyond q c h);
     }
 
 -- exchanges of no closing, under a number of their own or not
@@ -259,11 +209,11 @@ waits_asked dec closings waiting n m group w le quiet =
     record {
       done = w.done;
       whole = w.whole;
-      decided = all_map (λ q. dec q ≡ true) (λ q. (is_decided_by group q || dec q) ≡ true) w.done (λ q e. or_second (is_decided_by group q) (dec q) e) w.decided;
+      decided = all_weaker (λ q. dec q ≡ true) (λ q. (is_decided_by group q || dec q) ≡ true) w.done (λ q e. or_second (is_decided_by group q) (dec q) e) w.decided;
       undecided = all_two IsClosing (λ q. dec q ≡ false) (λ q. (is_decided_by group q || dec q) ≡ false) waiting (λ q c e. neither_so (is_decided_by group q) (dec q) (quiet q c) e) parts.1 w.undecided;
       closing = w.closing;
       ascends = w.ascends;
-      below = all_map (λ q. seq_of q ≤ n) (λ q. seq_of q ≤ m) closings (λ q h. omega (arith, h, le)) w.below;
+      below = all_weaker (λ q. seq_of q ≤ n) (λ q. seq_of q ≤ m) closings (λ q h. omega (arith, h, le)) w.below;
       beyond = λ q c h. neither_so (is_decided_by group q) (dec q) (quiet q c) (w.beyond q c (omega (arith, h, le)));
     }
 

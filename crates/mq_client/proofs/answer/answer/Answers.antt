@@ -1,7 +1,5 @@
 use Rattle.std.proofs.Common.{◌≡◌, [], refl, sym, ap, ◌∙◌, rules, inl, inr, None, Some}
-use Rattle.std.specs.Option.{option_copied}
-use Rattle.mq_client.specs.Holding.{times_out, noted}
-use Rattle.mq_line.specs.Results.{result_text}
+use Rattle.mq_client.proofs.Words.{noted, option_copied, result_text, times_out}
 use Rattle.mq_client.proofs.Looping.{Appends-none, Does-nothing}
 use Rattle.mq_client.proofs.answer.answer.Goals as goal
 

@@ -1,8 +1,5 @@
 use Rattle.std.proofs.Common.{◌≡◌, ◌&&◌, Bool, true, false, is_some, sym, ap, ◌∙◌, subst, rules, [], None, Some, Option}
-use Rattle.mq_line.specs.declared.results.Decision.{Decision}
-use Rattle.mq_client.specs.Past.{Ask, Step, State, Makes}
-use Rattle.mq_client.specs.Holding.{held_back as held_back_lem, full_by}
-use Rattle.mq_client.specs.Filter.{is_login, is_moment, decision_of, decision_by}
+use Rattle.mq_client.proofs.Words.{Ask, Decision, Makes, State, Step, decision_by, decision_of, full_by, held_back as held_back_lem, is_login, is_moment}
 use Rattle.mq_client.proofs.Making.{held_back}
 use Rattle.mq_client.proofs.Telling.{Tells-none}
 use Rattle.mq_client.proofs.answer.ask.Goals as goal

@@ -1,5 +1,5 @@
 use Rattle.std.proofs.Common.{sym, ◌∙◌, subst}
-use Rattle.mq_client.specs.Verdict.{IsVerdict}
+use Rattle.mq_client.proofs.Words.{IsVerdict}
 use Rattle.mq_client.proofs.client.ask.Goals as goal
 
 pub returns : goal.returns

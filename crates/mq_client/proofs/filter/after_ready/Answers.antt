@@ -1,12 +1,5 @@
 use Rattle.std.proofs.Common.{◌≡◌, ◌⊎◌, List, is_some, subst, Some, ◌+◌, ◌++◌, ◌∷◌, [], sym, ap, ◌∙◌, None, arith}
-use Rattle.mq_line.specs.Grammar.{Meaning, FilterLine, meaning}
-use Rattle.mq_track.specs.Sessions.{closing}
-use Rattle.mq_track.specs.State.{TracksAt}
-use Rattle.mq_client.specs.Holding.{Holding, still, still_by, seconds_in, noted_by}
-use Rattle.mq_client.specs.declared.spans.Spans.{Spans}
-use Rattle.mq_client.specs.Filter.{Closes, at_line, after_line}
-use Rattle.mq_client.specs.Loop.{IsAt, Replies}
-use Rattle.mq_client.specs.Run.{Stage, IsAtWork}
+use Rattle.mq_client.proofs.Words.{Closes, FilterLine, Holding, IsAt, IsAtWork, Meaning, Replies, Spans, Stage, TracksAt, after_line, at_line, closing, meaning, noted_by, seconds_in, still, still_by}
 use Rattle.mq_client.proofs.Looping.{Appends-none, Does-nothing, carries_take, stops_within, cut_found, cut_in_hand, takes_noted, count_noted, tracks_filter, answer_counted, request_works, refused_stops, may_go}
 use Rattle.mq_client.proofs.filter.after_ready.Goals as goal
 
@@ -30,13 +23,12 @@ returns-in-Err-clause-fault g c =
     let fault = c.in-Err.fault in
     let pass : c.pass.new.self ≡ (f.holdup.0, still f.holdup.0 q.seconds f.holdup.1) =
     c.pass.ensures ∙ ap (λ s. (f.holdup.0, still_by f.holdup.0 s f.holdup.1)) (c.seconds_of.ensures ∙ ap (λ l. seconds_in (meaning l)) q.is) in
-    let R : Spans × Holding → Type 0 = λ h. ((step ≡ None) × (front ++ more ≡ [])) ⊎ ((L : List Meaning) → TracksAt f.tracker L → Replies h.1 L q.subsystem.now q.phase.now q.session.now q.token.now step (front ++ more)) in
     λ o pieces line rest source read_failed one reads s.
     let work : (stage : Stage) → IsAt f stage → IsAtWork stage (line ++ 10 ∷ rest) = λ stage a. request_works f stage line rest q.seconds _ _ _ _ _ c.requires.ready a one (rw (ap meaning q.is) at reads) in
     stops_within o pieces (line ++ 10 ∷ rest) f source _ _ read_failed _ fault step front more s does
     (λ stage a. cut_found fault stage pieces _ source read_failed _ c.in-Err.ensures.fault (work stage a))
     (λ stage a. cut_in_hand fault _ _ stage _ _ step _ c.in-Err.ensures.fault
-    (may_go f stage line rest q.seconds _ _ _ _ _ step _ c.requires.ready a one (rw (ap meaning q.is) at reads) (subst R pass acts)))
+    (may_go f stage line rest q.seconds _ _ _ _ _ step _ c.requires.ready a one (rw (ap meaning q.is) at reads) (subst (λ (h : Spans × Holding). ((step ≡ None) × (front ++ more ≡ [])) ⊎ ((L : List Meaning) → TracksAt f.tracker L → Replies h.1 L q.subsystem.now q.phase.now q.session.now q.token.now step (front ++ more))) pass acts)))
     (λ stage a e. work stage a)
 
 pub returns-in-Ok-note : goal.returns-in-Ok-note

@@ -1,12 +1,5 @@
 use Rattle.std.proofs.Common.{◌≡◌, Bool, subst, sym, ap, ◌∙◌, Err, Option, None}
-use Rattle.std.specs.Prelude.{Result}
-use Rattle.mq_line.specs.Grammar.{meaning}
-use Rattle.mq_track.specs.Sessions.{closing, fault}
-use Rattle.mq_track.specs.declared.closing.Closing.{Closing}
-use Rattle.mq_client.specs.Filter.{Closes}
-use Rattle.mq_client.specs.Holding.{seconds_in, times_out, noted}
-use Rattle.mq_client.specs.Loop.{IsRefused}
-use Rattle.mq_client.specs.declared.fault.FilterFault.{FilterFault}
+use Rattle.mq_client.proofs.Words.{Closes, Closing, FilterFault, IsRefused, Result, closing, meaning, noted, seconds_in, times_out, track_fault as fault}
 use Rattle.mq_client.specs.declared.fault.FilterFault.TheVariants as faults
 use Rattle.mq_client.proofs.Looping.{accepted}
 use Rattle.mq_client.proofs.Refusing.{refused, may_by_closing}
@@ -26,9 +19,7 @@ returns-in-Ok-close-clause-ok g c =
       made,
       λ L st.
           let none = accepted (fault L m) c.in-Ok.closing (c.in-Ok.ensures.refused L st) in
-          let D : Option Closing → Type 0 = λ x. C c.is_paused-paused.result x in
-          let E : Bool → Type 0 = λ b. C b (closing L m) in
-          (none, subst E c.is_paused-paused.ensures (subst D (c.in-Ok.ensures.accepted L st none) closes), c.in-Ok.ensures.stands L st),
+          (none, subst (λ (b : Bool). C b (closing L m)) c.is_paused-paused.ensures (subst (λ (x : Option Closing). C c.is_paused-paused.result x) (c.in-Ok.ensures.accepted L st none) closes), c.in-Ok.ensures.stands L st),
       c.note.ensures ∙ ap (λ s. (h.0, noted h.0 s c.in-Ok-close.timed_out None h.1)) c.seconds_of.ensures
           ∙ ap (λ b. (h.0, noted h.0 (seconds_in m) b None h.1)) late
           ∙ ap (λ o. (h.0, noted h.0 (seconds_in m) (times_out step) o h.1)) (sym full),
@@ -36,15 +27,13 @@ returns-in-Ok-close-clause-ok g c =
 
 pub returns-in-Err-clause-fault : goal.returns-in-Err-clause-fault
 returns-in-Err-clause-fault g c = λ L st.
-    let F : FilterFault → Type 0 = λ f. IsRefused f L (meaning c.args.line.now) in
-    subst F (sym c.fault_of.ensures) (refused _ L (meaning c.args.line.now) c.in-Err.fault (c.in-Err.ensures.refused L st) (c.in-Err.ensures.accepted L st) (λ e. c.in-Err.ensures.memory (ap Err e)))
+    subst (λ (f : FilterFault). IsRefused f L (meaning c.args.line.now)) (sym c.fault_of.ensures) (refused _ L (meaning c.args.line.now) c.in-Err.fault (c.in-Err.ensures.refused L st) (c.in-Err.ensures.accepted L st) (λ e. c.in-Err.ensures.memory (ap Err e)))
 
 pub returns-in-Err-close-clause-fault : goal.returns-in-Err-close-clause-fault
 returns-in-Err-close-clause-fault g c = λ L st.
     let m = meaning c.args.line.now in
     let k = c.in-Ok.closing in
     let (memory, some) = c.in-Err-close.ensures.memory in
-    let F : FilterFault → Type 0 = λ f. IsRefused f L m in
     let none = accepted (fault L m) k (c.in-Ok.ensures.refused L st) in
     let is : faults.Memory ≡ c.in-Err-close.fault = err_is (sym memory) in
-    subst F is (none, may_by_closing L m k (sym (c.in-Ok.ensures.accepted L st none)) some)
+    subst (λ (f : FilterFault). IsRefused f L m) is (none, may_by_closing L m k (sym (c.in-Ok.ensures.accepted L st none)) some)

@@ -1,7 +1,5 @@
-use Rattle.std.proofs.Common.{◌≡◌, ◌≤◌, ◌<◌, ◌∷◌, [], ◌++◌, length, take, refl, ap, arith, rules, inl, inr, None, Err, length-append}
-use Rattle.std.proofs.lemmas.List.{length-take-le}
-use Rattle.std.specs.List.{concat}
-use Rattle.std.specs.Io.KnownBytes.{IsAtEnd}
+use Rattle.std.proofs.Common.{◌≡◌, ◌≤◌, ◌∷◌, [], ◌++◌, length, take, refl, ap, arith, rules, inl, inr, None, length-append}
+use Rattle.mq_client.proofs.Words.{IsAtEnd, concat, length-take-le}
 use Rattle.mq_lemmas.proofs.Streams.{consumes_kept}
 use Rattle.mq_client.specs.declared.fault.FilterFault.TheVariants as faults
 use Rattle.mq_client.proofs.Looping.{Does-still, stops, so_far_start, so_far_fed, so_far_none, is_line_none}
@@ -22,168 +20,148 @@ loop-read-init g c = record {
   count = omega (arith, c.requires.count, ap length c.requires.empty);
 }
 
-pub returns-in-Err-clause-fault : goal.returns-in-Err-clause-fault
-returns-in-Err-clause-fault g c =
+-- the read failed
+pub returns-in-Err : goal.returns-in-Err
+returns-in-Err g c =
     let i = c.loop-read.invariant in
-    let few : length i.pieces < 1099511627776 = omega (arith, i.reads) in (
-      i.pieces ++ [] ∷ [],
-      supplied_more _ _ _ i.pieces [] i.supplied (consumes_kept _ _ c.in-Err.ensures.bytes) c.in-Err.ensures.told (omega arith) few,
-      stops _ (i.pieces ++ [] ∷ []) c.loop-read.feed.rest c.loop-read.filter _ _ _ _ _ faults.Read None [] []
-          (so_far_none _ i.pieces [] c.loop-read.feed.rest c.loop-read.filter _ refl i.so_far) (Does-still _)
-          (λ stage a. (i.held, inl (c.in-Err.ensures.failed)))
-          (λ stage a. (refl, refl)),
-    )
+    record {
+      ok = tt;
+      fault = (
+        i.pieces ++ [] ∷ [],
+        supplied_more _ _ _ i.pieces [] i.supplied (consumes_kept _ _ c.in-Err.ensures.bytes) c.in-Err.ensures.told (omega arith) (omega (arith, i.reads)),
+        stops _ (i.pieces ++ [] ∷ []) c.loop-read.feed.rest c.loop-read.filter _ _ _ _ _ faults.Read None [] []
+            (so_far_none _ i.pieces [] c.loop-read.feed.rest c.loop-read.filter _ refl i.so_far) (Does-still _)
+            (λ stage a. (i.held, inl (c.in-Err.ensures.failed)))
+            (λ stage a. (refl, refl)),
+      );
+      written = tt;
+      sink_works = λ works differs. i.sink_works works;
+      flushed = λ flushed differs. i.flushed flushed;
+      source_works = λ works differs. absurd (differs refl);
+    }
 
-pub returns-in-Err-feed-clause-fault : goal.returns-in-Err-feed-clause-fault
-returns-in-Err-feed-clause-fault g c =
+-- there was no memory for what was read
+pub returns-in-Err-feed : goal.returns-in-Err-feed
+returns-in-Err-feed g c =
     let i = c.loop-read.invariant in
-    let n = c.in-Ok.count in
-    let piece = take n c.read.new.piece in
-    let fits : n ≤ length c.read.new.piece = search rules in
-    let small : n ≤ 4096 = omega arith in
-    let long = length-take-le n c.read.new.piece fits in
-    let short : length piece ≤ 4096 = omega (arith, long, small) in
-    let some : 1 ≤ length piece = omega (arith, long) in
-    let few : length i.pieces < 1099511627776 = omega (arith, i.reads) in (
-      i.pieces ++ piece ∷ [],
-      supplied_more _ _ _ i.pieces piece i.supplied c.in-Ok.ensures.bytes.0 c.in-Ok.ensures.told short few,
-      stops _ (i.pieces ++ piece ∷ []) (c.loop-read.feed.rest ++ piece) c.loop-read.filter _ _ _ _ _ faults.Memory None [] []
-          (so_far_fed _ i.pieces c.loop-read.feed.rest (c.loop-read.feed.rest ++ piece) piece c.loop-read.filter _ refl i.so_far) (Does-still _)
-          (λ stage a. inl (record { before = i.pieces; piece = piece; held = c.loop-read.feed.rest; last = refl; whole = refl; is_line = i.held; some = some }))
-          (λ stage a. inl (refl, refl)),
-    )
+    let piece = take c.in-Ok.count c.read.new.piece in
+    let fits : c.in-Ok.count ≤ length c.read.new.piece = search rules in
+    let long = length-take-le c.in-Ok.count c.read.new.piece fits in
+    record {
+      ok = tt;
+      fault = (
+        i.pieces ++ piece ∷ [],
+        supplied_more _ _ _ i.pieces piece i.supplied c.in-Ok.ensures.bytes.0 c.in-Ok.ensures.told (omega (arith, long)) (omega (arith, i.reads)),
+        stops _ (i.pieces ++ piece ∷ []) (c.loop-read.feed.rest ++ piece) c.loop-read.filter _ _ _ _ _ faults.Memory None [] []
+            (so_far_fed _ i.pieces c.loop-read.feed.rest (c.loop-read.feed.rest ++ piece) piece c.loop-read.filter _ refl i.so_far) (Does-still _)
+            (λ stage a. inl (record { before = i.pieces; piece = piece; held = c.loop-read.feed.rest; last = refl; whole = refl; is_line = i.held; some = omega (arith, long) }))
+            (λ stage a. inl (refl, refl)),
+      );
+      written = tt;
+      sink_works = λ works differs. i.sink_works works;
+      flushed = λ flushed differs. i.flushed flushed;
+      source_works = λ works differs. c.in-Ok.ensures.failed;
+    }
 
-pub returns-in-Err-take_lines-clause-fault : goal.returns-in-Err-take_lines-clause-fault
-returns-in-Err-take_lines-clause-fault g c =
+-- a line stopped the run
+pub returns-in-Err-take_lines : goal.returns-in-Err-take_lines
+returns-in-Err-take_lines g c =
     let i = c.loop-read.invariant in
-    let n = c.in-Ok.count in
-    let piece = take n c.read.new.piece in
+    let piece = take c.in-Ok.count c.read.new.piece in
     let fed : c.feed.new.self.rest ≡ c.loop-read.feed.rest ++ piece = search rules in
-    let fits : n ≤ length c.read.new.piece = search rules in
-    let small : n ≤ 4096 = omega arith in
-    let long = length-take-le n c.read.new.piece fits in
-    let short : length piece ≤ 4096 = omega (arith, long, small) in
-    let few : length i.pieces < 1099511627776 = omega (arith, i.reads) in (
-      i.pieces ++ piece ∷ [],
-      supplied_more _ _ _ i.pieces piece i.supplied c.in-Ok.ensures.bytes.0 c.in-Ok.ensures.told short few,
-      (c.in-Err-take_lines.ensures.fault _ (i.pieces ++ piece ∷ []) _ _
-          (so_far_fed _ i.pieces c.loop-read.feed.rest c.feed.new.self.rest piece c.loop-read.filter _ fed i.so_far)).0,
-    )
+    let fits : c.in-Ok.count ≤ length c.read.new.piece = search rules in
+    let long = length-take-le c.in-Ok.count c.read.new.piece fits in
+    record {
+      ok = tt;
+      fault = (
+        i.pieces ++ piece ∷ [],
+        supplied_more _ _ _ i.pieces piece i.supplied c.in-Ok.ensures.bytes.0 c.in-Ok.ensures.told (omega (arith, long)) (omega (arith, i.reads)),
+        (c.in-Err-take_lines.ensures.fault _ (i.pieces ++ piece ∷ []) _ _
+            (so_far_fed _ i.pieces c.loop-read.feed.rest c.feed.new.self.rest piece c.loop-read.filter _ fed i.so_far)).0,
+      );
+      written = tt;
+      sink_works = λ works differs. c.in-Err-take_lines.ensures.works (i.sink_works works) (λ same. differs (cc (same)));
+      flushed = λ flushed differs. c.in-Err-take_lines.ensures.flushed (i.flushed flushed) (λ same. differs (cc (same)));
+      source_works = λ works differs. c.in-Ok.ensures.failed;
+    }
 
 pub loop-read-preserved : goal.loop-read-preserved
 loop-read-preserved g c =
     let i = c.loop-read.invariant in
-    let n = c.in-Ok.count in
-    let piece = take n c.read.new.piece in
+    let piece = take c.in-Ok.count c.read.new.piece in
     let fed : c.feed.new.self.rest ≡ c.loop-read.feed.rest ++ piece = search rules in
-    let fits : n ≤ length c.read.new.piece = search rules in
-    let small : n ≤ 4096 = omega arith in
-    let long = length-take-le n c.read.new.piece fits in
-    let short : length piece ≤ 4096 = omega (arith, long, small) in
-    let few : length i.pieces < 1099511627776 = omega (arith, i.reads) in
-    let before = ap length fed in
-    let count = c.in-Ok-take_lines.ensures.count in
+    let fits : c.in-Ok.count ≤ length c.read.new.piece = search rules in
+    let long = length-take-le c.in-Ok.count c.read.new.piece fits in
+    let e = c.in-Ok-take_lines.ensures in
     record {
       pieces = i.pieces ++ piece ∷ [];
-      supplied = supplied_more _ _ _ i.pieces piece i.supplied c.in-Ok.ensures.bytes.0 c.in-Ok.ensures.told short few;
-      so_far = c.in-Ok-take_lines.ensures.ok _ (concat (i.pieces ++ piece ∷ [])) (so_far_fed _ i.pieces c.loop-read.feed.rest c.feed.new.self.rest piece c.loop-read.filter _ fed i.so_far);
-      held = c.in-Ok-take_lines.ensures.left;
-      written = c.in-Ok-take_lines.ensures.written i.written;
-      sink_works = λ works. c.in-Ok-take_lines.ensures.works (i.sink_works works) (λ no. cc (no));
-      flushed = λ flushed. c.in-Ok-take_lines.ensures.flushed (i.flushed flushed) (λ no. cc (no));
+      supplied = supplied_more _ _ _ i.pieces piece i.supplied c.in-Ok.ensures.bytes.0 c.in-Ok.ensures.told (omega (arith, long)) (omega (arith, i.reads));
+      so_far = e.ok _ (concat (i.pieces ++ piece ∷ [])) (so_far_fed _ i.pieces c.loop-read.feed.rest c.feed.new.self.rest piece c.loop-read.filter _ fed i.so_far);
+      held = e.left;
+      written = e.written i.written;
+      sink_works = λ works. e.works (i.sink_works works) (λ no. cc (no));
+      flushed = λ flushed. e.flushed (i.flushed flushed) (λ no. cc (no));
       source_works = λ works. c.in-Ok.ensures.failed;
       reads = omega (arith, i.reads, length-append i.pieces (piece ∷ []));
-      count = omega (arith, i.count, count, before, length-append c.loop-read.feed.rest piece, long, small);
+      count = omega (arith, i.count, e.count, ap length fed, length-append c.loop-read.feed.rest piece, long);
     }
 
-pub returns-clause-fault : goal.returns-clause-fault
-returns-clause-fault g c =
+-- all reads were made
+pub returns : goal.returns
+returns g c =
     let i = c.loop-read.invariant in
-    let all : length i.pieces ≡ 1099511627776 = omega (arith, i.reads) in (
-      i.pieces,
-      i.supplied,
-      stops _ i.pieces c.loop-read.feed.rest c.loop-read.filter _ _ _ _ _ faults.Read None [] [] i.so_far (Does-still _)
-          (λ stage a. (i.held, inr all))
-          (λ stage a. (refl, refl)),
-    )
+    let all : length i.pieces ≡ 1099511627776 = omega (arith, i.reads) in
+    record {
+      ok = tt;
+      fault = (
+        i.pieces,
+        i.supplied,
+        stops _ i.pieces c.loop-read.feed.rest c.loop-read.filter _ _ _ _ _ faults.Read None [] [] i.so_far (Does-still _)
+            (λ stage a. (i.held, inr all))
+            (λ stage a. (refl, refl)),
+      );
+      written = tt;
+      sink_works = λ works differs. i.sink_works works;
+      flushed = λ flushed differs. i.flushed flushed;
+      source_works = λ works differs. absurd (differs refl);
+    }
 
-pub returns-in-Ok-finish-clause-ok : goal.returns-in-Ok-finish-clause-ok
-returns-in-Ok-finish-clause-ok g c =
-    let i = c.loop-read.invariant in
-    let piece = take c.in-Ok.count c.read.new.piece in
-    let none : piece ≡ [] = ap (λ n. take n c.read.new.piece) c.if-count-eq0.true in
-    let short : length piece ≤ 4096 = omega (arith, ap length none) in
-    let few : length i.pieces < 1099511627776 = omega (arith, i.reads) in
-    let at_end : IsAtEnd (g.S.Source.remaining c.read.new.self) = c.in-Ok.ensures.bytes.1 c.if-count-eq0.true (omega arith) in (
-      i.pieces ++ piece ∷ [],
-      supplied_more _ _ _ i.pieces piece i.supplied c.in-Ok.ensures.bytes.0 c.in-Ok.ensures.told short few,
-      at_end,
-      c.in-Ok-finish.ensures.ok _ (concat (i.pieces ++ piece ∷ [])) _ (so_far_none _ i.pieces piece c.loop-read.feed.rest c.loop-read.filter _ none i.so_far),
-    )
-
-pub returns-in-Err-finish-clause-fault : goal.returns-in-Err-finish-clause-fault
-returns-in-Err-finish-clause-fault g c =
+-- the input ended, and so did the run
+pub returns-in-Ok-finish : goal.returns-in-Ok-finish
+returns-in-Ok-finish g c =
     let i = c.loop-read.invariant in
     let piece = take c.in-Ok.count c.read.new.piece in
     let none : piece ≡ [] = ap (λ n. take n c.read.new.piece) c.if-count-eq0.true in
-    let short : length piece ≤ 4096 = omega (arith, ap length none) in
-    let few : length i.pieces < 1099511627776 = omega (arith, i.reads) in
-    let at_end : IsAtEnd (g.S.Source.remaining c.read.new.self) = c.in-Ok.ensures.bytes.1 c.if-count-eq0.true (omega arith) in (
-      i.pieces ++ piece ∷ [],
-      supplied_more _ _ _ i.pieces piece i.supplied c.in-Ok.ensures.bytes.0 c.in-Ok.ensures.told short few,
-      c.in-Err-finish.ensures.fault _ (i.pieces ++ piece ∷ []) _ _ _ _ at_end (so_far_none _ i.pieces piece c.loop-read.feed.rest c.loop-read.filter _ none i.so_far),
-    )
+    record {
+      ok = (
+        i.pieces ++ piece ∷ [],
+        supplied_more _ _ _ i.pieces piece i.supplied c.in-Ok.ensures.bytes.0 c.in-Ok.ensures.told (omega (arith, ap length none)) (omega (arith, i.reads)),
+        c.in-Ok.ensures.bytes.1 c.if-count-eq0.true (omega arith),
+        c.in-Ok-finish.ensures.ok _ (concat (i.pieces ++ piece ∷ [])) _ (so_far_none _ i.pieces piece c.loop-read.feed.rest c.loop-read.filter _ none i.so_far),
+      );
+      fault = tt;
+      written = i.written c.in-Ok-finish.ensures.ready;
+      sink_works = λ works differs. i.sink_works works;
+      flushed = λ flushed differs. i.flushed flushed;
+      source_works = λ works differs. c.in-Ok.ensures.failed;
+    }
 
-pub returns-in-Err-clause-sink_works : goal.returns-in-Err-clause-sink_works
-returns-in-Err-clause-sink_works g c = λ works differs. c.loop-read.invariant.sink_works works
-
-pub returns-in-Err-clause-flushed : goal.returns-in-Err-clause-flushed
-returns-in-Err-clause-flushed g c = λ flushed differs. c.loop-read.invariant.flushed flushed
-
-pub returns-in-Err-clause-source_works : goal.returns-in-Err-clause-source_works
-returns-in-Err-clause-source_works g c = λ works differs. absurd (differs refl)
-
-pub returns-in-Ok-finish-clause-sink_works : goal.returns-in-Ok-finish-clause-sink_works
-returns-in-Ok-finish-clause-sink_works g c = λ works differs. c.loop-read.invariant.sink_works works
-
-pub returns-in-Ok-finish-clause-flushed : goal.returns-in-Ok-finish-clause-flushed
-returns-in-Ok-finish-clause-flushed g c = λ flushed differs. c.loop-read.invariant.flushed flushed
-
-pub returns-in-Ok-finish-clause-source_works : goal.returns-in-Ok-finish-clause-source_works
-returns-in-Ok-finish-clause-source_works g c = λ works differs. c.in-Ok.ensures.failed
-
-pub returns-in-Err-finish-clause-sink_works : goal.returns-in-Err-finish-clause-sink_works
-returns-in-Err-finish-clause-sink_works g c = λ works differs. c.loop-read.invariant.sink_works works
-
-pub returns-in-Err-finish-clause-flushed : goal.returns-in-Err-finish-clause-flushed
-returns-in-Err-finish-clause-flushed g c = λ flushed differs. c.loop-read.invariant.flushed flushed
-
-pub returns-in-Err-finish-clause-source_works : goal.returns-in-Err-finish-clause-source_works
-returns-in-Err-finish-clause-source_works g c = λ works differs. c.in-Ok.ensures.failed
-
-pub returns-in-Err-feed-clause-sink_works : goal.returns-in-Err-feed-clause-sink_works
-returns-in-Err-feed-clause-sink_works g c = λ works differs. c.loop-read.invariant.sink_works works
-
-pub returns-in-Err-feed-clause-flushed : goal.returns-in-Err-feed-clause-flushed
-returns-in-Err-feed-clause-flushed g c = λ flushed differs. c.loop-read.invariant.flushed flushed
-
-pub returns-in-Err-feed-clause-source_works : goal.returns-in-Err-feed-clause-source_works
-returns-in-Err-feed-clause-source_works g c = λ works differs. c.in-Ok.ensures.failed
-
-pub returns-in-Err-take_lines-clause-sink_works : goal.returns-in-Err-take_lines-clause-sink_works
-returns-in-Err-take_lines-clause-sink_works g c = λ works differs. c.in-Err-take_lines.ensures.works (c.loop-read.invariant.sink_works works) (λ same. let fault : c.in-Err-take_lines.fault ≡ faults.Write = cc (same) in differs (ap Err fault))
-
-pub returns-in-Err-take_lines-clause-flushed : goal.returns-in-Err-take_lines-clause-flushed
-returns-in-Err-take_lines-clause-flushed g c = λ flushed differs. c.in-Err-take_lines.ensures.flushed (c.loop-read.invariant.flushed flushed) (λ same. let fault : c.in-Err-take_lines.fault ≡ faults.Write = cc (same) in differs (ap Err fault))
-
-pub returns-in-Err-take_lines-clause-source_works : goal.returns-in-Err-take_lines-clause-source_works
-returns-in-Err-take_lines-clause-source_works g c = λ works differs. c.in-Ok.ensures.failed
-
-pub returns-clause-sink_works : goal.returns-clause-sink_works
-returns-clause-sink_works g c = λ works differs. c.loop-read.invariant.sink_works works
-
-pub returns-clause-flushed : goal.returns-clause-flushed
-returns-clause-flushed g c = λ flushed differs. c.loop-read.invariant.flushed flushed
-
-pub returns-clause-source_works : goal.returns-clause-source_works
-returns-clause-source_works g c = λ works differs. absurd (differs refl)
+-- the input ended where the run can't
+pub returns-in-Err-finish : goal.returns-in-Err-finish
+returns-in-Err-finish g c =
+    let i = c.loop-read.invariant in
+    let piece = take c.in-Ok.count c.read.new.piece in
+    let none : piece ≡ [] = ap (λ n. take n c.read.new.piece) c.if-count-eq0.true in
+    let at_end : IsAtEnd (g.S.Source.remaining c.read.new.self) = c.in-Ok.ensures.bytes.1 c.if-count-eq0.true (omega arith) in
+    record {
+      ok = tt;
+      fault = (
+        i.pieces ++ piece ∷ [],
+        supplied_more _ _ _ i.pieces piece i.supplied c.in-Ok.ensures.bytes.0 c.in-Ok.ensures.told (omega (arith, ap length none)) (omega (arith, i.reads)),
+        c.in-Err-finish.ensures.fault _ (i.pieces ++ piece ∷ []) _ _ _ _ at_end (so_far_none _ i.pieces piece c.loop-read.feed.rest c.loop-read.filter _ none i.so_far),
+      );
+      written = tt;
+      sink_works = λ works differs. i.sink_works works;
+      flushed = λ flushed differs. i.flushed flushed;
+      source_works = λ works differs. c.in-Ok.ensures.failed;
+    }

@@ -1,9 +1,5 @@
 use Rattle.std.proofs.Common.{◌≡◌, ◌+◌, ◌*◌, ◌≤◌, ℕ, List, length, false}
-use Rattle.std.specs.List.{concat}
-use Rattle.mq_stream.specs.Flow.{IsFlushed}
-use Rattle.mq_line.specs.Text.{IsLine}
-use Rattle.mq_client.specs.Run.{around, supply, Supplies}
-use Rattle.mq_client.specs.Loop.{SinkWorks, SoFar}
+use Rattle.mq_client.proofs.Words.{IsFlushed, IsLine, SinkWorks, SoFar, Supplies, around, concat, supply}
 use Rattle.mq_client.proofs.filter.read_all.Given as goal
 
 -- the lines of the bytes that were read were handled, but for a cut one that is held

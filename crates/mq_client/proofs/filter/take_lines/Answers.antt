@@ -1,7 +1,5 @@
 use Rattle.std.proofs.Common.{[], ℕ, List, refl, subst, ap, arith, Err, None}
-use Rattle.std.specs.List.{concat}
-use Rattle.mq_client.specs.Run.{around}
-use Rattle.mq_client.specs.Loop.{SoFar}
+use Rattle.mq_client.proofs.Words.{SoFar, around, concat}
 use Rattle.mq_client.specs.declared.fault.FilterFault.TheVariants as faults
 use Rattle.mq_client.proofs.Looping.{Does-still, stops_within}
 use Rattle.mq_client.proofs.filter.take_lines.Goals as goal
@@ -9,8 +7,7 @@ use Rattle.mq_client.proofs.filter.take_lines.Goals as goal
 pub returns-in-Err-handle-clause-fault : goal.returns-in-Err-handle-clause-fault
 returns-in-Err-handle-clause-fault g c = λ o pieces source read_failed s.
     let (one, rest, whole) = rw c.in-Ok-Some.field-0-is at c.in-Ok-Some.ensures.front in
-    let F : List ℕ → Type 0 = λ held. SoFar o (concat pieces) held c.lines.filter (around (g.W.Sink.contents c.lines.output) (g.K.Link.told c.lines.link) c.lines.client) in
-    c.in-Err-handle.ensures.fault rest o pieces source read_failed (subst F whole (c.lines.invariant.carries o (concat pieces) s))
+    c.in-Err-handle.ensures.fault rest o pieces source read_failed (subst (λ (held : List ℕ). SoFar o (concat pieces) held c.lines.filter (around (g.W.Sink.contents c.lines.output) (g.K.Link.told c.lines.link) c.lines.client)) whole (c.lines.invariant.carries o (concat pieces) s))
 
 pub returns-in-Err-clause-fault : goal.returns-in-Err-clause-fault
 returns-in-Err-clause-fault g c = λ o pieces source read_failed s.

@@ -1,7 +1,5 @@
 use Rattle.std.proofs.Common.{◌≡◌, ◌+◌, ◌≤◌, length, false}
-use Rattle.mq_stream.specs.Flow.{IsFlushed}
-use Rattle.mq_client.specs.Run.{around}
-use Rattle.mq_client.specs.Loop.{CarriesHeld, SinkWorks}
+use Rattle.mq_client.proofs.Words.{CarriesHeld, IsFlushed, SinkWorks, around}
 use Rattle.mq_client.proofs.filter.take_lines.Given as goal
 
 abbrev pub invariant-lines : goal.invariant-lines

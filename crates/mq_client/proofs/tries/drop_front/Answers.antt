@@ -1,5 +1,5 @@
 use Rattle.std.proofs.Common.{◌≡◌, ◌<◌, List, [], ◌∷◌, drop, length, sym, ap, arith}
-use Rattle.mq_client.specs.declared.tries.Framed.{Framed}
+use Rattle.mq_client.proofs.Words.{Framed}
 use Rattle.mq_client.proofs.tries.drop_front.Goals as goal
 
 -- what is left without the first was after it

@@ -1,7 +1,5 @@
 use Rattle.std.proofs.Common.{◌≡◌, ◌++◌, [], length, false, true, subst, sym, ap, ◌∙◌, arith, rules}
-use Rattle.std.specs.List.{AllByRecursion}
-use Rattle.mq_client.specs.Framed.{IsFramed, requests_of}
-use Rattle.mq_client.specs.Exchanges.{IsSent, NoneYet}
+use Rattle.mq_client.proofs.Words.{AllByRecursion, IsFramed, IsSent, NoneYet, requests_of}
 use Rattle.mq_client.proofs.Telling.{Tells-none, told_both}
 use Rattle.mq_client.proofs.Sending.{starts_with, front_is, nil_from_length, sends_more, sends_stop, sends_all, some_in_time, late_after}
 use Rattle.mq_client.proofs.tries.send_all.Goals as goal

@@ -1,8 +1,5 @@
 use Rattle.std.proofs.Common.{List, length, ◌≤◌}
-use Rattle.std.specs.List.{AllByRecursion}
-use Rattle.mq_client.specs.Framed.{IsFramed, requests_of}
-use Rattle.mq_link.specs.Link.{Tells}
-use Rattle.mq_client.specs.Exchanges.{Exchange, SendsSome, told_all}
+use Rattle.mq_client.proofs.Words.{AllByRecursion, Exchange, IsFramed, SendsSome, Tells, requests_of, told_all}
 use Rattle.mq_client.proofs.tries.send_all.Given as goal
 
 abbrev pub invariant-loop-closing : goal.invariant-loop-closing

@@ -1,7 +1,5 @@
 use Rattle.std.proofs.Common.{◌≡◌, ◌∷◌, length, ◌∙◌, subst, arith, None}
-use Rattle.mq_client.specs.Verdict.{IsVerdict}
-use Rattle.mq_client.specs.Tried.{verdict_of}
-use Rattle.mq_client.specs.declared.tries.Tried.{Tried}
+use Rattle.mq_client.proofs.Words.{IsVerdict, Tried, verdict_of}
 use Rattle.mq_client.proofs.Telling.{told_more, undecided, decided_by_last, no_verdict, late_more, comes_decided, comes_undecided}
 use Rattle.mq_client.proofs.tries.try_all.Goals as goal
 
@@ -24,8 +22,7 @@ returns-in-Decided g c =
     let i = c.loop-attempt.invariant in
     let (x, decided, told, is_try, comes) = c.try_once-tried.ensures in
     let v = c.in-Decided.verdict in
-    let F : Tried → Type 0 = λ t. IsVerdict decided (verdict_of t) in
-    let says = subst F c.in-Decided.is comes.verdict in (
+    let says = subst (λ (t : Tried). IsVerdict decided (verdict_of t)) c.in-Decided.is comes.verdict in (
       x ∷ i.done,
       decided,
       told_more _ _ _ i.done x i.told told,

@@ -1,6 +1,5 @@
 use Rattle.std.proofs.Common.{◌≡◌, List, length}
-use Rattle.mq_link.specs.Link.{Tells}
-use Rattle.mq_client.specs.Exchanges.{Exchange, AreFailed, told_all, has_timed_out}
+use Rattle.mq_client.proofs.Words.{AreFailed, Exchange, Tells, has_timed_out, told_all}
 use Rattle.mq_client.proofs.tries.try_all.Given as goal
 
 -- so many exchanges, and all of them failed, by running out of time or else

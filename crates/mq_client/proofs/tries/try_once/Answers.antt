@@ -1,6 +1,5 @@
 use Rattle.std.proofs.Common.{refl, sym, ◌∙◌, subst, None}
-use Rattle.mq_link.specs.declared.link.Outcome.TheVariants.{Answered, Faulted}
-use Rattle.mq_client.specs.Verdict.{IsVerdict}
+use Rattle.mq_client.proofs.Words.{Answered, Faulted, IsVerdict}
 use Rattle.mq_client.proofs.Telling.{told_frame, answered_in_time, comes_faulted}
 use Rattle.mq_client.proofs.tries.try_once.Goals as goal
 

@@ -1,5 +1,5 @@
 use Rattle.mq_frame.specs.Parts.{shown_reply}
-use Rattle.mq_client.specs.Verdict.{deciding}
+use Rattle.mq_client.proofs.Words.{deciding}
 use Rattle.mq_client.proofs.Telling.{decision_by}
 use Rattle.mq_client.proofs.verdict.verdict_in.Goals as goal
 

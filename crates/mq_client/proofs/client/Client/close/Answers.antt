@@ -1,13 +1,5 @@
 use Rattle.std.proofs.Common.{◌≡◌, ℕ, ◌+◌, List, [], ◌∷◌, ◌++◌, refl, sym, ap, ◌∙◌, subst, rules, arith, None, Some}
-use Rattle.std.specs.List.{AllByRecursion}
-use Rattle.mq_lemmas.proofs.Lists.{all_push}
-use Rattle.mq_client.specs.Framed.{IsFramed, requests_of}
-use Rattle.mq_request.specs.declared.message.Request.{Request}
-use Rattle.mq_client.specs.Past.{State, Close, Makes, find, closing_of}
-use Rattle.mq_client.specs.Exchanges.{Sends}
-use Rattle.mq_client.specs.Inside.{state_of}
-use Rattle.std.proofs.lemmas.List.{map-append}
-use Rattle.mq_client.specs.declared.tries.Framed.{Framed}
+use Rattle.mq_client.proofs.Words.{AllByRecursion, Close, Framed, IsFramed, Makes, Request, Sends, State, all_push, closing_of, find, map-append, requests_of, state_of}
 use Rattle.mq_client.proofs.Telling.{Tells-none}
 use Rattle.mq_client.proofs.Making.{closed, closed_nothing}
 use Rattle.mq_client.proofs.Keeping.{closed_in_range}
@@ -16,9 +8,8 @@ use Rattle.mq_client.proofs.client.Client.close.Goals as goal
 pub returns-in_default-clause-ok : goal.returns-in_default-clause-ok
 returns-in_default-clause-ok g c =
     let i = c.self.inside in
-    let F : State → Type 0 = λ s. Makes s s (record { action = Close c.args.closing.txn c.args.closing.end; group = []; quiet = c.args.paused }) in
     let absent : find i.held c.args.closing.txn ≡ None = search rules in
-    ([], Tells-none _, subst F c.self.view_is (closed_nothing (state_of i) c.args.closing.txn c.args.closing.end c.args.paused absent), refl)
+    ([], Tells-none _, subst (λ (s : State). Makes s s (record { action = Close c.args.closing.txn c.args.closing.end; group = []; quiet = c.args.paused })) c.self.view_is (closed_nothing (state_of i) c.args.closing.txn c.args.closing.end c.args.paused absent), refl)
 
 pub framed_closing-requires-clause-held : goal.framed_closing-requires-clause-held
 framed_closing-requires-clause-held g c =
@@ -49,14 +40,12 @@ returns-clause-ok g c =
     let (group, told, sends, late) = c.send_all-timed_out.ensures.step in
     let i = c.self.inside in
     let d : State = record { source = record { host = i.host; run = i.run }; tries = i.tries; spans = i.spans; held = c.release.new.self; numbers = i.numbers + 1; waiting = requests_of c.send_all-timed_out.new.outbox.items } in
-    let F : State → Type 0 = λ s. Makes s d (record { action = Close c.args.closing.txn c.args.closing.end; group = group; quiet = c.args.paused }) in
     let there : find i.held c.args.closing.txn ≡ Some c.in-Some.known.now = search rules in
-    let D : List Request → Type 0 = λ w. Sends c.tries_in-tries.result w group (requests_of c.send_all-timed_out.new.outbox.items) in
     let pushed = ap requests_of c.in_ok-push_back.ensures.items ∙ map-append (λ (framed : Framed). framed.request) i.outbox.items _ ∙ ap (λ q. requests_of i.outbox.items ++ q ∷ []) (c.in_ok-framed.ensures.request) in
     let q = closing_of (record { host = i.host; run = i.run }) (i.numbers + 1) c.args.closing.txn c.args.closing.end c.in-Some.known.now in
     let S : ℕ → Type 0 = λ n. Sends n (requests_of i.outbox.items ++ q ∷ []) group (requests_of c.send_all-timed_out.new.outbox.items) in (
       group,
       told,
-      subst F c.self.view_is (closed (state_of i) d c.args.closing.txn c.args.closing.end c.args.paused c.in-Some.known.now group refl refl there (subst S c.tries_in-tries.ensures (subst D pushed sends)) c.release.ensures.find c.release.ensures.len refl),
+      subst (λ (s : State). Makes s d (record { action = Close c.args.closing.txn c.args.closing.end; group = group; quiet = c.args.paused })) c.self.view_is (closed (state_of i) d c.args.closing.txn c.args.closing.end c.args.paused c.in-Some.known.now group refl refl there (subst S c.tries_in-tries.ensures (subst (λ (w : List Request). Sends c.tries_in-tries.result w group (requests_of c.send_all-timed_out.new.outbox.items)) pushed sends)) c.release.ensures.find c.release.ensures.len refl),
       late,
     )

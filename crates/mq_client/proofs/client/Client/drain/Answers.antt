@@ -1,7 +1,5 @@
 use Rattle.std.proofs.Common.{false, refl, subst}
-use Rattle.mq_client.specs.Past.{State, Drain, Makes}
-use Rattle.mq_client.specs.Framed.{requests_of}
-use Rattle.mq_client.specs.Inside.{state_of}
+use Rattle.mq_client.proofs.Words.{Drain, Makes, State, requests_of, state_of}
 use Rattle.mq_client.proofs.Making.{drained}
 use Rattle.mq_client.proofs.client.Client.drain.Goals as goal
 
@@ -10,5 +8,4 @@ returns-clause-step g c =
     let (group, told, sends, late) = c.send_all.ensures.step in
     let i = c.self.inside in
     let d : State = record { source = record { host = i.host; run = i.run }; tries = i.tries; spans = i.spans; held = i.held; numbers = i.numbers; waiting = requests_of c.send_all.new.outbox.items } in
-    let F : State → Type 0 = λ s. Makes s d (record { action = Drain; group = group; quiet = false }) in
-    (group, told, subst F c.self.view_is (drained (state_of i) d group refl refl refl refl sends))
+    (group, told, subst (λ (s : State). Makes s d (record { action = Drain; group = group; quiet = false })) c.self.view_is (drained (state_of i) d group refl refl refl refl sends))

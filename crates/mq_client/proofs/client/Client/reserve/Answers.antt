@@ -1,10 +1,5 @@
 use Rattle.std.proofs.Common.{◌≡◌, ℕ, ◌+◌, ◌==◌, [], length, refl, sym, ◌∙◌, subst, rules, true, false, Some, if◌then◌else◌}
-use Rattle.mq_client.specs.Past.{State, Ask, Makes, refuses, find, opened, let_through, answer_by}
-use Rattle.std.proofs.lemmas.List.{length-map}
-use Rattle.mq_client.specs.Framed.{requests_of}
-use Rattle.mq_client.specs.declared.tries.Framed.{Framed}
-use Rattle.mq_client.specs.Inside.{state_of}
-use Rattle.mq_client.specs.Held.{AllHeld}
+use Rattle.mq_client.proofs.Words.{AllHeld, Ask, Framed, Makes, State, answer_by, find, length-map, let_through, opened, refuses, requests_of, state_of}
 use Rattle.mq_client.proofs.Telling.{Tells-none}
 use Rattle.mq_client.proofs.Making.{refused, asked, answer_of_tries, held_and_counted}
 use Rattle.mq_client.proofs.Keeping.{has_room, asked_in_range}
@@ -13,10 +8,9 @@ use Rattle.mq_client.proofs.client.Client.reserve.Goals as goal
 pub returns-in-Some-clause-ok : goal.returns-in-Some-clause-ok
 returns-in-Some-clause-ok g c =
     let action = Ask c.args.txn c.args.moment c.args.login.now in
-    let F : State → Type 0 = λ s. Makes s s (record { action = action; group = []; quiet = false }) in
     let i = c.self.inside in
     let h : refuses (find i.held c.args.txn) (length i.held) i.numbers (length i.outbox.items) c.args.moment c.args.login.now ≡ true = search rules in
-    let stays = subst F c.self.view_is (refused (state_of i) c.args.txn c.args.moment c.args.login.now (rw (length-map i.outbox.items (λ (framed : Framed). framed.request)) h)) in
+    let stays = subst (λ (s : State). Makes s s (record { action = action; group = []; quiet = false })) c.self.view_is (refused (state_of i) c.args.txn c.args.moment c.args.login.now (rw (length-map i.outbox.items (λ (framed : Framed). framed.request)) h)) in
     ([], Tells-none _, refl, subst (λ (s : State). Makes c.args.self.now s (record { action = action; group = []; quiet = false })) (sym c.warn_refused.ensures) stays, refl)
 
 pub invariant_of-self : goal.invariant_of-self
@@ -48,7 +42,6 @@ returns-clause-ok g c =
     let (group, decided, told, tries, answer, late) = c.ask-asking.ensures in
     let i = c.self.inside in
     let d : State = record { source = record { host = i.host; run = i.run }; tries = i.tries; spans = i.spans; held = c.count.new.self; numbers = i.numbers + 1; waiting = requests_of i.outbox.items } in
-    let F : State → Type 0 = λ s. Makes s d (record { action = Ask c.args.txn c.args.moment c.args.login.now; group = group; quiet = false }) in
     let free : refuses (find i.held c.args.txn) (length i.held) i.numbers (length i.outbox.items) c.args.moment c.args.login.now ≡ false = search rules in
     let found = held_and_counted c.args.txn c.args.moment c.args.login.now c.ask-asking.result.asked i.held c.hold.new.self c.count.new.self c.in_ok-hold.ensures.find c.count.ensures.find in
     let by : (t : ℕ) → find c.count.new.self t ≡ (if c.args.txn == t then Some (let_through (answer_by decided) (opened c.args.moment c.args.login.now (find i.held c.args.txn))) else find i.held t) = rw answer at found in
@@ -56,7 +49,7 @@ returns-clause-ok g c =
       group,
       told,
       answer ∙ sym (answer_of_tries i.tries _ group decided tries),
-      subst F c.self.view_is (asked (state_of i) d c.args.txn c.args.moment c.args.login.now group decided c.self.invariant.tries.from refl refl (rw (length-map i.outbox.items (λ (framed : Framed). framed.request)) free) tries_of by
+      subst (λ (s : State). Makes s d (record { action = Ask c.args.txn c.args.moment c.args.login.now; group = group; quiet = false })) c.self.view_is (asked (state_of i) d c.args.txn c.args.moment c.args.login.now group decided c.self.invariant.tries.from refl refl (rw (length-map i.outbox.items (λ (framed : Framed). framed.request)) free) tries_of by
           (c.count.ensures.len ∙ c.in_ok-hold.ensures.len) refl refl),
       late,
     )

@@ -1,9 +1,6 @@
 use Rattle.std.proofs.Common.{rules, ◌≡◌, ℕ, List, [], Option, ap, ◌∙◌, subst, not}
-use Rattle.std.specs.Prelude.{filter}
+use Rattle.mq_client.proofs.Words.{Full, Holding, Spans, filter, is_over, still}
 use Rattle.std.proofs.lemmas.Fn.{filter_same}
-use Rattle.mq_client.specs.Holding.{Holding, is_over, still}
-use Rattle.mq_client.specs.declared.spans.Spans.{Spans}
-use Rattle.mq_client.specs.declared.holdup.Full.{Full}
 use Rattle.mq_client.proofs.holdup.Holdup.end.Goals as goal
 
 pub returns : goal.returns
@@ -13,5 +10,4 @@ returns c =
     filter_same _ _ _ (λ x b f' k. search rules) _ _ c.retain.ensures.filtered in
     let A : Option ℕ → Spans × Holding = λ o. (i.spans, record { paused = o; full = c.retain.new.self.items }) in
     let B : List Full → Spans × Holding = λ l. (i.spans, record { paused = (still i.spans c.args.seconds (record { paused = i.paused; full = [] })).paused; full = l }) in
-    let G : Spans × Holding → Type 0 = λ v. (i.spans, record { paused = c.still_paused-self-inside.result; full = c.retain.new.self.items }) ≡ (v.0, still v.0 c.args.seconds v.1) in
-    subst G c.self.view_is (ap A c.still_paused-self-inside.ensures ∙ ap B kept)
+    subst (λ (v : Spans × Holding). (i.spans, record { paused = c.still_paused-self-inside.result; full = c.retain.new.self.items }) ≡ (v.0, still v.0 c.args.seconds v.1)) c.self.view_is (ap A c.still_paused-self-inside.ensures ∙ ap B kept)
