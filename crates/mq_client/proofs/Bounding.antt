@@ -6,6 +6,7 @@ use Rattle.std.proofs.Math.Nat.{mul-le-mul_left}
 use Rattle.mq_client.proofs.Counting.{AreCounted, counted, length_closed}
 use Rattle.mq_client.proofs.Keeping.{has_room}
 use Rattle.mq_client.proofs.Turning.{next_in_queue}
+use Rattle.mq_client.proofs.Basics.{of_either}
 
 -- an ask with an exchange isn't refused
 pub asked_free : (b : Bool) (n : ℕ) (q r : Request) (group : List Exchange) → next_of n (if b then [] else q ∷ []) group ≡ Some r → b ≡ false
@@ -68,8 +69,7 @@ few_in_turn n queue (x ∷ group) turns =
     subst (λ (c : ℕ). IsFew n (length queue) c (decisions (x ∷ group)) (failures (x ∷ group))) more (one_more n (length queue) (length group) (decisions group) (failures group) (is_some x.decided) (few_in_turn n queue group turns.2) h (in_queue queue (decisions group) x.request e))
 
 ask_queue : (b : Bool) (q : Request) → length (if b then [] else q ∷ []) ≤ 4096
-ask_queue true q = omega arith
-ask_queue false q = omega arith
+ask_queue b q = of_either (λ (l : List Request). length l ≤ 4096) b [] (q ∷ []) (omega arith) (omega arith)
 
 queue_length : (s : Source) (v : View) (a : Action) (o : Option Held) → held_for v a ≡ o → AreCounted v → IsBounded v → length (queue_of s v o a) ≤ 4096
 queue_length s v (Ask txn moment login) o e all b = ask_queue (refuses o (length v.live) v.numbers (length v.waiting) moment login) (reserve_of s (v.numbers + 1) txn moment login)

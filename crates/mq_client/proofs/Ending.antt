@@ -54,25 +54,17 @@ found_fate C faults.TooLong stage pieces left rest read_failed write_failed i lo
     let all = C.too_long left rest long in
     let (f, g) = no_lines C (left ++ rest) (inr all) in
     AtEnd f (Long (subst IsTooLong (sym g) all) refl)
-found_fate C faults.Read stage pieces left rest read_failed write_failed i found = absurd (true_false (sym i))
-found_fate C faults.Write stage pieces left rest read_failed write_failed i found = absurd (true_false (sym i))
-found_fate C faults.Memory stage pieces left rest read_failed write_failed i found = absurd (true_false (sym i))
+found_fate C f stage pieces left rest read_failed write_failed i found = absurd (true_false (sym i))
 
 -- at a fault of the input no line is in hand
 quiet : (f : FilterFault) (spans : Spans) (k : Holding) (stage : Stage) (left : List ℕ) (step : Option Step) (next : List ℕ) → is_of_input f ≡ true → IsInHand f spans k stage left step next → (step ≡ None) × (next ≡ [])
-quiet (faults.Line f) spans k stage left step next i h = h
-quiet (faults.Track f) spans k stage left step next i h = h
-quiet faults.NotReady spans k stage left step next i h = h
-quiet faults.EndedEarly spans k stage left step next i h = h
-quiet faults.CutLine spans k stage left step next i h = h
-quiet faults.TooLong spans k stage left step next i h = h
-quiet faults.Read spans k stage left step next i h = h
 quiet faults.Write spans k stage left step next i h = absurd (true_false (sym i))
 quiet faults.Memory spans k stage left step next i h = absurd (true_false (sym i))
+quiet f spans k stage left step next i h = h
 
 front_nil : (front rest : List ℕ) → front ++ rest ≡ [] → front ≡ []
 front_nil [] rest e = refl
-front_nil (x ∷ front) rest e = let no : ⊥ = cc (e) in absurd no
+front_nil (x ∷ front) rest e = absurd (cc (e))
 
 -- what was read and what is left, by the lines that were handled
 holds_all : (bytes rest : List ℕ) (ls : List (List ℕ)) (left : List ℕ) → Holds bytes ls left → Holds (bytes ++ rest) ls (left ++ rest)
@@ -99,10 +91,10 @@ same_done U spans s n P (AfterReady L) steps others text more k j (results, filt
     (told.steps, whole ∙ ap (λ (t : List ℕ). registration ++ t) told.text_is ∙ sym whole')
 
 played_from : (c d : State) (P steps : List Step) → d ≡ c → ArePlayed d.source d.tries P steps → ArePlayed c.source c.tries P steps
-played_from c d P steps e h = let F : State → Type 0 = λ x. ArePlayed x.source x.tries P steps in subst F e h
+played_from c d P steps e h = subst (λ (x : State). ArePlayed x.source x.tries P steps) e h
 
 stands_from : (c d : State) (P : List Step) → d ≡ c → StandsAt c P → StandsAt d P
-stands_from c d P e h = let F : State → Type 0 = λ x. StandsAt x P in subst F (sym e) h
+stands_from c d P e h = subst (λ (x : State). StandsAt x P) (sym e) h
 
 -- two runs that stop at faults of the same input stop at the same one, and do the same where their exchanges ended alike
 pub same_stops : OneReply → (G : Grammar) (C : Cutting) (o p : Outside) (pieces others : List (List ℕ)) (rest more : List ℕ) (now last : Outside) (read_failed write_failed read_failed' write_failed' : Bool) (f g : FilterFault)

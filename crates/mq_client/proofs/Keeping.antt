@@ -18,8 +18,7 @@ opened_in_range held txn moment login (Some h) e all n m l = all txn h e
 
 pub let_in_range : (txn : ℕ) (answer : Asked) (h : Held) → h.granted < 1000 → IsHeld txn h → IsHeld txn (let_through answer h)
 let_in_range txn asked.Granted h few i = record { number = i.number; moment = i.moment; login = i.login; granted = omega (arith, few) }
-let_in_range txn asked.Full h few i = i
-let_in_range txn asked.Unavailable h few i = i
+let_in_range txn answer h few i = i
 
 -- a transaction after an ask
 pub asked_in_range : (held new : List (ℕ × Held)) (txn moment : ℕ) (login : List ℕ) (answer : Asked) → (opened moment login (find held txn)).granted < 1000

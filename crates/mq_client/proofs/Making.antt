@@ -20,12 +20,10 @@ plays_alike s n a group o p l m u v w x e f g h play =
     subst (λ (i : List Request). PlaysFrom s n p m v i a group) h (subst (λ (i : ℕ). PlaysFrom s n p m i w a group) g (subst (λ (i : ℕ). PlaysFrom s n p i u w a group) f (subst (λ (i : Option Held). PlaysFrom s n i l u w a group) e play)))
 
 match_true : (b : Bool) (A B : Type 0) → b ≡ true → A → MatchBool b A B
-match_true true A B e a = a
-match_true false A B e a = let no : ⊥ = cc in absurd no
+match_true b A B e a = rw e a
 
 match_false : (b : Bool) (A B : Type 0) → b ≡ false → B → MatchBool b A B
-match_false true A B e a = let no : ⊥ = cc in absurd no
-match_false false A B e a = a
+match_false b A B e a = rw e a
 
 -- ---- asks
 
@@ -175,7 +173,7 @@ pub drained : (c d : State) (group : List Exchange) → d.source ≡ c.source �
 drained c d group source same held numbers sends = record {
   source = source;
   tries = same;
-  plays = λ P st. (d.waiting, (let D : List Request → Type 0 = λ w. Sends c.tries w group d.waiting in subst D st.waiting sends));
+  plays = λ P st. (d.waiting, subst (λ (w : List Request). Sends c.tries w group d.waiting) st.waiting sends);
   stands = λ P st. rw source (record {
     held = λ t. ap (λ l. find l t) held ∙ st.held t;
     live = ap length held ∙ st.live;

@@ -7,21 +7,13 @@ use Rattle.mq_client.specs.declared.held.Asked.TheVariants as asked
 use Rattle.mq_client.proofs.ReadingOff.{live_read, numbers_read}
 use Rattle.mq_client.proofs.Turning.{next_in_queue}
 use Rattle.mq_client.proofs.Bounding.{asked_free}
-use Rattle.mq_client.proofs.Basics.{all_weaker, all_at}
+use Rattle.mq_client.proofs.Basics.{all_weaker, all_at, mapped_some, of_closing, of_either}
 
 -- ---- the request of a step
 
 -- what a step that takes a number asks has that number
 closing_id : (s : Source) (n txn : ℕ) (end : CloseEnd) (h : Held) → id_in (closing_of s n txn end h) ≡ Some (id_of s n)
-closing_id s n txn end h = by_kind (is_commit end && nat_le 1 h.granted)
-  where
-    by_kind : (b : Bool) → id_in (if b then Settle (id_of s n) txn h.moment h.login h.granted else Release (id_of s n) txn h.moment h.login) ≡ Some (id_of s n)
-    by_kind true = refl
-    by_kind false = refl
-
-mapped_some : {A B : Type 0} (f : A → B) (o : Option A) (y : B) → option_map f o ≡ Some y → (x : A) × (o ≡ Some x) × (f x ≡ y)
-mapped_some f None y e = absurd (none_some y e)
-mapped_some f (Some x) y e = (x, refl, some_is (f x) y e)
+closing_id s n txn end h = of_closing (λ (q : Request). id_in q ≡ Some (id_of s n)) s n txn end h refl refl
 
 request_id : (s : Source) (P : List Step) (a : Action) (group : List Exchange) (q : Request) → request_by s P a group ≡ Some q → (id_in q ≡ Some (id_of s (numbers_in P + 1))) × (takes_number P a group ≡ true)
 request_id s P (Ask txn moment login) [] q e = absurd (none_some q e)
@@ -32,8 +24,7 @@ request_id s P (Close txn end) group q e =
 request_id s P Drain group q e = absurd (none_some q e)
 
 pub more_numbers : (n : ℕ) (b : Bool) → n ≤ (if b then n + 1 else n)
-more_numbers n true = omega arith
-more_numbers n false = omega arith
+more_numbers n b = of_either (λ (m : ℕ). n ≤ m) b (n + 1) n (omega arith) (omega arith)
 
 numbers_grow : (x : Step) (P : List Step) → numbers_in P ≤ numbers_in (x ∷ P)
 numbers_grow x P = more_numbers (numbers_in P) (takes_number P x.action x.group)
@@ -195,12 +186,7 @@ committed s (x ∷ P) n id txn moment count login e = by_number (λ f. later_com
 
 settles : (s : Source) (P : List Step) (q : Request) → IsNumbered s P q → SettlesWhatWasLet P q
 settles s P (Settle id txn moment login count) i = committed s P i.number id txn moment count login i.under
-settles s P (Reserve id txn moment login count) i = tt
-settles s P (Release id txn moment login) i = tt
-settles s P (Limit id from_day cap login) i = tt
-settles s P (Usage login day) i = tt
-settles s P (ListRequest day after) i = tt
-settles s P (Retire id) i = tt
+settles s P q i = tt
 
 -- each settle that was sent asks for what was let through
 pub all_settle : (s : Source) (n : ℕ) (P : List Step) → AreUnderway s n P → AllByRecursion (λ x. SettlesWhatWasLet P x.request) (exchanges_in P)
@@ -210,13 +196,11 @@ all_settle s n P u = all_weaker (λ x. IsNumbered s P x.request) (λ x. SettlesW
 
 let_login : (answer : Asked) (h : Held) → (let_through answer h).login ≡ h.login
 let_login asked.Granted h = refl
-let_login asked.Full h = refl
-let_login asked.Unavailable h = refl
+let_login answer h = refl
 
 pub let_through_at : (answer : Asked) (h : Held) → (let_through answer h).moment ≡ h.moment
 let_through_at asked.Granted h = refl
-let_through_at asked.Full h = refl
-let_through_at asked.Unavailable h = refl
+let_through_at answer h = refl
 
 pub ended_not : (end : CloseEnd) (number : ℕ) (h : Held) → is_closed (Closed end number h) ≡ false → ⊥
 ended_not end number h e = cc (e)
@@ -244,7 +228,7 @@ reserve_new s n t moment login answer (Some h) live numbers waiting free =
 
 closed_stays : (s : Source) (n t number : ℕ) (end : CloseEnd) (h : Held) (st : Standing) (q : Request) → held_by st ≡ Some h → Suits s n t st q → Suits s n t (Closed end number h) q
 closed_stays s n t number end h Never q e suits = absurd suits
-closed_stays s n t number end h (Live k) q e suits = let F : Held → Type 0 = λ x. q ≡ reserve_of s n t x.moment x.login in inl (subst F (some_is k h e) suits)
+closed_stays s n t number end h (Live k) q e suits = inl (subst (λ (x : Held). q ≡ reserve_of s n t x.moment x.login) (some_is k h e) suits)
 closed_stays s n t number end h (Closed end' number' k) q e suits = absurd (none_some h e)
 
 -- an older request
@@ -271,11 +255,7 @@ suits_old s n t q v (Close txn end) group fresh suits = by_held (held_by (v.stan
 suits_old s n t q v Drain group fresh suits = suits
 
 closing_txn : (s : Source) (n txn : ℕ) (end : CloseEnd) (h : Held) → txn_in (closing_of s n txn end h) ≡ Some txn
-closing_txn s n txn end h = by_kind (is_commit end && nat_le 1 h.granted)
-  where
-    by_kind : (b : Bool) → txn_in (if b then Settle (id_of s n) txn h.moment h.login h.granted else Release (id_of s n) txn h.moment h.login) ≡ Some txn
-    by_kind true = refl
-    by_kind false = refl
+closing_txn s n txn end h = of_closing (λ (q : Request). txn_in q ≡ Some txn) s n txn end h refl refl
 
 -- the request of the step
 suits_new : (s : Source) (tries n t : ℕ) (q : Request) (P : List Step) (v : View) (a : Action) (group : List Exchange) → v.numbers ≡ numbers_in P → ((u : ℕ) → held_by (v.standing u) ≡ live_in P u) → ComeInTurn tries (queue_of s v (held_for v a) a) group

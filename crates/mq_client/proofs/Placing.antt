@@ -115,17 +115,12 @@ passed_on G stage line o (TooEarly m s r p i) (Taken M n s' r' p') = apart_stage
 
 early_plain : (m : Meaning) → is_early m ≡ true → is_stamped m ≡ false
 early_plain (ConfigLine key value) e = refl
-early_plain ReadyLine e = absurd (true_false (sym e))
-early_plain (ReportLine seconds subsystem event session params) e = absurd (true_false (sym e))
-early_plain (FilterLine seconds subsystem phase session token rest) e = absurd (true_false (sym e))
 early_plain OtherLine e = refl
+early_plain m e = absurd (true_false (sym e))
 
 takes_sound : (h : Holding) (L : List Meaning) (m : Meaning) (step : Option Step) (text : List ℕ) → Takes h L m step text → track_fault L m ≡ None
-takes_sound k L (ConfigLine key value) step text t = t.0
-takes_sound k L ReadyLine step text t = t.0
-takes_sound k L (ReportLine seconds subsystem event session params) step text t = t.0
 takes_sound k L (FilterLine seconds subsystem phase session token rest) step text t = refl
-takes_sound k L OtherLine step text t = t.0
+takes_sound k L m step text t = t.0
 
 all_at : (P : List ℕ → Type 0) (ls : List (List ℕ)) (y : List ℕ) (d : List (List ℕ)) → AllByRecursion P (ls ++ y ∷ d) → P y
 all_at P [] y d h = h.0

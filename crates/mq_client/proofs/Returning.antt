@@ -34,7 +34,7 @@ record WasClosed (L : List Meaning) (t : ℕ) : Type 0 where
 asks_no_close : (q : Query) (txn : ℕ) (end : CloseEnd) → asking_of q ≡ Some (Close txn end) → ⊥
 asks_no_close Passes txn end e = none_some (Close txn end) e
 asks_no_close Refuses txn end e = none_some (Close txn end) e
-asks_no_close (Asks u moment name) txn end e = cc (e)
+asks_no_close (Asks u moment name) txn end e = cc
 
 closes_by : (o : Option Closing) (txn : ℕ) (end : CloseEnd) → option_map close_of o ≡ Some (Close txn end) → (c : Closing) × (o ≡ Some c) × (c.txn ≡ txn)
 closes_by None txn end e = absurd (none_some (Close txn end) e)
@@ -42,10 +42,7 @@ closes_by (Some c) txn end e = (c, refl, cc (e))
 
 closes_at : (L : List Meaning) (m : Meaning) (txn : ℕ) (end : CloseEnd) → action_of L m ≡ Some (Close txn end) → (c : Closing) × (closing L m ≡ Some c) × (c.txn ≡ txn)
 closes_at L (FilterLine seconds subsystem phase session token rest) txn end e = absurd (asks_no_close (query L subsystem phase session) txn end e)
-closes_at L (ConfigLine key value) txn end e = closes_by (closing L (ConfigLine key value)) txn end e
-closes_at L ReadyLine txn end e = closes_by (closing L ReadyLine) txn end e
-closes_at L (ReportLine seconds subsystem name session params) txn end e = closes_by (closing L (ReportLine seconds subsystem name session params)) txn end e
-closes_at L OtherLine txn end e = closes_by (closing L OtherLine) txn end e
+closes_at L m txn end e = closes_by (closing L m) txn end e
 
 later_line : (m : Meaning) (L : List Meaning) (t : ℕ) → WasClosed L t → WasClosed (m ∷ L) t
 later_line m L t w = record { later = m ∷ w.later; line = w.line; before = w.before; closed = w.closed; whole = ap (λ l. m ∷ l) w.whole; is = w.is; txn_is = w.txn_is }
@@ -65,25 +62,16 @@ closed_line (m ∷ L) t i = by_action (λ j. later_line m L t (closed_line L t j
 
 -- ---- asks
 
-passes_no_ask : (txn moment : ℕ) (login : List ℕ) → Passes ≡ Asks txn moment login → ⊥
-passes_no_ask txn moment login e = cc (e)
-
-refuses_no_ask : (txn moment : ℕ) (login : List ℕ) → Refuses ≡ Asks txn moment login → ⊥
-refuses_no_ask txn moment login e = cc (e)
-
-asks_txn : (a b u v : ℕ) (n m : List ℕ) → Asks a u n ≡ Asks b v m → a ≡ b
-asks_txn a b u v n m e = cc (e)
-
 -- the transaction that is asked for is open
 asks_open : (b : Bool) (l : Option (List ℕ)) (o : Option Transaction) (txn moment : ℕ) (login : List ℕ) → (if b then query_at (position_of l o) else Passes) ≡ Asks txn moment login → (t : Transaction) × (o ≡ Some t) × (t.txn ≡ txn)
-asks_open false l o txn moment login e = absurd (passes_no_ask txn moment login e)
-asks_open true None o txn moment login e = absurd (passes_no_ask txn moment login e)
-asks_open true (Some n) None txn moment login e = absurd (refuses_no_ask txn moment login e)
+asks_open false l o txn moment login e = absurd cc
+asks_open true None o txn moment login e = absurd cc
+asks_open true (Some n) None txn moment login e = absurd cc
 asks_open true (Some n) (Some t) txn moment login e = by_range (is_login n && is_moment t.moment) e
   where
     by_range : (c : Bool) → (if c then Asks t.txn t.moment n else Refuses) ≡ Asks txn moment login → (t' : Transaction) × (Some t ≡ Some t') × (t'.txn ≡ txn)
-    by_range true f = (t, refl, asks_txn t.txn txn t.moment moment n login f)
-    by_range false f = absurd (refuses_no_ask txn moment login f)
+    by_range true f = (t, refl, cc)
+    by_range false f = absurd cc
 
 asking_asks : (q : Query) (txn moment : ℕ) (login : List ℕ) → asking_of q ≡ Some (Ask txn moment login) → q ≡ Asks txn moment login
 asking_asks Passes txn moment login e = absurd (none_some (Ask txn moment login) e)
@@ -98,21 +86,15 @@ asked_open : (L : List Meaning) (m : Meaning) (txn moment : ℕ) (name : List �
 asked_open L (FilterLine seconds subsystem phase session token rest) txn moment name e =
     let (t, is_open, txn_is) = asks_open (bytes_eq subsystem (codes "smtp-in") && bytes_eq phase (codes "rcpt-to")) (login L session) (open_transaction L session) txn moment name (asking_asks (query L subsystem phase session) txn moment name e) in
     (session, t, is_open, txn_is)
-asked_open L (ConfigLine key value) txn moment name e = absurd (close_no_ask (closing L (ConfigLine key value)) txn moment name e)
-asked_open L ReadyLine txn moment name e = absurd (close_no_ask (closing L ReadyLine) txn moment name e)
-asked_open L (ReportLine seconds subsystem event session params) txn moment name e = absurd (close_no_ask (closing L (ReportLine seconds subsystem event session params)) txn moment name e)
-asked_open L OtherLine txn moment name e = absurd (close_no_ask (closing L OtherLine) txn moment name e)
+asked_open L m txn moment name e = absurd (close_no_ask (closing L m) txn moment name e)
 
 -- ---- what ended was closed
 
 abbrev EndedAreClosed : View → List Action → Type 0
 EndedAreClosed v acts = (t : ℕ) → is_closed (v.standing t) ≡ true → IsClosedIn t acts
 
-live_not_ended : (h : Held) → is_closed (Live h) ≡ true → ⊥
-live_not_ended h e = cc (e)
-
 ended_asked : (now : Held) (v : View) (txn t : ℕ) (b : Bool) (acts : List Action) → EndedAreClosed v acts → is_closed (if b then Live now else v.standing t) ≡ true → IsClosedIn t acts
-ended_asked now v txn t true acts all e = absurd (live_not_ended now e)
+ended_asked now v txn t true acts all e = absurd cc
 ended_asked now v txn t false acts all e = all t e
 
 ended_closed : (s : Source) (txn : ℕ) (end : CloseEnd) (group : List Exchange) (v : View) (o : Option Held) (acts : List Action) → EndedAreClosed v acts → EndedAreClosed (after_close s txn end group v o) (Close txn end ∷ acts)
@@ -129,11 +111,8 @@ ended_step s v (Ask txn moment login) (x ∷ group) acts all = λ t e. ended_ask
 ended_step s v (Close txn end) group acts all = ended_closed s txn end group v (held_by (v.standing txn)) acts all
 ended_step s v Drain group acts all = all
 
-never_not_ended : is_closed Never ≡ true → ⊥
-never_not_ended e = cc (e)
-
 closed_in : (s : Source) (P : List Step) → EndedAreClosed (view s P) (actions P)
-closed_in s [] = λ t e. absurd (never_not_ended e)
+closed_in s [] = λ t e. absurd cc
 closed_in s (x ∷ P) = ended_step s (view s P) x.action x.group (actions P) (closed_in s P)
 
 -- ---- the law

@@ -63,8 +63,6 @@ some_step : (x y : Step) → Some x ≡ Some y → x ≡ y
 some_step x y e = cc
 
 same_answers : (k : Holding) (q : Query) (session token : List ℕ) (s t : Option Step) (d c : Decision) (text more : List ℕ) → Answers k q s d → Answers k q t c → text ≡ result_text session token d → more ≡ result_text session token c → Alike s t text more
-same_answers k Passes session token s t d c text more h i e f = record { kind = ap kind_of (h.0 ∙ sym i.0); quiet = ap quiet_of (h.0 ∙ sym i.0); text_is = λ same. e ∙ ap (result_text session token) (h.1 ∙ sym i.1) ∙ sym f }
-same_answers k Refuses session token s t d c text more h i e f = record { kind = ap kind_of (h.0 ∙ sym i.0); quiet = ap quiet_of (h.0 ∙ sym i.0); text_is = λ same. e ∙ ap (result_text session token) (h.1 ∙ sym i.1) ∙ sym f }
 same_answers k (Asks txn moment login) session token s t d c text more (g, step, answer) (h, step', answer') e f = record {
   kind = ap kind_of step ∙ sym (ap kind_of step');
   quiet = ap quiet_of step ∙ sym (ap quiet_of step');
@@ -74,6 +72,7 @@ same_answers k (Asks txn moment login) session token s t d c text more (g, step,
       let group : g ≡ h = ap (λ (x : Step). x.group) both in
       e ∙ ap (result_text session token) (answer ∙ ap (λ l. decision_by (held_back k login) l) group ∙ sym answer') ∙ sym f;
 }
+same_answers k q session token s t d c text more h i e f = record { kind = ap kind_of (h.0 ∙ sym i.0); quiet = ap quiet_of (h.0 ∙ sym i.0); text_is = λ same. e ∙ ap (result_text session token) (h.1 ∙ sym i.1) ∙ sym f }
 
 same_closes : (k : Bool) (c : Option Closing) (s t : Option Step) (text more : List ℕ) → Closes k c s → Closes k c t → text ≡ [] → more ≡ [] → Alike s t text more
 same_closes k None s t text more h i e f = record { kind = ap kind_of (h ∙ sym i); quiet = ap quiet_of (h ∙ sym i); text_is = λ same. e ∙ sym f }
@@ -81,10 +80,7 @@ same_closes k (Some c) s t text more (g, step) (h, step') e f = record { kind = 
 
 same_takes : (k : Holding) (L : List Meaning) (m : Meaning) (s t : Option Step) (text more : List ℕ) → Takes k L m s text → Takes k L m t more → Alike s t text more
 same_takes k L (FilterLine seconds subsystem phase session token rest) s t text more (d, h, e) (c, i, f) = same_answers k (query L subsystem phase session) session token s t d c text more h i e f
-same_takes k L (ConfigLine key value) s t text more h i = same_closes (is_some k.paused) (closing L (ConfigLine key value)) s t text more h.1 i.1 h.2 i.2
-same_takes k L ReadyLine s t text more h i = same_closes (is_some k.paused) (closing L ReadyLine) s t text more h.1 i.1 h.2 i.2
-same_takes k L (ReportLine seconds subsystem event session params) s t text more h i = same_closes (is_some k.paused) (closing L (ReportLine seconds subsystem event session params)) s t text more h.1 i.1 h.2 i.2
-same_takes k L OtherLine s t text more h i = same_closes (is_some k.paused) (closing L OtherLine) s t text more h.1 i.1 h.2 i.2
+same_takes k L m s t text more h i = same_closes (is_some k.paused) (closing L m) s t text more h.1 i.1 h.2 i.2
 
 pub actions_push : (step : Option Step) (steps : List Step) → actions (push step steps) ≡ push (kind_of step) (actions steps)
 actions_push None steps = refl
@@ -158,9 +154,8 @@ record One (a b : Option Step) (next next' : List ℕ) (xs ys : List Step) (text
   before : Told xs ys text more k j
 
 asked_kind : (h : Holding) (q : Query) (step : Option Step) (d : Decision) → Answers h q step d → kind_of step ≡ asking_of q
-asked_kind k Passes step d h = ap kind_of h.0
-asked_kind k Refuses step d h = ap kind_of h.0
 asked_kind k (Asks txn moment login) step d (group, is, answer) = ap kind_of is
+asked_kind k q step d h = ap kind_of h.0
 
 closed_kind : (k : Bool) (c : Option Closing) (step : Option Step) → Closes k c step → kind_of step ≡ option_map close_of c
 closed_kind k None step h = ap kind_of h
@@ -168,10 +163,7 @@ closed_kind k (Some c) step (group, is) = ap kind_of is
 
 pub taken_kind : (k : Holding) (L : List Meaning) (m : Meaning) (step : Option Step) (text : List ℕ) → Takes k L m step text → kind_of step ≡ action_of L m
 taken_kind k L (FilterLine seconds subsystem phase session token rest) step text (d, h, e) = asked_kind k (query L subsystem phase session) step d h
-taken_kind k L (ConfigLine key value) step text h = closed_kind (is_some k.paused) (closing L (ConfigLine key value)) step h.1
-taken_kind k L ReadyLine step text h = closed_kind (is_some k.paused) (closing L ReadyLine) step h.1
-taken_kind k L (ReportLine seconds subsystem name session params) step text h = closed_kind (is_some k.paused) (closing L (ReportLine seconds subsystem name session params)) step h.1
-taken_kind k L OtherLine step text h = closed_kind (is_some k.paused) (closing L OtherLine) step h.1
+taken_kind k L m step text h = closed_kind (is_some k.paused) (closing L m) step h.1
 
 one_quiet : (x y : Step) → quiet_of (Some x) ≡ quiet_of (Some y) → x.quiet ≡ y.quiet
 one_quiet x y e = cc

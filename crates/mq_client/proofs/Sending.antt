@@ -10,10 +10,6 @@ starts_with (x ∷ rest) q e l = (rest, ap (λ z. z ∷ rest) (sym e))
 pub front_is : (now rest : List Framed) (q x : Framed) → q ≡ slice_index_or now 0 q → now ≡ x ∷ rest → now ≡ q ∷ rest
 front_is now rest q x e p = p ∙ ap (λ z. z ∷ rest) (sym (e ∙ ap (λ l. slice_index_or l 0 q) p))
 
-pub nil_from_length : (xs : List Framed) → length xs ≡ 0 → xs ≡ []
-nil_from_length [] e = refl
-nil_from_length (x ∷ xs) e = absurd (omega (arith, e))
-
 pub sends_more : (n : ℕ) (queue now rest : List Request) (q : Request) (done tries : List Exchange) → now ≡ q ∷ rest → SendsSome n queue done now → IsSent n q tries true → SendsSome n queue (tries ++ done) rest
 sends_more n queue now rest q done tries e s (r, t) = OneMore q rest done tries r (subst (λ (l : List Request). SendsSome n queue done l) e s) t
 
@@ -52,10 +48,7 @@ late_undecided n q group t = late_failed q group t.0
 -- of a queue
 all_sent : (n : ℕ) (queue left : List Request) (group : List Exchange) → Sends n queue group left → left ≡ [] → has_timed_out group ≡ false
 all_sent n queue left group (SendsAll done s) e = some_in_time n queue group [] s
-all_sent n queue left group (SendsUpTo q more done tries s t) e = absurd (no_more q more e)
-  where
-    no_more : (q : Request) (more : List Request) → q ∷ more ≡ [] → ⊥
-    no_more q more e = cc
+all_sent n queue left group (SendsUpTo q more done tries s t) e = absurd cc
 
 pub late_sent : (n : ℕ) (queue : List Request) (group : List Exchange) → Sends n queue group [] → has_timed_out group ≡ false
 late_sent n queue group s = all_sent n queue [] group s refl

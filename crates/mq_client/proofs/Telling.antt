@@ -18,7 +18,7 @@ Tells-trans (Some c) (Some d) (Some e) xs ys h i = i ∙ ap (λ l. l ++ ys) h �
 
 -- an exchange of the request's frame
 pub told_frame : (old new : Option (List Told)) (bytes : List ℕ) (q : Request) (o : Outcome) → bytes ≡ request_frame q → Tells old new (record { frame = bytes; outcome = o } ∷ []) → Tells old new (record { frame = request_frame q; outcome = o } ∷ [])
-told_frame old new bytes q o e h = let P : List ℕ → Type 0 = λ b. Tells old new (record { frame = b; outcome = o } ∷ []) in subst P e h
+told_frame old new bytes q o e h = subst (λ (b : List ℕ). Tells old new (record { frame = b; outcome = o } ∷ [])) e h
 
 -- exchanges told one after another
 pub told_more : (a b c : Option (List Told)) (done : List Exchange) (x : Exchange) → Tells a b (told_all done) → Tells b c (told_of x ∷ []) → Tells a c (told_all (x ∷ done))
@@ -49,15 +49,6 @@ pub decided_by_last : (n : ℕ) (request : Request) (x : Exchange) (done : List 
 decided_by_last n request x done None v t none failed few = absurd none
 decided_by_last n request x done (Some reply) v t says failed few = (t, failed, few)
 
--- whether a closing was decided is told by its verdict
-pub sent_decided : (n : ℕ) (request : Request) (group : List Exchange) (decided : Option Reply) (v : Verdict) → AreTries n request group decided → IsVerdict decided (Some v) → IsSent n request group true
-sent_decided n request group None v t none = absurd none
-sent_decided n request group (Some reply) v t says = (reply, t)
-
-pub sent_undecided : (n : ℕ) (request : Request) (group : List Exchange) (decided : Option Reply) → AreTries n request group decided → IsVerdict decided None → IsSent n request group false
-sent_undecided n request group None t v = t
-sent_undecided n request group (Some reply) t v = absurd v
-
 -- ---- what comes of tries
 
 -- an exchange that brought a body didn't run out of time
@@ -67,8 +58,7 @@ answered_in_time request body (Some reply) = refl
 
 pub no_verdict : (t : Tried) → ((v : Verdict) → t ≡ tried.Decided v → ⊥) → verdict_of t ≡ None
 no_verdict (tried.Decided v) not = absurd (not v refl)
-no_verdict tried.Undecided not = refl
-no_verdict tried.TimedOut not = refl
+no_verdict t not = refl
 
 -- one more try that decides nothing
 pub late_more : (x : Exchange) (done : List Exchange) (a b : Bool) → x.decided ≡ None → a ≡ has_timed_out (x ∷ []) → b ≡ has_timed_out done → (a || b) ≡ has_timed_out (x ∷ done)
@@ -94,6 +84,7 @@ comes_undecided done t late none is so = record { verdict = subst (IsVerdict Non
 
 -- a closing is sent, whatever comes of it
 pub sent_as : (n : ℕ) (request : Request) (group : List Exchange) (decided : Option Reply) (t : Tried) → AreTries n request group decided → IsVerdict decided (verdict_of t) → IsSent n request group (is_decided t)
-sent_as n request group decided (tried.Decided v) tries says = sent_decided n request group decided v tries says
-sent_as n request group decided tried.Undecided tries says = sent_undecided n request group decided tries says
-sent_as n request group decided tried.TimedOut tries says = sent_undecided n request group decided tries says
+sent_as n request group (Some reply) (tried.Decided v) tries says = (reply, tries)
+sent_as n request group (Some reply) t tries says = absurd says
+sent_as n request group None (tried.Decided v) tries none = absurd none
+sent_as n request group None t tries says = tries

@@ -2,7 +2,7 @@
 use Rattle.std.proofs.Common.{◌≡◌, ℕ, zero, suc, ◌+◌, ◌<◌, ◌≤◌, Bool, false, true, List, [], ◌∷◌, ◌++◌, length, drop, refl, sym, ap, ◌∙◌, subst, append-nil, arith, Option, None, Some, if◌then◌else◌, MatchBool}
 use Rattle.mq_client.proofs.Words.{Action, Answered, AreFailed, AreTries, AreUnderway, Ask, Brings, Close, ComeInTurn, Drain, Exchange, Faulted, Held, IsDecision, IsPlayed, IsTry, IsUnderway, NoneYet, OneMore, Outcome, Plays, PlaysFrom, Reply, Request, Sends, SendsAll, SendsSome, SendsUpTo, Source, SpellsReply, Step, View, decisions, failures, held_for, le-leb, leb-false, lt-leb, nat_le, next_in, next_of, none_some, outcomes, queue_of, refuses, reserve_of, slice_get, some_is, tries_in, true_false, view}
 use Rattle.mq_client.proofs.Making.{some_left}
-use Rattle.mq_client.proofs.Basics.{cons_head, cons_tail}
+use Rattle.mq_client.proofs.Basics.{cons_head, cons_tail, of_either}
 
 -- the exchanges so far came in turn, and the last so many failed
 record Comes (n : ℕ) (queue : List Request) (group : List Exchange) (failed decided : ℕ) : Type 0 where
@@ -106,12 +106,8 @@ next_in_queue n queue group q e = by_tries (nat_le n (failures group)) refl e
 none_by_tries : (n : ℕ) (queue : List Request) (group : List Exchange) → n ≤ failures group → next_of n queue group ≡ None
 none_by_tries n queue group h = rw (le-leb n (failures group) h) refl
 
-if_none : (b : Bool) (o : Option Request) → o ≡ None → (if b then None else o) ≡ None
-if_none true o e = refl
-if_none false o e = e
-
 none_by_queue : (n : ℕ) (queue : List Request) (group : List Exchange) → slice_get queue (decisions group) ≡ None → next_of n queue group ≡ None
-none_by_queue n queue group e = if_none (nat_le n (failures group)) (slice_get queue (decisions group)) e
+none_by_queue n queue group e = of_either (λ (o : Option Request). o ≡ None) (nat_le n (failures group)) None (slice_get queue (decisions group)) refl e
 
 none_of_drop : (k : ℕ) (queue : List Request) → [] ≡ drop k queue → slice_get queue k ≡ None
 none_of_drop zero [] e = refl

@@ -4,7 +4,7 @@ use Rattle.mq_client.proofs.Words.{Action, AllByRecursion, all_append, and_false
 use Rattle.std.proofs.lemmas.List.Elements.{filter-append}
 use Rattle.mq_lemmas.proofs.Numbers.{number_itself, other_number}
 use Rattle.mq_request.proofs.Alike.{text_itself, id_itself}
-use Rattle.mq_client.proofs.Basics.{all_weaker}
+use Rattle.mq_client.proofs.Basics.{all_weaker, of_closing}
 use Rattle.mq_client.proofs.Turning.{next_in_queue}
 use Rattle.mq_client.proofs.ReadingOff.{live_read, numbers_read}
 
@@ -48,12 +48,8 @@ reserve_other s n txn moment login (Settle id txn' moment' login' count) c = ref
 reserve_other s n txn moment login (Release id txn' moment' login') c = refl
 reserve_other s n txn moment login q c = absurd c
 
-closing_at : (s : Source) (n txn moment count : ℕ) (login : List ℕ) (b : Bool) → let q = (if b then Settle (record { host = s.host; run = s.run; number = n }) txn moment login count else Release (record { host = s.host; run = s.run; number = n }) txn moment login) in IsClosing q × (seq_of q ≡ n)
-closing_at s n txn moment count login true = (tt, refl)
-closing_at s n txn moment count login false = (tt, refl)
-
 closing_is : (s : Source) (n txn : ℕ) (end : CloseEnd) (h : Held) → IsClosing (closing_of s n txn end h) × (seq_of (closing_of s n txn end h) ≡ n)
-closing_is s n txn end h = closing_at s n txn h.moment h.granted h.login _
+closing_is s n txn end h = of_closing (λ (q : Request). IsClosing q × (seq_of q ≡ n)) s n txn end h (tt, refl) (tt, refl)
 
 -- ---- which requests a group decided
 
@@ -73,9 +69,6 @@ ask_none n r (x ∷ group) q turns other =
     neither_so _ _ (first_false (same_request x.request q) (is_some x.decided) (ap (λ p. same_request p q) is ∙ other)) (ask_none n r group q turns.2 other)
 
 -- ---- lists of closings, the earlier numbers first
-
-abbrev IsBefore : Request → Request → Type 0
-IsBefore q r = seq_of q < seq_of r
 
 abbrev Ascends : List Request → Type 0
 Ascends [] = Unit {0}

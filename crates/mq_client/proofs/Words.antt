@@ -9,7 +9,7 @@ pub use Rattle.std.specs.Option.{option_copied, option_map, option_or}
 pub use Rattle.std.specs.Prelude.{Err, IfErr, IfSome, IsOk, Ok, OnErr, Result, codes, drop, filter, is_none, length, nat_le, nat_lt, slice_get, slice_index_or, ◌≢◌}
 pub use Rattle.std.specs.Str.{bytes_eq}
 pub use Rattle.mq_lemmas.proofs.Booleans.{and_false, neither, neither_first, neither_second, neither_so, never, not_false, or_false, or_first, or_second, true_false}
-pub use Rattle.mq_lemmas.proofs.Lists.{all_append, all_drop, all_push, no_rest}
+pub use Rattle.mq_lemmas.proofs.Lists.{all_append, all_drop, all_push, empty, no_rest}
 pub use Rattle.mq_lemmas.proofs.Options.{none_some, some_is}
 pub use Rattle.mq_request.specs.Same.{same_id, same_request, same_text}
 pub use Rattle.mq_request.specs.declared.message.Id.{Id}

@@ -1,7 +1,7 @@
 use Rattle.std.proofs.Common.{◌≡◌, ◌++◌, [], length, false, true, subst, sym, ap, ◌∙◌, arith, rules}
-use Rattle.mq_client.proofs.Words.{AllByRecursion, IsFramed, IsSent, NoneYet, requests_of}
+use Rattle.mq_client.proofs.Words.{empty, AllByRecursion, IsFramed, IsSent, NoneYet, requests_of}
 use Rattle.mq_client.proofs.Telling.{Tells-none, told_both}
-use Rattle.mq_client.proofs.Sending.{starts_with, front_is, nil_from_length, sends_more, sends_stop, sends_all, some_in_time, late_after}
+use Rattle.mq_client.proofs.Sending.{starts_with, front_is, sends_more, sends_stop, sends_all, some_in_time, late_after}
 use Rattle.mq_client.proofs.tries.send_all.Goals as goal
 
 pub loop-closing-init : goal.loop-closing-init
@@ -24,10 +24,10 @@ returns-then-not-is_decided-clause-step g c =
 pub returns-clause-step : goal.returns-clause-step
 returns-clause-step g c =
     let i = c.loop-closing.invariant in
-    let empty : length c.loop-closing.outbox.items ≡ 0 = search rules in (
+    let gone : length c.loop-closing.outbox.items ≡ 0 = search rules in (
       i.done,
       i.told,
-      sends_all c.args.tries (requests_of c.args.outbox.now.items) (requests_of c.loop-closing.outbox.items) i.done (ap requests_of (nil_from_length _ empty)) i.sends,
+      sends_all c.args.tries (requests_of c.args.outbox.now.items) (requests_of c.loop-closing.outbox.items) i.done (ap requests_of (empty _ (omega (arith, gone)))) i.sends,
       sym (some_in_time _ _ i.done _ i.sends),
     )
 
