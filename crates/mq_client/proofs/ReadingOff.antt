@@ -88,25 +88,22 @@ ask_read : (t txn moment : ℕ) (login : List ℕ) (answer : Asked) (v : View) (
 ask_read t txn moment login answer v P true e all read = ap (λ o. live_or o (closed_in P t)) (ask_live t txn moment login answer v P true e all)
 ask_read t txn moment login answer v P false e all read = read t
 
+-- a transaction is as it was where another is closed
+other_ended : (t number txn : ℕ) (end : CloseEnd) (o : Option Held) (before : Standing) → (txn == t) ≡ false → standing_or (closed_by t number (Close txn end) o) before ≡ before
+other_ended t number txn end None before f = refl
+other_ended t number txn end (Some h) before f = rw f refl
+
 close_read : (s : Source) (t txn : ℕ) (end : CloseEnd) (group : List Exchange) (k : Bool) (v : View) (P : List Step) (o : Option Held) (b : Bool) → held_by (v.standing txn) ≡ o → (txn == t) ≡ b → v.numbers ≡ numbers_in P → IsLiveRead v P → IsRead v P
     → (after_close s txn end group v o).standing t ≡ live_or (live_by (asks_after t b (record { action = Close txn end; group = group; quiet = k }) P)) (standing_or (closed_by t (numbers_in P + 1) (Close txn end) (live_in P t)) (closed_in P t))
 close_read s t txn end group k v P None true e f n all read =
     let absent : live_in P t ≡ None = sym (all t) ∙ ap (λ k. held_by (v.standing k)) (sym (eqb-true txn t f)) ∙ e in
     read t ∙ rw absent refl
 close_read s t txn end group k v P None false e f n all read = read t ∙ ap (live_or (live_in P t)) (sym (other_ended t (numbers_in P + 1) txn end (live_in P t) (closed_in P t) f))
-  where
-    other_ended : (t number txn : ℕ) (end : CloseEnd) (o : Option Held) (before : Standing) → (txn == t) ≡ false → standing_or (closed_by t number (Close txn end) o) before ≡ before
-    other_ended t number txn end None before f = refl
-    other_ended t number txn end (Some h) before f = rw f refl
 close_read s t txn end group k v P (Some h) true e f n all read =
     let there : live_in P t ≡ Some h = sym (all t) ∙ ap (λ k. held_by (v.standing k)) (sym (eqb-true txn t f)) ∙ e in
     rw (f, there, f) (ap (λ k. Closed end (k + 1) h) n)
 close_read s t txn end group k v P (Some h) false e f n all read =
-    rw f (read t ∙ ap (live_or (live_in P t)) (sym (other_too t (numbers_in P + 1) txn end (live_in P t) (closed_in P t) f)))
-  where
-    other_too : (t number txn : ℕ) (end : CloseEnd) (o : Option Held) (before : Standing) → (txn == t) ≡ false → standing_or (closed_by t number (Close txn end) o) before ≡ before
-    other_too t number txn end None before f = refl
-    other_too t number txn end (Some h) before f = rw f refl
+    rw f (read t ∙ ap (live_or (live_in P t)) (sym (other_ended t (numbers_in P + 1) txn end (live_in P t) (closed_in P t) f)))
 
 read_step : (s : Source) (v : View) (P : List Step) (a : Action) (group : List Exchange) (k : Bool) → v.numbers ≡ numbers_in P → IsLiveRead v P → IsRead v P → IsRead (after s v a group) (record { action = a; group = group; quiet = k } ∷ P)
 read_step s v P (Ask txn moment login) [] k n all read = read

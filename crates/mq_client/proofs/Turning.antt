@@ -46,9 +46,9 @@ tried n queue done (x ∷ tries) q r k c e t = come_decided n queue (tries ++ do
 
 -- what stands in front after some were dropped
 front_of_drop : (k : ℕ) (queue left : List Request) (q : Request) → q ∷ left ≡ drop k queue → slice_get queue k ≡ Some q
-front_of_drop zero [] left q e = let no : ⊥ = cc in absurd no
+front_of_drop zero [] left q e = absurd cc
 front_of_drop zero (x ∷ queue) left q e = ap (λ l. slice_get l 0) (sym e)
-front_of_drop (suc k) [] left q e = let no : ⊥ = cc in absurd no
+front_of_drop (suc k) [] left q e = absurd cc
 front_of_drop (suc k) (x ∷ queue) left q e = front_of_drop k queue left q e
 
 some_come : (n : ℕ) (queue : List Request) (group : List Exchange) (left : List Request) → SendsSome n queue group left → Comes n queue group 0 (decisions group)
@@ -57,37 +57,62 @@ some_come n queue group left (OneMore q more done tries r s t) =
     let c = tried n queue done tries q r (decisions done) (some_come n queue done (q ∷ more) s) (front_of_drop (decisions done) queue more q (some_left n queue done (q ∷ more) s)) t in
     record { in_turn = c.in_turn; failed_is = c.failed_is; decided_is = refl }
 
-sends_come : (n : ℕ) (queue : List Request) (group : List Exchange) (left : List Request) → Sends n queue group left → ComeInTurn n queue group
-sends_come n queue group left (SendsAll done s) = (some_come n queue group [] s).in_turn
-sends_come n queue group left (SendsUpTo q more done [] s t) = (some_come n queue done (q ∷ more) s).in_turn
-sends_come n queue group left (SendsUpTo q more done (x ∷ tries) s t) =
-    (all_failed n queue done (x ∷ tries) q (decisions done) (some_come n queue done (q ∷ more) s) (front_of_drop (decisions done) queue more q (some_left n queue done (q ∷ more) s)) t.0 (omega (arith, t.1))).in_turn
-
 nothing_yet : (n : ℕ) (queue : List Request) → Comes n queue [] 0 0
 nothing_yet n queue = record { in_turn = tt; failed_is = refl; decided_is = refl }
 
-tries_come : (n : ℕ) (q : Request) (group : List Exchange) (decided : Option Reply) → AreTries n q group decided → ComeInTurn n (q ∷ []) group
-tries_come n q group None t =
-    let c = all_failed n (q ∷ []) [] group q 0 (nothing_yet n (q ∷ [])) refl t.0 (omega (arith, t.1)) in
-    subst (λ (l : List Exchange). ComeInTurn n (q ∷ []) l) (append-nil group) c.in_turn
-tries_come n q [] (Some r) t = absurd t
-tries_come n q (x ∷ group) (Some r) t =
-    let c = tried n (q ∷ []) [] (x ∷ group) q r 0 (nothing_yet n (q ∷ [])) refl t in
-    subst (λ (l : List Exchange). ComeInTurn n (q ∷ []) l) (append-nil (x ∷ group)) c.in_turn
+-- ---- the end of a step
 
-ask_comes : (b : Bool) (n : ℕ) (q : Request) (group : List Exchange) → MatchBool b (group ≡ []) ((decided : Option Reply) × AreTries n q group decided) → ComeInTurn n (if b then [] else q ∷ []) group
-ask_comes true n q group e = rw e tt
-ask_comes false n q group (decided, t) = tries_come n q group decided t
+none_by_tries : (n : ℕ) (queue : List Request) (group : List Exchange) → n ≤ failures group → next_of n queue group ≡ None
+none_by_tries n queue group h = rw (le-leb n (failures group) h) refl
 
-turns_from : (s : Source) (n : ℕ) (v : View) (o : Option Held) (a : Action) (group : List Exchange) → PlaysFrom s n o (length v.live) v.numbers v.waiting a group → ComeInTurn n (queue_of s v o a) group
-turns_from s n v o (Ask txn moment login) group plays = ask_comes (refuses o (length v.live) v.numbers (length v.waiting) moment login) n (reserve_of s (v.numbers + 1) txn moment login) group plays
-turns_from s n v None (Close txn end) group plays = rw plays tt
-turns_from s n v (Some h) (Close txn end) group (left, sends) = sends_come n _ group left sends
-turns_from s n v o Drain group (left, sends) = sends_come n v.waiting group left sends
+none_by_queue : (n : ℕ) (queue : List Request) (group : List Exchange) → slice_get queue (decisions group) ≡ None → next_of n queue group ≡ None
+none_by_queue n queue group e = of_either (λ (o : Option Request). o ≡ None) (nat_le n (failures group)) None (slice_get queue (decisions group)) refl e
+
+none_of_drop : (k : ℕ) (queue : List Request) → [] ≡ drop k queue → slice_get queue k ≡ None
+none_of_drop zero [] e = refl
+none_of_drop zero (x ∷ queue) e = absurd cc
+none_of_drop (suc k) [] e = refl
+none_of_drop (suc k) (x ∷ queue) e = none_of_drop k queue e
+
+-- the exchanges came in turn, and none is the next one
+abbrev IsOver : (n : ℕ) (queue : List Request) (group : List Exchange) → Type 0
+IsOver n queue group = ComeInTurn n queue group × (next_of n queue group ≡ None)
+
+sends_over : (n : ℕ) (queue : List Request) (group : List Exchange) (left : List Request) → Sends n queue group left → IsOver n queue group
+sends_over n queue group left (SendsAll done s) = ((some_come n queue group [] s).in_turn, none_by_queue n queue group (none_of_drop (decisions group) queue (some_left n queue group [] s)))
+sends_over n queue group left (SendsUpTo q more done tries s t) =
+    let c = all_failed n queue done tries q (decisions done) (some_come n queue done (q ∷ more) s) (front_of_drop (decisions done) queue more q (some_left n queue done (q ∷ more) s)) t.0 (omega (arith, t.1)) in
+    (c.in_turn, none_by_tries n queue (tries ++ done) (omega (arith, c.failed_is, t.1)))
+
+tries_over : (n : ℕ) (q : Request) (group : List Exchange) (decided : Option Reply) → AreTries n q group decided → IsOver n (q ∷ []) group
+tries_over n q group None t =
+    let c = rw append-nil at (all_failed n (q ∷ []) [] group q 0 (nothing_yet n (q ∷ [])) refl t.0 (omega (arith, t.1))) in
+    (c.in_turn, none_by_tries n (q ∷ []) group (omega (arith, c.failed_is, t.1)))
+tries_over n q [] (Some r) t = absurd t
+tries_over n q (x ∷ group) (Some r) t =
+    let c = rw append-nil at (tried n (q ∷ []) [] (x ∷ group) q r 0 (nothing_yet n (q ∷ [])) refl t) in
+    (c.in_turn, none_by_queue n (q ∷ []) (x ∷ group) (ap (slice_get (q ∷ [])) c.decided_is))
+
+ask_over : (b : Bool) (n : ℕ) (q : Request) (group : List Exchange) → MatchBool b (group ≡ []) ((decided : Option Reply) × AreTries n q group decided) → IsOver n (if b then [] else q ∷ []) group
+ask_over true n q group e = rw e (tt, none_by_queue n [] [] refl)
+ask_over false n q group (decided, t) = tries_over n q group decided t
+
+over_from : (s : Source) (n : ℕ) (v : View) (o : Option Held) (a : Action) (group : List Exchange) → PlaysFrom s n o (length v.live) v.numbers v.waiting a group → IsOver n (queue_of s v o a) group
+over_from s n v o (Ask txn moment login) group plays = ask_over (refuses o (length v.live) v.numbers (length v.waiting) moment login) n (reserve_of s (v.numbers + 1) txn moment login) group plays
+over_from s n v None (Close txn end) group plays = rw plays (tt, none_by_queue n [] [] refl)
+over_from s n v (Some h) (Close txn end) group (left, sends) = sends_over n _ group left sends
+over_from s n v o Drain group (left, sends) = sends_over n v.waiting group left sends
+
+over : (s : Source) (n : ℕ) (P : List Step) (x : Step) → Plays s n P x → IsOver (tries_in n x.quiet) (queue_of s (view s P) (held_for (view s P) x.action) x.action) x.group
+over s n P x plays = over_from s (tries_in n x.quiet) (view s P) (held_for (view s P) x.action) x.action x.group plays
 
 -- each exchange of a step is the next one
 pub turns : (s : Source) (n : ℕ) (P : List Step) (x : Step) → Plays s n P x → IsUnderway s n P x
-turns s n P x plays = turns_from s (tries_in n x.quiet) (view s P) (held_for (view s P) x.action) x.action x.group plays
+turns s n P x plays = (over s n P x plays).0
+
+-- after the exchanges of a step none is the next one
+pub none_next : (s : Source) (n : ℕ) (P : List Step) (x : Step) → Plays s n P x → next_in s n P x ≡ None
+none_next s n P x plays = (over s n P x plays).1
 
 pub all_turns : (s : Source) (n : ℕ) (P : List Step) → IsPlayed s n P → AreUnderway s n P
 all_turns s n [] played = tt
@@ -100,51 +125,6 @@ next_in_queue n queue group q e = by_tries (nat_le n (failures group)) refl e
     by_tries : (b : Bool) → nat_le n (failures group) ≡ b → (if b then None else slice_get queue (decisions group)) ≡ Some q → (failures group < n) × (slice_get queue (decisions group) ≡ Some q)
     by_tries true f e = absurd (none_some q e)
     by_tries false f e = (leb-false n (failures group) f, e)
-
--- ---- the end of a step
-
-none_by_tries : (n : ℕ) (queue : List Request) (group : List Exchange) → n ≤ failures group → next_of n queue group ≡ None
-none_by_tries n queue group h = rw (le-leb n (failures group) h) refl
-
-none_by_queue : (n : ℕ) (queue : List Request) (group : List Exchange) → slice_get queue (decisions group) ≡ None → next_of n queue group ≡ None
-none_by_queue n queue group e = of_either (λ (o : Option Request). o ≡ None) (nat_le n (failures group)) None (slice_get queue (decisions group)) refl e
-
-none_of_drop : (k : ℕ) (queue : List Request) → [] ≡ drop k queue → slice_get queue k ≡ None
-none_of_drop zero [] e = refl
-none_of_drop zero (x ∷ queue) e = let no : ⊥ = cc in absurd no
-none_of_drop (suc k) [] e = refl
-none_of_drop (suc k) (x ∷ queue) e = none_of_drop k queue e
-
-sends_end : (n : ℕ) (queue : List Request) (group : List Exchange) (left : List Request) → Sends n queue group left → next_of n queue group ≡ None
-sends_end n queue group left (SendsAll done s) = none_by_queue n queue group (none_of_drop (decisions group) queue (some_left n queue group [] s))
-sends_end n queue group left (SendsUpTo q more done tries s t) =
-    let c = all_failed n queue done tries q (decisions done) (some_come n queue done (q ∷ more) s) (front_of_drop (decisions done) queue more q (some_left n queue done (q ∷ more) s)) t.0 (omega (arith, t.1)) in
-    none_by_tries n queue (tries ++ done) (omega (arith, c.failed_is, t.1))
-
-tries_end : (n : ℕ) (q : Request) (group : List Exchange) (decided : Option Reply) → AreTries n q group decided → next_of n (q ∷ []) group ≡ None
-tries_end n q group None t =
-    let c = all_failed n (q ∷ []) [] group q 0 (nothing_yet n (q ∷ [])) refl t.0 (omega (arith, t.1)) in
-    let failed : failures group ≡ length group = subst (λ (l : List Exchange). failures l ≡ length group) (append-nil group) c.failed_is in
-    none_by_tries n (q ∷ []) group (omega (arith, failed, t.1))
-tries_end n q [] (Some r) t = absurd t
-tries_end n q (x ∷ group) (Some r) t =
-    let c = tried n (q ∷ []) [] (x ∷ group) q r 0 (nothing_yet n (q ∷ [])) refl t in
-    let decided : decisions (x ∷ group) ≡ 1 = subst (λ (l : List Exchange). decisions l ≡ 1) (append-nil (x ∷ group)) c.decided_is in
-    none_by_queue n (q ∷ []) (x ∷ group) (ap (slice_get (q ∷ [])) decided)
-
-ask_ends : (b : Bool) (n : ℕ) (q : Request) (group : List Exchange) → MatchBool b (group ≡ []) ((decided : Option Reply) × AreTries n q group decided) → next_of n (if b then [] else q ∷ []) group ≡ None
-ask_ends true n q group e = rw e (none_by_queue n [] [] refl)
-ask_ends false n q group (decided, t) = tries_end n q group decided t
-
-end_from : (s : Source) (n : ℕ) (v : View) (o : Option Held) (a : Action) (group : List Exchange) → PlaysFrom s n o (length v.live) v.numbers v.waiting a group → next_of n (queue_of s v o a) group ≡ None
-end_from s n v o (Ask txn moment login) group plays = ask_ends (refuses o (length v.live) v.numbers (length v.waiting) moment login) n (reserve_of s (v.numbers + 1) txn moment login) group plays
-end_from s n v None (Close txn end) group plays = rw plays (none_by_queue n [] [] refl)
-end_from s n v (Some h) (Close txn end) group (left, sends) = sends_end n _ group left sends
-end_from s n v o Drain group (left, sends) = sends_end n v.waiting group left sends
-
--- after the exchanges of a step none is the next one
-pub none_next : (s : Source) (n : ℕ) (P : List Step) (x : Step) → Plays s n P x → next_in s n P x ≡ None
-none_next s n P x plays = end_from s (tries_in n x.quiet) (view s P) (held_for (view s P) x.action) x.action x.group plays
 
 -- ---- what follows from how exchanges ended
 
@@ -174,8 +154,8 @@ same_exchange U x y e f h i =
 -- exchanges that came in turn and ended alike are the same
 pub same_turns : OneReply → (n : ℕ) (queue : List Request) (g h : List Exchange) → ComeInTurn n queue g → ComeInTurn n queue h → outcomes g ≡ outcomes h → g ≡ h
 same_turns U n queue [] [] c d e = refl
-same_turns U n queue [] (y ∷ h) c d e = let no : ⊥ = cc in absurd no
-same_turns U n queue (x ∷ g) [] c d e = let no : ⊥ = cc in absurd no
+same_turns U n queue [] (y ∷ h) c d e = absurd cc
+same_turns U n queue (x ∷ g) [] c d e = absurd cc
 same_turns U n queue (x ∷ g) (y ∷ h) c d e =
     let tail = same_turns U n queue g h c.2 d.2 (cons_tail _ _ _ _ e) in
     let outcome = cons_head x.outcome y.outcome (outcomes g) (outcomes h) e in

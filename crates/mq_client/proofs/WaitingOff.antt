@@ -172,9 +172,9 @@ waits_more dec closings waiting n q w c e = record {
   beyond = λ r d h. w.beyond r d (omega (arith, h));
 }
 
--- exchanges of what waits
-waits_sent : (dec : Request → Bool) (closings queue left : List Request) (n : ℕ) (group : List Exchange) → Waits dec closings queue n → Splits queue group left → Waits (λ q. is_decided_by group q || dec q) closings left n
-waits_sent dec closings queue left n group w p =
+-- exchanges of what waits, or of no closing under a number of their own or not
+waits_sent : (dec : Request → Bool) (closings queue left : List Request) (n m : ℕ) (group : List Exchange) → Waits dec closings queue n → n ≤ m → Splits queue group left → Waits (λ q. is_decided_by group q || dec q) closings left m
+waits_sent dec closings queue left n m group w le p =
     let parts : closings ≡ w.done ++ (p.done ++ left) = w.whole ∙ ap (λ l. w.done ++ l) p.whole in
     let ordered : Ascends (p.done ++ left) = ascends_back w.done (p.done ++ left) (subst Ascends parts w.ascends) in
     let closing_parts = all_both IsClosing w.done (p.done ++ left) (subst (AllByRecursion IsClosing) parts w.closing) in
@@ -191,23 +191,8 @@ waits_sent dec closings queue left n group w p =
           (all_two IsClosing (ComesAfter p.done) (λ q. IsClosing q × ComesAfter p.done q) left (λ q a b. (a, b)) (all_both IsClosing p.done left closing_parts.1).1 (comes_after p.done left ordered)) open_parts.1;
       closing = w.closing;
       ascends = w.ascends;
-      below = w.below;
-      beyond = λ q c h. neither_so (is_decided_by group q) (dec q) (p.others q c (all_weaker (λ r. seq_of r ≤ n) (λ r. seq_of r < seq_of q) p.done (λ r i. omega (arith, i, h)) below_done)) (w.beyond q c h);
-    }
-
--- exchanges of no closing, under a number of their own or not
-waits_asked : (dec : Request → Bool) (closings waiting : List Request) (n m : ℕ) (group : List Exchange) → Waits dec closings waiting n → n ≤ m → ((q : Request) → IsClosing q → is_decided_by group q ≡ false) → Waits (λ q. is_decided_by group q || dec q) closings waiting m
-waits_asked dec closings waiting n m group w le quiet =
-    let parts = all_both IsClosing w.done waiting (subst (AllByRecursion IsClosing) w.whole w.closing) in
-    record {
-      done = w.done;
-      whole = w.whole;
-      decided = all_weaker (λ q. dec q ≡ true) (λ q. (is_decided_by group q || dec q) ≡ true) w.done (λ q e. or_second (is_decided_by group q) (dec q) e) w.decided;
-      undecided = all_two IsClosing (λ q. dec q ≡ false) (λ q. (is_decided_by group q || dec q) ≡ false) waiting (λ q c e. neither_so (is_decided_by group q) (dec q) (quiet q c) e) parts.1 w.undecided;
-      closing = w.closing;
-      ascends = w.ascends;
       below = all_weaker (λ q. seq_of q ≤ n) (λ q. seq_of q ≤ m) closings (λ q h. omega (arith, h, le)) w.below;
-      beyond = λ q c h. neither_so (is_decided_by group q) (dec q) (quiet q c) (w.beyond q c (omega (arith, h, le)));
+      beyond = λ q c h. neither_so (is_decided_by group q) (dec q) (p.others q c (all_weaker (λ r. seq_of r ≤ n) (λ r. seq_of r < seq_of q) p.done (λ r i. omega (arith, i, h, le)) below_done)) (w.beyond q c (omega (arith, h, le)));
     }
 
 -- ---- over a past
@@ -215,37 +200,38 @@ waits_asked dec closings waiting n m group w le quiet =
 abbrev WaitsIn : Source → View → List Step → Type 0
 WaitsIn s v P = Waits (is_decided_in P) (closings_in s P) v.waiting v.numbers
 
-ask_waits : (s : Source) (n : ℕ) (v : View) (P : List Step) (txn moment : ℕ) (login : List ℕ) (group : List Exchange) (b : Bool) → ComeInTurn n (if b then [] else reserve_of s (v.numbers + 1) txn moment login ∷ []) group → (m : ℕ) → v.numbers ≤ m → WaitsIn s v P
-    → Waits (λ q. is_decided_by group q || is_decided_in P q) (closings_in s P ++ []) v.waiting m
-ask_waits s n v P txn moment login [] b turns m le w = rw append-nil (waits_asked _ _ _ v.numbers m [] w le (λ q c. refl))
-ask_waits s n v P txn moment login (x ∷ group) true turns m le w = absurd (none_some x.request (next_in_queue n [] group x.request turns.0).1)
-ask_waits s n v P txn moment login (x ∷ group) false turns m le w =
-    rw append-nil (waits_asked _ _ _ v.numbers m (x ∷ group) w le (λ q c. ask_none n (reserve_of s (v.numbers + 1) txn moment login) (x ∷ group) q turns (reserve_other s (v.numbers + 1) txn moment login q c)))
-
 nothing_sent : (n : ℕ) (group : List Exchange) → ComeInTurn n [] group → group ≡ []
 nothing_sent n [] turns = refl
 nothing_sent n (x ∷ group) turns = absurd (none_some x.request (next_in_queue n [] group x.request turns.0).1)
+
+quiet_ask : (s : Source) (n k txn moment : ℕ) (login : List ℕ) (group : List Exchange) (b : Bool) → ComeInTurn n (if b then [] else reserve_of s k txn moment login ∷ []) group → (q : Request) → IsClosing q → is_decided_by group q ≡ false
+quiet_ask s n k txn moment login group true turns q c = rw (nothing_sent n group turns) refl
+quiet_ask s n k txn moment login group false turns q c = ask_none n (reserve_of s k txn moment login) group q turns (reserve_other s k txn moment login q c)
+
+ask_waits : (s : Source) (v : View) (P : List Step) (group : List Exchange) → ((q : Request) → IsClosing q → is_decided_by group q ≡ false) → (m : ℕ) → v.numbers ≤ m → WaitsIn s v P
+    → Waits (λ q. is_decided_by group q || is_decided_in P q) (closings_in s P ++ []) v.waiting m
+ask_waits s v P group quiet m le w = rw append-nil (waits_sent _ _ v.waiting v.waiting v.numbers m group w le (record { done = []; whole = refl; decided = tt; others = λ q c h. quiet q c }))
 
 close_waits : (s : Source) (n : ℕ) (v : View) (P : List Step) (txn : ℕ) (end : CloseEnd) (group : List Exchange) (o : Option Held) → v.numbers ≡ numbers_in P → live_in P txn ≡ o
     → ComeInTurn n (queue_of s v o (Close txn end)) group → WaitsIn s v P
     → Waits (λ q. is_decided_by group q || is_decided_in P q) (closings_in s P ++ closing_under s (numbers_in P + 1) txn end (live_in P txn)) (after_close s txn end group v o).waiting (after_close s txn end group v o).numbers
 close_waits s n v P txn end group None same live turns w =
-    rw (live, append-nil) (waits_asked (is_decided_in P) (closings_in s P) v.waiting v.numbers v.numbers group w (omega arith) (λ q c. rw (nothing_sent n group turns) refl))
+    rw live (ask_waits s v P group (λ q c. rw (nothing_sent n group turns) refl) v.numbers (omega arith) w)
 close_waits s n v P txn end group (Some h) same live turns w =
     let q = closing_of s (v.numbers + 1) txn end h in
     let (closing, number) = closing_is s (v.numbers + 1) txn end h in
     let more = waits_more (is_decided_in P) (closings_in s P) v.waiting v.numbers q w closing number in
     let queue_closing = (all_both IsClosing more.done (v.waiting ++ q ∷ []) (subst (AllByRecursion IsClosing) more.whole more.closing)).1 in
-    rw (live, ← same) (waits_sent (is_decided_in P) (closings_in s P ++ q ∷ []) (v.waiting ++ q ∷ []) (drop (decisions group) (v.waiting ++ q ∷ [])) (v.numbers + 1) group more (splits n (v.waiting ++ q ∷ []) group queue_closing turns))
+    rw (live, ← same) (waits_sent (is_decided_in P) (closings_in s P ++ q ∷ []) (v.waiting ++ q ∷ []) (drop (decisions group) (v.waiting ++ q ∷ [])) (v.numbers + 1) (v.numbers + 1) group more (omega arith) (splits n (v.waiting ++ q ∷ []) group queue_closing turns))
 
 waits_step : (s : Source) (n : ℕ) (v : View) (P : List Step) (a : Action) (group : List Exchange) (k : Bool) → v.numbers ≡ numbers_in P → ((t : ℕ) → held_by (v.standing t) ≡ live_in P t)
     → ComeInTurn n (queue_of s v (held_for v a) a) group → WaitsIn s v P → WaitsIn s (after s v a group) (record { action = a; group = group; quiet = k } ∷ P)
-waits_step s n v P (Ask txn moment login) [] k same live turns w = ask_waits s n v P txn moment login [] true turns v.numbers (omega arith) w
-waits_step s n v P (Ask txn moment login) (x ∷ group) k same live turns w = ask_waits s n v P txn moment login (x ∷ group) _ turns (v.numbers + 1) (omega arith) w
+waits_step s n v P (Ask txn moment login) [] k same live turns w = ask_waits s v P [] (λ q c. refl) v.numbers (omega arith) w
+waits_step s n v P (Ask txn moment login) (x ∷ group) k same live turns w = ask_waits s v P (x ∷ group) (quiet_ask s n (v.numbers + 1) txn moment login (x ∷ group) _ turns) (v.numbers + 1) (omega arith) w
 waits_step s n v P (Close txn end) group k same live turns w = close_waits s n v P txn end group (held_by (v.standing txn)) same (sym (live txn)) turns w
 waits_step s n v P Drain group k same live turns w =
     let queue_closing = (all_both IsClosing w.done v.waiting (subst (AllByRecursion IsClosing) w.whole w.closing)).1 in
-    rw append-nil (waits_sent (is_decided_in P) (closings_in s P) v.waiting (drop (decisions group) v.waiting) v.numbers group w (splits n v.waiting group queue_closing turns))
+    rw append-nil (waits_sent (is_decided_in P) (closings_in s P) v.waiting (drop (decisions group) v.waiting) v.numbers v.numbers group w (omega arith) (splits n v.waiting group queue_closing turns))
 
 waits : (s : Source) (n : ℕ) (P : List Step) → AreUnderway s n P → WaitsIn s (view s P) P
 waits s n [] u = record { done = []; whole = refl; decided = tt; undecided = tt; closing = tt; ascends = tt; below = tt; beyond = λ q c h. refl }
