@@ -1,5 +1,5 @@
 -- Small facts of choices, options and lists.
-use Rattle.std.proofs.Common.{◌≡◌, ◌&&◌, ℕ, zero, suc, Bool, true, false, List, [], ◌∷◌, subst, refl, Option, None, Some, if◌then◌else◌}
+use Rattle.std.proofs.Common.{◌≡◌, ◌&&◌, ℕ, zero, suc, Bool, true, false, List, [], ◌∷◌, ◌++◌, subst, refl, Option, None, Some, if◌then◌else◌}
 use Rattle.mq_client.proofs.Words.{AllByRecursion, CloseEnd, Held, Release, Request, Settle, Source, closing_of, id_of, is_commit, nat_le, none_some, option_map, slice_get, some_is}
 
 pub nil_cons : {A : Type 0} (x : A) (xs : List A) → [] ≡ x ∷ xs → ⊥
@@ -14,6 +14,10 @@ cons_tail x y xs ys e = cc
 pub all_weaker : {A : Type 0} (P Q : A → Type 0) (xs : List A) → ((x : A) → P x → Q x) → AllByRecursion P xs → AllByRecursion Q xs
 all_weaker P Q [] f all = tt
 all_weaker P Q (x ∷ xs) f all = (f x all.0, all_weaker P Q xs f all.1)
+
+pub all_both : {A : Type 0} (P : A → Type 0) (xs ys : List A) → AllByRecursion P (xs ++ ys) → AllByRecursion P xs × AllByRecursion P ys
+all_both P [] ys all = (tt, all)
+all_both P (x ∷ xs) ys all = let (a, b) = all_both P xs ys all.1 in ((all.0, a), b)
 
 pub all_at : {A : Type 0} (P : A → Type 0) (k : ℕ) (xs : List A) (x : A) → AllByRecursion P xs → slice_get xs k ≡ Some x → P x
 all_at P k [] x all e = absurd (none_some x e)

@@ -1,6 +1,7 @@
 -- The live transactions of a past, each once.
 use Rattle.std.proofs.Common.{◌≡◌, ℕ, ◌+◌, ◌==◌, Bool, false, true, List, [], ◌∷◌, length, refl, sym, ap, ◌∙◌, arith, Option, None, Some, is_some, if◌then◌else◌}
 use Rattle.mq_client.proofs.Words.{Action, Ask, Close, CloseEnd, Closed, Drain, Exchange, Held, Live, Source, Step, View, after, after_close, both_ways, eq-eqb, eqb-true, held_by, ne_eqb, view, with_asked, without}
+use Rattle.mq_client.proofs.Basics.{of_either}
 
 abbrev pub count_in : ℕ → List ℕ → ℕ
 count_in t [] = 0
@@ -33,12 +34,8 @@ count_without_at t u x xs true false e f h = rw (other_number t u x e f) h
 count_without_at t u x xs false true e f h = rw (same_number t u x e f) h
 count_without_at t u x xs false false e f h = ap (λ n. if x == t then n + 1 else n) h
 
-zero_either : (b : Bool) (z : ℕ) → z ≡ (if b then z else z)
-zero_either true z = refl
-zero_either false z = refl
-
 pub count_without : (t u : ℕ) (xs : List ℕ) → count_in t (without u xs) ≡ (if u == t then 0 else count_in t xs)
-count_without t u [] = zero_either (u == t) 0
+count_without t u [] = of_either (λ (n : ℕ). 0 ≡ n) (u == t) 0 0 refl refl
 count_without t u (x ∷ xs) = count_without_at t u x xs (x == u) (u == t) refl refl (count_without t u xs)
 
 -- each live transaction is listed once, and no other

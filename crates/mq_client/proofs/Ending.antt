@@ -33,16 +33,13 @@ first_line C line left rest s =
 at_line : (C : Cutting) (stage : Stage) (line left rest : List ℕ) (o : Option FilterFault) → StandsFirst line left → Front stage line o → Fate stage (all_lines (left ++ rest)) (left_over (left ++ rest)) o
 at_line C stage line left rest o s f = AtLine line (all_lines (s.rest ++ rest)) (first_line C line left rest s) f
 
-both_nil : (left rest : List ℕ) → left ≡ [] → rest ≡ [] → left ++ rest ≡ []
-both_nil left rest e f = ap (λ (l : List ℕ). l ++ rest) e ∙ f
-
 found_fate : (C : Cutting) (f : FilterFault) (stage : Stage) (pieces : List (List ℕ)) (left rest : List ℕ) (read_failed write_failed : Bool) → is_of_input f ≡ true → IsFound f stage pieces left (Some rest) read_failed write_failed
     → Fate stage (all_lines (left ++ rest)) (left_over (left ++ rest)) (Some f)
 found_fate C (faults.Line f) stage pieces left rest read_failed write_failed i (line, first, e) = at_line C stage line left rest (Some (faults.Line f)) first (Unread f e refl)
 found_fate C (faults.Track f) stage pieces left rest read_failed write_failed i (L, m, line, s, first, reads, e) = at_line C stage line left rest (Some (faults.Track f)) first (Untracked m L f s reads e refl)
 found_fate C faults.NotReady stage pieces left rest read_failed write_failed i (m, line, s, first, reads, e) = at_line C stage line left rest (Some faults.NotReady) first (TooEarly m s reads e refl)
 found_fate C faults.EndedEarly stage pieces left rest read_failed write_failed i (s, none, end) =
-    let (f, g) = nothing_left C (left ++ rest) (both_nil left rest none end) in
+    let (f, g) = nothing_left C (left ++ rest) (ap (λ (l : List ℕ). l ++ rest) none ∙ end) in
     AtEnd f (NeverReady s g refl)
 found_fate C faults.CutLine stage pieces left rest read_failed write_failed i (some, one, end) =
     let same = no_rest left rest end in
@@ -145,10 +142,7 @@ no_stop_and_end G C o p bytes more others now last read_failed write_failed e g 
     by_kind true k = absurd (clash k)
 
 same_ended : (e f : Ended) → e.answers ≡ f.answers → e.left ≡ f.left → e ≡ f
-same_ended e f a l =
-    let A : ℕ → Ended = λ n. record { answers = n; left = e.left } in
-    let B : ℕ → Ended = λ n. record { answers = f.answers; left = n } in
-    ap A a ∙ ap B l
+same_ended e f a l = ap (λ (n : ℕ). record e { answers = n }) a ∙ ap (λ (n : ℕ). record f { left = n }) l
 
 -- two runs to the end of the same input, whose exchanges ended alike, do the same
 pub same_ends : OneReply → (G : Grammar) (C : Cutting) (o p : Outside) (bytes : List ℕ) (now last : Outside) (e f : Ended) (P : List Step)

@@ -4,11 +4,8 @@ use Rattle.mq_client.proofs.Words.{AllByRecursion, Answers, Asks, Closes, Closin
 use Rattle.std.proofs.lemmas.Bool.Decides.{nat_tests}
 use Rattle.mq_line.specs.declared.results.Decision.TheVariants.{RejectLimit, RejectService}
 
-from_zero : (n : ℕ) → nat_le 0 n ≡ true
-from_zero n = grind (arith, nat_tests)
-
 at_once : (since seconds : ℕ) → is_over 0 since seconds ≡ true
-at_once since seconds = or_second (nat_lt seconds since) (nat_le 0 (seconds - since)) (from_zero (seconds - since))
+at_once since seconds = or_second (nat_lt seconds since) (nat_le 0 (seconds - since)) (grind (arith, nat_tests))
 
 no_pause : (seconds : ℕ) (paused : Option ℕ) → still_paused 0 seconds paused ≡ None
 no_pause seconds None = refl
@@ -44,9 +41,8 @@ loud_none : (step : Option Step) → step ≡ None → IsLoud step
 loud_none step e = subst IsLoud (sym e) tt
 
 loud_answers : (h : Holding) (q : Query) (step : Option Step) (d : Decision) → IsFree h → Answers h q step d → IsLoud step
-loud_answers h Passes step d f a = loud_none step a.0
-loud_answers h Refuses step d f a = loud_none step a.0
 loud_answers h (Asks txn moment login) step d f (group, is, answer) = subst IsLoud (sym is) (ap is_some (none_held h login f))
+loud_answers h q step d f a = loud_none step a.0
 
 loud_closes : (h : Holding) (c : Option Closing) (step : Option Step) → IsFree h → Closes (is_some h.paused) c step → IsLoud step
 loud_closes h None step f is = loud_none step is
@@ -58,9 +54,7 @@ free spans seconds h e f = record { paused = without_pause spans seconds h e; fu
 loud_takes : (spans : Spans) (h : Holding) (L : List Meaning) (m : Meaning) (step : Option Step) (text : List ℕ) → spans.pause ≡ 0 → spans.hold ≡ 0 → Takes (at_line spans m h) L m step text → IsLoud step
 loud_takes spans h L (FilterLine seconds subsystem phase session token rest) step text e f (d, a, is) = loud_answers (still spans seconds h) (query L subsystem phase session) step d (free spans seconds h e f) a
 loud_takes spans h L (ReportLine seconds subsystem name session params) step text e f t = loud_closes (still spans seconds h) (closing L (ReportLine seconds subsystem name session params)) step (free spans seconds h e f) t.1
-loud_takes spans h L (ConfigLine key value) step text e f t = loud_none step t.1
-loud_takes spans h L ReadyLine step text e f t = loud_none step t.1
-loud_takes spans h L OtherLine step text e f t = loud_none step t.1
+loud_takes spans h L m step text e f t = loud_none step t.1
 
 all_push : (step : Option Step) (steps : List Step) → IsLoud step → AllByRecursion (λ (x : Step). x.quiet ≡ false) steps → AllByRecursion (λ (x : Step). x.quiet ≡ false) (push step steps)
 all_push None steps l all = all

@@ -32,9 +32,6 @@ accepted (Some f) x h = absurd cc
 
 -- ---- steps that add up
 
-pub makes_none : (c : State) → MakesAll c c []
-makes_none c = record { source = refl; tries = refl; plays = λ P st. tt; stands = λ P st. st }
-
 pub makes_push : (a b c : State) (steps : List Step) (step : Option Step) → MakesAll a b steps → MakesOne b c step → MakesAll a c (push step steps)
 makes_push a b c steps None m e = subst (λ (x : State). MakesAll a x steps) (sym e) m
 makes_push a b c steps (Some x) m n = record {
@@ -60,9 +57,6 @@ is_ok_by (Ok y) x is = refl
 is_ok_by (Err e) x is = absurd cc
 
 -- ---- lines that add up
-
-early_more : (lines : List (List ℕ)) (line : List ℕ) → AllByRecursion IsEarly lines → IsEarly line → AllByRecursion IsEarly (lines ++ line ∷ [])
-early_more lines line all h = all_push IsEarly lines line all h
 
 ready_new : (lines : List (List ℕ)) (line : List ℕ) → AllByRecursion IsEarly lines → Reads line ReadyLine → IsReady (lines ++ line ∷ []) []
 ready_new lines line all h = record { before = lines; ready = line; after = []; whole = refl; early = all; reads_ready = h; read = refl }
@@ -110,7 +104,7 @@ so_far_more o bytes line rest f f' old new step text stage one s does reaches is
 pub carries_early : (m : Meaning) (f : Filter) (now : Outside) → f.is_ready ≡ false → is_early m ≡ true → Carries m f f now now
 carries_early m f now h e = λ o bytes line rest one reads s.
     let is = at_before f s.stage h s.is_at in
-    so_far_more o bytes line rest f f now now None [] s.stage one s (Does-still now) (rw is (early_more s.lines line (rw is at s.reaches) (m, reads, e))) s.is_at refl (subst (λ (t : List ℕ). HasText o.client.spans s.stage s.steps t f.holdup.1) (sym (append-nil s.text)) s.has_text)
+    so_far_more o bytes line rest f f now now None [] s.stage one s (Does-still now) (rw is (all_push IsEarly s.lines line (rw is at s.reaches) (m, reads, e))) s.is_at refl (subst (λ (t : List ℕ). HasText o.client.spans s.stage s.steps t f.holdup.1) (sym (append-nil s.text)) s.has_text)
 
 -- `config|ready` is answered by the registration
 pub carries_ready : (m : Meaning) (f f' : Filter) (sink sink' : Option (List ℕ)) (told : Option (List Told)) (client : State) → f.is_ready ≡ false → m ≡ ReadyLine → Appends sink sink' registration
@@ -287,7 +281,7 @@ so_far_start sink told client f held none h tracks zero holdup = record {
   has_text = (refl, refl, ap (λ x. x.1) holdup);
   written = Appends-none sink;
   exchanged = Tells-none told;
-  made = makes_none client;
+  made = record { source = refl; tries = refl; plays = λ P st. tt; stands = λ P st. st };
 }
 
 -- a read gave a piece

@@ -127,9 +127,6 @@ one_for_each s n P u =
 
 -- ---- what a settle asks for
 
-reserve_settle : (id id' : Id) (txn moment count txn' moment' count' : ℕ) (login login' : List ℕ) → Reserve id txn moment login count ≡ Settle id' txn' moment' login' count' → ⊥
-reserve_settle id id' txn moment count txn' moment' count' login login' e = cc
-
 closing_settle : (s : Source) (n t : ℕ) (end : CloseEnd) (h : Held) (id : Id) (txn moment count : ℕ) (login : List ℕ) → closing_of s n t end h ≡ Settle id txn moment login count
     → (t ≡ txn) × (end ≡ ending.Commit) × (h.moment ≡ moment) × (h.login ≡ login) × (h.granted ≡ count)
 closing_settle s n t ending.Rollback h id txn moment count login e = let no : ⊥ = cc in absurd no
@@ -156,7 +153,7 @@ later_committed x P txn moment login count w = record {
 
 committed_by : (s : Source) (P : List Step) (a : Action) (group : List Exchange) (k : Bool) (id : Id) (txn moment count : ℕ) (login : List ℕ) → request_by s P a group ≡ Some (Settle id txn moment login count) → WasCommitted (record { action = a; group = group; quiet = k } ∷ P) txn moment login count
 committed_by s P (Ask t m l) [] k id txn moment count login e = absurd (none_some _ e)
-committed_by s P (Ask t m l) (x ∷ group) k id txn moment count login e = absurd (reserve_settle _ _ _ _ _ _ _ _ _ _ (some_is _ _ e))
+committed_by s P (Ask t m l) (x ∷ group) k id txn moment count login e = absurd cc
 committed_by s P Drain group k id txn moment count login e = absurd (none_some _ e)
 committed_by s P (Close t end) group k id txn moment count login e =
     let (h, there, is) = mapped_some (closing_of s (numbers_in P + 1) t end) (live_in P t) (Settle id txn moment login count) e in
@@ -174,15 +171,19 @@ committed_by s P (Close t end) group k id txn moment count login e =
       count_is = count_is;
     }
 
+-- the request of a number is that of the newest step, or stood before it
+under_either : (s : Source) (x : Step) (P : List Step) (n : ℕ) (q : Request) (F : Type 0) → (numbers_in P + 1 ≡ n → request_by s P x.action x.group ≡ Some q → F) → (request_under s P n ≡ Some q → F) → request_under s (x ∷ P) n ≡ Some q → F
+under_either s x P n q F newest before e = by_number (numbers_in P + 1 == n) (request_by s P x.action x.group) refl refl e
+  where
+    by_number : (b : Bool) (o : Option Request) → (numbers_in P + 1 == n) ≡ b → request_by s P x.action x.group ≡ o → (if b then option_or o (request_under s P n) else request_under s P n) ≡ Some q → F
+    by_number true None i f e = before e
+    by_number true (Some r) i f e = newest (eqb-true (numbers_in P + 1) n i) (f ∙ e)
+    by_number false o i f e = before e
+
 committed : (s : Source) (P : List Step) (n : ℕ) (id : Id) (txn moment count : ℕ) (login : List ℕ) → request_under s P n ≡ Some (Settle id txn moment login count) → WasCommitted P txn moment login count
 committed s [] n id txn moment count login e = absurd (none_some _ e)
-committed s (x ∷ P) n id txn moment count login e = by_number (λ f. later_committed x P txn moment login count (committed s P n id txn moment count login f)) (numbers_in P + 1 == n) (request_by s P x.action x.group) refl e
-  where
-    by_number : (request_under s P n ≡ Some (Settle id txn moment login count) → WasCommitted (x ∷ P) txn moment login count) → (b : Bool) (o : Option Request) → request_by s P x.action x.group ≡ o
-        → (if b then option_or o (request_under s P n) else request_under s P n) ≡ Some (Settle id txn moment login count) → WasCommitted (x ∷ P) txn moment login count
-    by_number before true None f e = before e
-    by_number before true (Some q) f e = committed_by s P x.action x.group x.quiet id txn moment count login (f ∙ e)
-    by_number before false o f e = before e
+committed s (x ∷ P) n id txn moment count login e =
+    under_either s x P n _ _ (λ i f. committed_by s P x.action x.group x.quiet id txn moment count login f) (λ f. later_committed x P txn moment login count (committed s P n id txn moment count login f)) e
 
 settles : (s : Source) (P : List Step) (q : Request) → IsNumbered s P q → SettlesWhatWasLet P q
 settles s P (Settle id txn moment login count) i = committed s P i.number id txn moment count login i.under
@@ -194,13 +195,14 @@ all_settle s n P u = all_weaker (λ x. IsNumbered s P x.request) (λ x. SettlesW
 
 -- ---- what the requests of a transaction are
 
-let_login : (answer : Asked) (h : Held) → (let_through answer h).login ≡ h.login
-let_login asked.Granted h = refl
-let_login answer h = refl
-
 pub let_through_at : (answer : Asked) (h : Held) → (let_through answer h).moment ≡ h.moment
 let_through_at asked.Granted h = refl
 let_through_at answer h = refl
+
+-- what an ask lets through changes no reserve
+let_reserve : (s : Source) (n t : ℕ) (answer : Asked) (h : Held) → reserve_of s n t h.moment h.login ≡ reserve_of s n t (let_through answer h).moment (let_through answer h).login
+let_reserve s n t asked.Granted h = refl
+let_reserve s n t answer h = refl
 
 pub ended_not : (end : CloseEnd) (number : ℕ) (h : Held) → is_closed (Closed end number h) ≡ false → ⊥
 ended_not end number h e = cc (e)
@@ -214,17 +216,15 @@ same_asked h moment login more e =
 -- a reserve of a transaction that an ask finds live
 reserve_stays : (s : Source) (n t moment : ℕ) (login : List ℕ) (answer : Asked) (st : Standing) (q : Request) → is_closed st ≡ false → Suits s n t st q → Suits s n t (Live (let_through answer (opened moment login (held_by st)))) q
 reserve_stays s n t moment login answer Never q e suits = absurd suits
-reserve_stays s n t moment login answer (Live h) q e suits = suits ∙ ap (λ (m : ℕ). reserve_of s n t m h.login) (sym (let_through_at answer h)) ∙ ap (λ (l : List ℕ). reserve_of s n t (let_through answer h).moment l) (sym (let_login answer h))
+reserve_stays s n t moment login answer (Live h) q e suits = suits ∙ let_reserve s n t answer h
 reserve_stays s n t moment login answer (Closed end number h) q e suits = absurd (ended_not end number h e)
 
 reserve_new : (s : Source) (n t moment : ℕ) (login : List ℕ) (answer : Asked) (o : Option Held) (live numbers waiting : ℕ) → refuses o live numbers waiting moment login ≡ false
     → reserve_of s n t moment login ≡ reserve_of s n t (let_through answer (opened moment login o)).moment (let_through answer (opened moment login o)).login
-reserve_new s n t moment login answer None live numbers waiting free =
-    let h = opened moment login None in
-    ap (λ (m : ℕ). reserve_of s n t m login) (sym (let_through_at answer h)) ∙ ap (λ (l : List ℕ). reserve_of s n t (let_through answer h).moment l) (sym (let_login answer h))
+reserve_new s n t moment login answer None live numbers waiting free = let_reserve s n t answer (opened moment login None)
 reserve_new s n t moment login answer (Some h) live numbers waiting free =
     let (same_login, same_at) = same_asked h moment login _ free in
-    ap (λ (m : ℕ). reserve_of s n t m login) (sym (let_through_at answer h ∙ same_at)) ∙ ap (λ (l : List ℕ). reserve_of s n t (let_through answer h).moment l) (sym (let_login answer h ∙ same_login))
+    ap (λ (m : ℕ). reserve_of s n t m login) (sym same_at) ∙ ap (λ (l : List ℕ). reserve_of s n t h.moment l) (sym same_login) ∙ let_reserve s n t answer h
 
 closed_stays : (s : Source) (n t number : ℕ) (end : CloseEnd) (h : Held) (st : Standing) (q : Request) → held_by st ≡ Some h → Suits s n t st q → Suits s n t (Closed end number h) q
 closed_stays s n t number end h Never q e suits = absurd suits
@@ -280,10 +280,5 @@ suits_new s tries n t q P v (Close txn end) group same live turns is e named =
 pub all_suit : (s : Source) (tries : ℕ) (P : List Step) → AreUnderway s tries P → NoneReturns s P → (n t : ℕ) (q : Request) → request_under s P n ≡ Some q → txn_in q ≡ Some t → Suits s n t ((view s P).standing t) q
 all_suit s tries [] u fresh n t q e named = absurd (none_some q e)
 all_suit s tries (x ∷ P) u fresh n t q e named =
-    by_number (λ f. suits_old s n t q (view s P) x.action x.group fresh.0 (all_suit s tries P u.1 fresh.1 n t q f named)) (numbers_in P + 1 == n) (request_by s P x.action x.group) refl refl e
-  where
-    by_number : (request_under s P n ≡ Some q → Suits s n t ((view s (x ∷ P)).standing t) q) → (b : Bool) (o : Option Request) → (numbers_in P + 1 == n) ≡ b → request_by s P x.action x.group ≡ o
-        → (if b then option_or o (request_under s P n) else request_under s P n) ≡ Some q → Suits s n t ((view s (x ∷ P)).standing t) q
-    by_number before true None i f e = before e
-    by_number before true (Some r) i f e = suits_new s (tries_in tries x.quiet) n t q P (view s P) x.action x.group (numbers_read s P) (live_read s P) u.0 (eqb-true (numbers_in P + 1) n i) (f ∙ e) named
-    by_number before false o i f e = before e
+    under_either s x P n q _ (λ i f. suits_new s (tries_in tries x.quiet) n t q P (view s P) x.action x.group (numbers_read s P) (live_read s P) u.0 i f named)
+    (λ f. suits_old s n t q (view s P) x.action x.group fresh.0 (all_suit s tries P u.1 fresh.1 n t q f named)) e

@@ -1,10 +1,12 @@
 -- The place where a run comes to its end follows from its whole input.
-use Rattle.std.proofs.Common.{◌≡◌, ℕ, ◌+◌, true, false, List, [], ◌∷◌, ◌++◌, length, refl, sym, ap, ◌∙◌, subst, append_assoc, length-append, arith, Option, None, Some}
-use Rattle.mq_client.proofs.Words.{AfterReady, AllByRecursion, AreRead, BeforeReady, ConfigLine, FilterFault, FilterLine, Filters, HasText, Holding, IsEarly, IsLine, IsReady, IsTooLong, Meaning, OtherLine, Reaches, Reads, ReadyLine, ReportLine, Spans, Stage, Step, Takes, TrackFault, at_line, fault, is_early, is_stamped, none_some, some_is, track_fault, true_false, ◌≢◌}
+use Rattle.std.proofs.Common.{◌≡◌, ℕ, ◌<◌, if◌then◌else◌, ◌+◌, true, false, List, [], ◌∷◌, ◌++◌, length, refl, sym, ap, ◌∙◌, subst, append_assoc, length-append, arith, Option, None, Some}
+use Rattle.mq_client.proofs.Words.{le-leb, lt-leb, nat_le, AfterReady, AllByRecursion, AreRead, BeforeReady, ConfigLine, FilterFault, FilterLine, Filters, HasText, Holding, IsEarly, IsLine, IsReady, IsTooLong, Meaning, OtherLine, Reaches, Reads, ReadyLine, ReportLine, Spans, Stage, Step, Takes, TrackFault, at_line, fault, is_early, is_stamped, none_some, some_is, track_fault, true_false, ◌≢◌}
 use Rattle.mq_line.specs.declared.fault.LineFault.{LineFault}
 use Rattle.mq_client.specs.declared.fault.FilterFault.TheVariants as faults
+use Rattle.mq_line.specs.Text.{max_line}
+use Rattle.mq_lemmas.proofs.Lists.{by_pushes}
 use Rattle.mq_client.proofs.Sameness.{push_front, early_apart, same_after, same_read, same_lines}
-use Rattle.mq_client.proofs.Basics.{nil_cons, cons_head, cons_tail}
+use Rattle.mq_client.proofs.Basics.{all_both, nil_cons, cons_head, cons_tail}
 
 -- a line has one meaning, and none where it has a fault
 pub record Grammar : Type 0 where
@@ -30,14 +32,8 @@ pub data Fate (stage : Stage) (next : List (List ℕ)) (last : List ℕ) (o : Op
   AtLine : (line : List ℕ) (more : List (List ℕ)) → next ≡ line ∷ more → Front stage line o → Fate stage next last o
   AtEnd : next ≡ [] → End stage last o → Fate stage next last o
 
-after_is : (L M : List Meaning) → AfterReady L ≡ AfterReady M → L ≡ M
-after_is L M e = cc
-
-before_after : (L : List Meaning) → BeforeReady ≡ AfterReady L → ⊥
-before_after L e = cc
-
 apart_stages : (stage : Stage) (L : List Meaning) → stage ≡ BeforeReady → stage ≡ AfterReady L → ⊥
-apart_stages stage L e f = before_after L (sym e ∙ f)
+apart_stages stage L e f = cc
 
 read_no_fault : (G : Grammar) (line : List ℕ) (m : Meaning) (f : LineFault) → Reads line m → fault line ≡ Some f → ⊥
 read_no_fault G line m f r e = none_some f (sym (G.no_fault line m r) ∙ e)
@@ -45,7 +41,7 @@ read_no_fault G line m f r e = none_some f (sym (G.no_fault line m r) ∙ e)
 front_apart : (G : Grammar) (stage : Stage) (line : List ℕ) (L : List Meaning) (m n : Meaning) (f g : TrackFault) → stage ≡ AfterReady L → track_fault L m ≡ Some f → Reads line m
     → (M : List Meaning) → stage ≡ AfterReady M → track_fault M n ≡ Some g → Reads line n → f ≡ g
 front_apart G stage line L m n f g s e r M s' e' r' =
-    let same_past : L ≡ M = after_is L M (sym s ∙ s') in
+    let same_past : L ≡ M = cc in
     let same : m ≡ n = G.unique line m n r r' in
     some_is f g (sym e ∙ ap (λ l. track_fault l m) same_past ∙ ap (track_fault M) same ∙ e')
 
@@ -60,34 +56,25 @@ same_front G stage line a b (TooEarly m s r p i) (Unread g e' i') = absurd (read
 same_front G stage line a b (TooEarly m s r p i) (Untracked n M g s' r' e' i') = absurd (apart_stages stage M s s')
 same_front G stage line a b (TooEarly m s r p i) (TooEarly n s' r' p' i') = i ∙ sym i'
 
-long_not_line : (last : List ℕ) → IsLine last → IsTooLong last → ⊥
-long_not_line last one long =
-    let whole : length last ≡ length long.front + length long.rest = ap length long.whole ∙ length-append long.front long.rest in
-    omega (arith, whole, one.short, long.long)
+too_long : (last : List ℕ) → IsTooLong last → max_line < length last
+too_long last long = omega (arith, ap length long.whole ∙ length-append long.front long.rest, long.long)
 
-long_not_nil : (last : List ℕ) → last ≡ [] → IsTooLong last → ⊥
-long_not_nil last e long =
-    let whole : length last ≡ length long.front + length long.rest = ap length long.whole ∙ length-append long.front long.rest in
-    let none : length last ≡ 0 = ap length e in
-    omega (arith, whole, none, long.long)
+-- how a run ends after its last line
+abbrev ending : Stage → List ℕ → Option FilterFault
+ending BeforeReady [] = Some faults.EndedEarly
+ending (AfterReady L) [] = None
+ending stage (x ∷ last) = if nat_le (length (x ∷ last)) max_line then Some faults.CutLine else Some faults.TooLong
+
+end_is : (stage : Stage) (last : List ℕ) (o : Option FilterFault) → End stage last o → o ≡ ending stage last
+end_is stage last o (NeverReady s e i) = rw (s, e) i
+end_is stage last o (Over L s e i) = rw (s, e) i
+end_is stage [] o (InLine e l i) = absurd (e refl)
+end_is stage (x ∷ last) o (InLine e l i) = rw (le-leb (length (x ∷ last)) max_line l.short) i
+end_is stage [] o (Long l i) = absurd (omega (arith, too_long [] l))
+end_is stage (x ∷ last) o (Long l i) = rw (lt-leb (length (x ∷ last)) max_line (too_long (x ∷ last) l)) i
 
 same_end : (stage : Stage) (last : List ℕ) (a b : Option FilterFault) → End stage last a → End stage last b → a ≡ b
-same_end stage last a b (NeverReady s e i) (NeverReady s' e' i') = i ∙ sym i'
-same_end stage last a b (NeverReady s e i) (Over L s' e' i') = absurd (apart_stages stage L s s')
-same_end stage last a b (NeverReady s e i) (InLine e' l i') = absurd (e' e)
-same_end stage last a b (NeverReady s e i) (Long l i') = absurd (long_not_nil last e l)
-same_end stage last a b (Over L s e i) (NeverReady s' e' i') = absurd (apart_stages stage L s' s)
-same_end stage last a b (Over L s e i) (Over M s' e' i') = i ∙ sym i'
-same_end stage last a b (Over L s e i) (InLine e' l i') = absurd (e' e)
-same_end stage last a b (Over L s e i) (Long l i') = absurd (long_not_nil last e l)
-same_end stage last a b (InLine e l i) (NeverReady s' e' i') = absurd (e e')
-same_end stage last a b (InLine e l i) (Over M s' e' i') = absurd (e e')
-same_end stage last a b (InLine e l i) (InLine e' l' i') = i ∙ sym i'
-same_end stage last a b (InLine e l i) (Long l' i') = absurd (long_not_line last l l')
-same_end stage last a b (Long l i) (NeverReady s' e' i') = absurd (long_not_nil last e' l)
-same_end stage last a b (Long l i) (Over M s' e' i') = absurd (long_not_nil last e' l)
-same_end stage last a b (Long l i) (InLine e' l' i') = absurd (long_not_line last l' l)
-same_end stage last a b (Long l i) (Long l' i') = i ∙ sym i'
+same_end stage last a b h i = end_is stage last a h ∙ sym (end_is stage last b i)
 
 same_fate : (G : Grammar) (stage : Stage) (next : List (List ℕ)) (last : List ℕ) (a b : Option FilterFault) → Fate stage next last a → Fate stage next last b → a ≡ b
 same_fate G stage next last a b (AtLine line more e f) (AtLine line' more' e' f') =
@@ -107,7 +94,7 @@ passed_on G stage line o (Unread f e i) (Early m s r p) = read_no_fault G line m
 passed_on G stage line o (Unread f e i) (Taken L m s r p) = read_no_fault G line m f r e
 passed_on G stage line o (Untracked m L f s r e i) (Early n s' r' p) = apart_stages stage L s' s
 passed_on G stage line o (Untracked m L f s r e i) (Taken M n s' r' p) =
-    let same_past : L ≡ M = after_is L M (sym s ∙ s') in
+    let same_past : L ≡ M = cc in
     let same : m ≡ n = G.unique line m n r r' in
     none_some f (sym p ∙ sym (ap (track_fault M) same) ∙ sym (ap (λ l. track_fault l m) same_past) ∙ e)
 passed_on G stage line o (TooEarly m s r p i) (Early n s' r' p') = true_false (sym p ∙ ap is_stamped (G.unique line m n r r') ∙ p')
@@ -122,14 +109,6 @@ takes_sound : (h : Holding) (L : List Meaning) (m : Meaning) (step : Option Step
 takes_sound k L (FilterLine seconds subsystem phase session token rest) step text t = refl
 takes_sound k L m step text t = t.0
 
-all_at : (P : List ℕ → Type 0) (ls : List (List ℕ)) (y : List ℕ) (d : List (List ℕ)) → AllByRecursion P (ls ++ y ∷ d) → P y
-all_at P [] y d h = h.0
-all_at P (x ∷ ls) y d h = all_at P ls y d h.1
-
-all_front : (P : List ℕ → Type 0) (ls d : List (List ℕ)) → AllByRecursion P (ls ++ d) → AllByRecursion P ls
-all_front P [] d h = tt
-all_front P (x ∷ ls) d h = (h.0, all_front P ls d h.1)
-
 -- the line after early ones is early, or it is the first `config|ready`
 early_or_ready : (G : Grammar) (before ls : List (List ℕ)) (r y : List ℕ) (after d : List (List ℕ)) → AllByRecursion IsEarly before → AllByRecursion IsEarly ls → Reads r ReadyLine → ls ++ y ∷ d ≡ before ++ r ∷ after → Passed BeforeReady y
 early_or_ready G [] [] r y after d hb hl hr e =
@@ -143,45 +122,38 @@ early_or_ready G (b ∷ before) (x ∷ ls) r y after d hb hl hr e = early_or_rea
 
 ready_not_early : (G : Grammar) (ls : List (List ℕ)) (L : List Meaning) → IsReady ls L → AllByRecursion IsEarly ls → ⊥
 ready_not_early G ls L h all =
-    early_apart G.unique h.ready (all_at IsEarly h.before h.ready h.after (subst (AllByRecursion IsEarly) h.whole all)) h.reads_ready
+    early_apart G.unique h.ready ((all_both IsEarly h.before (h.ready ∷ h.after) (subst (AllByRecursion IsEarly) h.whole all)).1.0) h.reads_ready
 
-data Snoc (d : List (List ℕ)) : Type 0 where
-  Empty : d ≡ [] → Snoc d
-  Last : (front : List (List ℕ)) (z : List ℕ) → d ≡ front ++ z ∷ [] → Snoc d
-
-snoc : (d : List (List ℕ)) → Snoc d
-snoc [] = Empty refl
-snoc (x ∷ d) = one_more (snoc d)
-  where
-    one_more : Snoc d → Snoc (x ∷ d)
-    one_more (Empty e) = Last [] x (ap (λ l. x ∷ l) e)
-    one_more (Last front z e) = Last (x ∷ front) z (ap (λ l. x ∷ l) e)
+-- the line was taken after what those before it say
+abbrev IsTaken : List Meaning → List ℕ → Type 0
+IsTaken L y = (m : Meaning) × Reads y m × (track_fault L m ≡ None)
 
 -- a line after others that were read was taken after what those say
-taken_at : (spans : Spans) (k : Holding) (G : Grammar) (xs d : List (List ℕ)) (y : List ℕ) (L M : List Meaning) (steps : List Step) (text : List ℕ) → AreRead xs L → AreRead (xs ++ y ∷ d) M → Filters spans M steps text k
-    → (m : Meaning) × Reads y m × (track_fault L m ≡ None)
+taken_at : (spans : Spans) (k : Holding) (G : Grammar) (xs d : List (List ℕ)) (y : List ℕ) (L M : List Meaning) (steps : List Step) (text : List ℕ) → AreRead xs L → AreRead (xs ++ y ∷ d) M → Filters spans M steps text k → IsTaken L y
 taken_at spans k G xs d y L [] steps text h i f = absurd (no_lines xs i)
   where
     no_lines : (l : List (List ℕ)) → l ++ y ∷ d ≡ [] → ⊥
     no_lines [] e = nil_cons y d (sym e)
     no_lines (x ∷ l) e = nil_cons x (l ++ y ∷ d) (sym e)
-taken_at spans k G xs d y L (m ∷ M) steps text h (before, line, whole, reads, rest) (step, b, written, next, held, filters, takes, e, g, more) = by_end (snoc d) (λ front read. taken_at spans held G xs front y L M b written h read filters)
+taken_at spans k G xs d y L (m ∷ M) steps text h (before, line, whole, reads, rest) (step, b, written, next, held, filters, takes, e, g, more) = by_pushes (λ l. xs ++ y ∷ l ≡ before ++ line ∷ [] → IsTaken L y) last (earlier (λ front read. taken_at spans held G xs front y L M b written h read filters)) d whole
   where
-    by_end : Snoc d → ((front : List (List ℕ)) → AreRead (xs ++ y ∷ front) M → (n : Meaning) × Reads y n × (track_fault L n ≡ None)) → (n : Meaning) × Reads y n × (track_fault L n ≡ None)
-    by_end (Empty none) again =
-        let (same, same_line) = push_front xs before y line (subst (λ (l : List (List ℕ)). xs ++ y ∷ l ≡ before ++ line ∷ []) none whole) in
+    last : xs ++ y ∷ [] ≡ before ++ line ∷ [] → IsTaken L y
+    last whole =
+        let (same, same_line) = push_front xs before y line whole in
         let past : M ≡ L = same_read G.unique before xs M L (sym same) rest h in
         (m, subst (λ (l : List ℕ). Reads l m) (sym same_line) reads, ap (λ l. track_fault l m) (sym past) ∙ takes_sound (at_line spans m held) M m step next takes)
-    by_end (Last front z more) again =
-        let (same, same_line) = push_front (xs ++ y ∷ front) before z line (append_assoc xs (y ∷ front) (z ∷ []) ∙ subst (λ (l : List (List ℕ)). xs ++ y ∷ l ≡ before ++ line ∷ []) more whole) in
+
+    earlier : ((front : List (List ℕ)) → AreRead (xs ++ y ∷ front) M → IsTaken L y) → (front : List (List ℕ)) (z : List ℕ) → (xs ++ y ∷ front ≡ before ++ line ∷ [] → IsTaken L y) → xs ++ y ∷ (front ++ z ∷ []) ≡ before ++ line ∷ [] → IsTaken L y
+    earlier again front z _ whole =
+        let (same, same_line) = push_front (xs ++ y ∷ front) before z line (append_assoc xs (y ∷ front) (z ∷ []) ∙ whole) in
         again front (subst (λ (l : List (List ℕ)). AreRead l M) (sym same) rest)
 
 passes : (spans : Spans) (k : Holding) (G : Grammar) (ls : List (List ℕ)) (y : List ℕ) (d : List (List ℕ)) (stage stage' : Stage) (steps : List Step) (text : List ℕ) → Reaches ls stage → Reaches (ls ++ y ∷ d) stage' → HasText spans stage' steps text k → Passed stage y
 passes spans k G ls y d BeforeReady BeforeReady steps text h i t =
-    let (m, reads, early) = all_at IsEarly ls y d i in
+    let (m, reads, early) = (all_both IsEarly ls (y ∷ d) i).1.0 in
     Early m refl reads (early_plain m early)
 passes spans k G ls y d BeforeReady (AfterReady M) steps text h i t = early_or_ready G i.before ls i.ready y i.after d i.early h i.reads_ready i.whole
-passes spans k G ls y d (AfterReady L) BeforeReady steps text h i t = absurd (ready_not_early G ls L h (all_front IsEarly ls (y ∷ d) i))
+passes spans k G ls y d (AfterReady L) BeforeReady steps text h i t = absurd (ready_not_early G ls L h (all_both IsEarly ls (y ∷ d) i).0)
 passes spans k G ls y d (AfterReady L) (AfterReady M) steps text h i (results, filters, whole) =
     let longer = ap (λ l. l ++ y ∷ d) h.whole ∙ append_assoc h.before (h.ready ∷ h.after) (y ∷ d) in
     let after : h.after ++ y ∷ d ≡ i.after = same_after G.unique h.before i.before h.ready i.ready (h.after ++ y ∷ d) i.after h.early i.early h.reads_ready i.reads_ready (sym longer ∙ i.whole) in

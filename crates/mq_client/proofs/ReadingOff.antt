@@ -16,17 +16,13 @@ granted_more a more = sum_by-cons (λ (b : Asking). cond (is_granted b.answer) 1
 
 live_more : (login : List ℕ) (moment : ℕ) (answer : Asked) (more : List Asking) → live_by (one_ask login moment answer ∷ more) ≡ Some (let_through answer (opened moment login (live_by more)))
 live_more login moment asked.Granted [] = refl
-live_more login moment asked.Full [] = refl
-live_more login moment asked.Unavailable [] = refl
+live_more login moment answer [] = refl
 live_more login moment asked.Granted (b ∷ more) =
     let F : ℕ → Option Held = λ n. Some (record { login = (first_of b more).login; moment = (first_of b more).moment; granted = n }) in
     ap F (omega (arith, granted_more (one_ask login moment asked.Granted) (b ∷ more)))
-live_more login moment asked.Full (b ∷ more) =
+live_more login moment answer (b ∷ more) =
     let F : ℕ → Option Held = λ n. Some (record { login = (first_of b more).login; moment = (first_of b more).moment; granted = n }) in
-    ap F (omega (arith, granted_more (one_ask login moment asked.Full) (b ∷ more)))
-live_more login moment asked.Unavailable (b ∷ more) =
-    let F : ℕ → Option Held = λ n. Some (record { login = (first_of b more).login; moment = (first_of b more).moment; granted = n }) in
-    ap F (omega (arith, granted_more (one_ask login moment asked.Unavailable) (b ∷ more)))
+    ap F (omega (arith, granted_more (one_ask login moment answer) (b ∷ more)))
 
 -- ---- live transactions
 

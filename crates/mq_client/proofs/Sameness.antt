@@ -1,7 +1,7 @@
 -- A run depends on the bytes that were read, on what stood before it, and on how its exchanges ended.
 use Rattle.std.proofs.Common.{◌≡◌, ℕ, Bool, true, List, [], ◌∷◌, ◌++◌, refl, sym, ap, ◌∙◌, subst, append_assoc, Option, None, Some, is_some}
-use Rattle.mq_client.proofs.Words.{Action, AllByRecursion, Answers, ArePlayed, AreRead, Ask, Asks, Closes, Closing, ComeInTurn, ConfigLine, Decision, Exchange, FilterLine, Filters, Holding, IsEarly, IsReady, Meaning, OtherLine, Outcome, Passes, Plays, Query, Reads, ReadyLine, Refuses, ReportLine, Request, Source, Spans, Step, Takes, action_of, actions, after_line, all_outcomes, append_cancel_right, asking_of, at_line, close_of, closing, decision_by, held_back, held_for, is_early, next_of, none_some, option_map, outcomes, push, query, queue_of, quiets, result_text, tries_in, view}
-use Rattle.mq_client.proofs.Turning.{OneReply, turns, none_next, same_turns}
+use Rattle.mq_client.proofs.Words.{some_is, Action, AllByRecursion, Answers, ArePlayed, AreRead, Ask, Asks, Closes, Closing, ComeInTurn, ConfigLine, Decision, Exchange, FilterLine, Filters, Holding, IsEarly, IsReady, Meaning, OtherLine, Outcome, Passes, Plays, Query, Reads, ReadyLine, Refuses, ReportLine, Request, Source, Spans, Step, Takes, action_of, actions, after_line, all_outcomes, append_cancel_right, asking_of, at_line, close_of, closing, decision_by, held_back, held_for, is_early, next_of, none_some, option_map, outcomes, push, query, queue_of, quiets, result_text, tries_in, view}
+use Rattle.mq_client.proofs.Turning.{OneReply, IsOver, over, same_turns}
 use Rattle.mq_client.proofs.Basics.{nil_cons, cons_head, cons_tail}
 
 -- ---- the lines
@@ -59,16 +59,13 @@ record Alike (s t : Option Step) (text more : List ℕ) : Type 0 where
   quiet : quiet_of s ≡ quiet_of t
   text_is : s ≡ t → text ≡ more
 
-some_step : (x y : Step) → Some x ≡ Some y → x ≡ y
-some_step x y e = cc
-
 same_answers : (k : Holding) (q : Query) (session token : List ℕ) (s t : Option Step) (d c : Decision) (text more : List ℕ) → Answers k q s d → Answers k q t c → text ≡ result_text session token d → more ≡ result_text session token c → Alike s t text more
 same_answers k (Asks txn moment login) session token s t d c text more (g, step, answer) (h, step', answer') e f = record {
   kind = ap kind_of step ∙ sym (ap kind_of step');
   quiet = ap quiet_of step ∙ sym (ap quiet_of step');
   text_is = λ same.
       let q : Bool = is_some (held_back k login) in
-      let both = some_step (record { action = Ask txn moment login; group = g; quiet = q }) (record { action = Ask txn moment login; group = h; quiet = q }) (sym step ∙ same ∙ step') in
+      let both = some_is (record { action = Ask txn moment login; group = g; quiet = q }) (record { action = Ask txn moment login; group = h; quiet = q }) (sym step ∙ same ∙ step') in
       let group : g ≡ h = ap (λ (x : Step). x.group) both in
       e ∙ ap (result_text session token) (answer ∙ ap (λ l. decision_by (held_back k login) l) group ∙ sym answer') ∙ sym f;
 }
@@ -86,17 +83,10 @@ pub actions_push : (step : Option Step) (steps : List Step) → actions (push st
 actions_push None steps = refl
 actions_push (Some x) steps = refl
 
-none_kind : (x : Step) → None ≡ kind_of (Some x) → ⊥
-none_kind x e = cc
-
 -- ---- the steps
 
 pub same_step : (x y : Step) → x.action ≡ y.action → x.quiet ≡ y.quiet → x.group ≡ y.group → x ≡ y
-same_step x y e q f =
-    let A : Action → Step = λ a. record { action = a; group = x.group; quiet = x.quiet } in
-    let B : List Exchange → Step = λ g. record { action = y.action; group = g; quiet = x.quiet } in
-    let C : Bool → Step = λ k. record { action = y.action; group = y.group; quiet = k } in
-    ap A e ∙ ap B f ∙ ap C q
+same_step x y e q f = ap (λ (a : Action). record x { action = a }) e ∙ ap (λ (g : List Exchange). record x { action = y.action; group = g }) f ∙ ap (λ (k : Bool). record y { quiet = k }) q
 
 -- no exchange comes in turn after the last one
 no_more : OneReply → (n : ℕ) (queue : List Request) (g h : List Exchange) (b : Outcome) (D : List Outcome) → ComeInTurn n queue g → ComeInTurn n queue h → next_of n queue h ≡ None → outcomes g ≡ b ∷ (D ++ outcomes h) → ⊥
@@ -112,16 +102,17 @@ same_groups U n queue g h [] (b ∷ B) c d last last' e = absurd (no_more U n qu
 same_groups U n queue g h (a ∷ A) [] c d last last' e = absurd (no_more U n queue h g a A d c last (sym e))
 same_groups U n queue g h (a ∷ A) (b ∷ B) c d last last' e = same_groups U n queue g h A B c d last last' (cons_tail a b (A ++ outcomes g) (B ++ outcomes h) e)
 
--- two steps that could come next after the same past, of the same action and both quiet or not, whose exchanges ended
+-- two steps that could come next after the same steps, of the same action and both quiet or not, whose exchanges ended
 -- alike, before more that ended alike
-same_next : OneReply → (s : Source) (n : ℕ) (P : List Step) (x y : Step) (A B : List Outcome) → Plays s n P x → Plays s n P y → x.action ≡ y.action → x.quiet ≡ y.quiet
-    → A ++ outcomes x.group ≡ B ++ outcomes y.group → x ≡ y
-same_next U s n P x y A B h i action quiet ended =
-    let F : Action → Bool → Type 0 = λ a k. ComeInTurn (tries_in n k) (queue_of s (view s P) (held_for (view s P) a) a) x.group in
-    let mine : F y.action y.quiet = subst (F y.action) quiet (subst (λ (a : Action). F a x.quiet) action (turns s n P x h)) in
-    let L : Action → Bool → Type 0 = λ a k. next_of (tries_in n k) (queue_of s (view s P) (held_for (view s P) a) a) x.group ≡ None in
-    let last : L y.action y.quiet = subst (L y.action) quiet (subst (λ (a : Action). L a x.quiet) action (none_next s n P x h)) in
-    same_step x y action quiet (same_groups U (tries_in n y.quiet) _ x.group y.group A B mine (turns s n P y i) last (none_next s n P y i) ended)
+same_next : OneReply → (s : Source) (n : ℕ) (P : List Step) (x y : Step) (xs ys : List Step) (A B : List Outcome) → Plays s n (xs ++ P) x → Plays s n (ys ++ P) y → x.action ≡ y.action → x.quiet ≡ y.quiet → xs ≡ ys
+    → (A ++ outcomes x.group) ++ all_outcomes xs ≡ (B ++ outcomes y.group) ++ all_outcomes ys → x ≡ y
+same_next U s n P x y xs ys A B h i action quiet same ends =
+    let F : Action → Bool → Type 0 = λ a k. IsOver (tries_in n k) (queue_of s (view s (ys ++ P)) (held_for (view s (ys ++ P)) a) a) x.group in
+    let first = over s n (ys ++ P) x (subst (λ (l : List Step). Plays s n (l ++ P) x) same h) in
+    let mine : F y.action y.quiet = subst (F y.action) quiet (subst (λ (a : Action). F a x.quiet) action first) in
+    let theirs = over s n (ys ++ P) y i in
+    let ended = append_cancel_right (A ++ outcomes x.group) (B ++ outcomes y.group) (all_outcomes ys) (subst (λ (l : List Step). (A ++ outcomes x.group) ++ all_outcomes l ≡ (B ++ outcomes y.group) ++ all_outcomes ys) same ends) in
+    same_step x y action quiet (same_groups U (tries_in n y.quiet) _ x.group y.group A B mine.0 theirs.0 mine.1 theirs.1 ended)
 
 -- steps of the same actions, of which the same are quiet, whose exchanges ended alike one after another, are the same
 same_from : OneReply → (s : Source) (n : ℕ) (P steps others : List Step) (A B : List Outcome) → ArePlayed s n P steps → ArePlayed s n P others → actions steps ≡ actions others → quiets steps ≡ quiets others
@@ -132,8 +123,7 @@ same_from U s n P (x ∷ steps) [] A B h i e q f = absurd (nil_cons x.action (ac
 same_from U s n P (x ∷ steps) (y ∷ others) A B h i e q f =
     let ends = append_assoc A (outcomes x.group) (all_outcomes steps) ∙ f ∙ sym (append_assoc B (outcomes y.group) (all_outcomes others)) in
     let rest : steps ≡ others = same_from U s n P steps others (A ++ outcomes x.group) (B ++ outcomes y.group) h.1 i.1 (cons_tail x.action y.action (actions steps) (actions others) e) (cons_tail x.quiet y.quiet (quiets steps) (quiets others) q) ends in
-    let ended : A ++ outcomes x.group ≡ B ++ outcomes y.group = append_cancel_right (A ++ outcomes x.group) (B ++ outcomes y.group) (all_outcomes others) (subst (λ (l : List Step). (A ++ outcomes x.group) ++ all_outcomes l ≡ (B ++ outcomes y.group) ++ all_outcomes others) rest ends) in
-    let next = same_next U s n (others ++ P) x y A B (subst (λ (l : List Step). Plays s n (l ++ P) x) rest h.0) i.0 (cons_head x.action y.action (actions steps) (actions others) e) (cons_head x.quiet y.quiet (quiets steps) (quiets others) q) ended in
+    let next = same_next U s n P x y steps others A B h.0 i.0 (cons_head x.action y.action (actions steps) (actions others) e) (cons_head x.quiet y.quiet (quiets steps) (quiets others) q) rest ends in
     ap (λ z. z ∷ steps) next ∙ ap (λ l. y ∷ l) rest
 
 pub same_played : OneReply → (s : Source) (n : ℕ) (P steps others : List Step) → ArePlayed s n P steps → ArePlayed s n P others → actions steps ≡ actions others → quiets steps ≡ quiets others → all_outcomes steps ≡ all_outcomes others → steps ≡ others
@@ -165,12 +155,6 @@ pub taken_kind : (k : Holding) (L : List Meaning) (m : Meaning) (step : Option S
 taken_kind k L (FilterLine seconds subsystem phase session token rest) step text (d, h, e) = asked_kind k (query L subsystem phase session) step d h
 taken_kind k L m step text h = closed_kind (is_some k.paused) (closing L m) step h.1
 
-one_quiet : (x y : Step) → quiet_of (Some x) ≡ quiet_of (Some y) → x.quiet ≡ y.quiet
-one_quiet x y e = cc
-
-one_action : (x y : Step) → kind_of (Some x) ≡ kind_of (Some y) → x.action ≡ y.action
-one_action x y e = cc
-
 -- one more line
 same_line : OneReply → (spans : Spans) (s : Source) (n : ℕ) (P : List Step) (L : List Meaning) (m : Meaning) (a b : Option Step) (next next' : List ℕ) (xs ys : List Step) (text more : List ℕ) (k j : Holding) (A B : List Outcome)
     → ArePlayed s n P (push a xs) → ArePlayed s n P (push b ys) → kind_of a ≡ kind_of b → (k ≡ j → Alike a b next next')
@@ -179,14 +163,13 @@ same_line : OneReply → (spans : Spans) (s : Source) (n : ℕ) (P : List Step) 
 same_line U spans s n P L m None None next next' xs ys text more k j A B h i e alike before f =
     let told = before A B h i f in
     record { step = refl; next_is = (alike told.held_is).text_is refl; before = told }
-same_line U spans s n P L m None (Some y) next next' xs ys text more k j A B h i e alike before f = absurd (none_kind y e)
-same_line U spans s n P L m (Some x) None next next' xs ys text more k j A B h i e alike before f = absurd (none_kind x (sym e))
+same_line U spans s n P L m None (Some y) next next' xs ys text more k j A B h i e alike before f = absurd (cc (e))
+same_line U spans s n P L m (Some x) None next next' xs ys text more k j A B h i e alike before f = absurd (cc (e))
 same_line U spans s n P L m (Some x) (Some y) next next' xs ys text more k j A B h i e alike before f =
     let ends = append_assoc A (outcomes x.group) (all_outcomes xs) ∙ f ∙ sym (append_assoc B (outcomes y.group) (all_outcomes ys)) in
     let told = before (A ++ outcomes x.group) (B ++ outcomes y.group) h.1 i.1 ends in
-    let ended : A ++ outcomes x.group ≡ B ++ outcomes y.group = append_cancel_right (A ++ outcomes x.group) (B ++ outcomes y.group) (all_outcomes ys) (subst (λ (l : List Step). (A ++ outcomes x.group) ++ all_outcomes l ≡ (B ++ outcomes y.group) ++ all_outcomes ys) told.steps ends) in
     let both = alike told.held_is in
-    let step : Some x ≡ Some y = ap Some (same_next U s n (ys ++ P) x y A B (subst (λ (l : List Step). Plays s n (l ++ P) x) told.steps h.0) i.0 (one_action x y e) (one_quiet x y both.quiet) ended) in
+    let step : Some x ≡ Some y = ap Some (same_next U s n P x y xs ys A B h.0 i.0 (cc (e)) (cc (both.quiet)) told.steps ends) in
     record { step = step; next_is = both.text_is step; before = told }
 
 -- what lines have the client do, what is written for them and what is held back follows from how the exchanges ended

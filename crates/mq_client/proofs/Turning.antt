@@ -75,7 +75,7 @@ none_of_drop (suc k) [] e = refl
 none_of_drop (suc k) (x ∷ queue) e = none_of_drop k queue e
 
 -- the exchanges came in turn, and none is the next one
-abbrev IsOver : (n : ℕ) (queue : List Request) (group : List Exchange) → Type 0
+abbrev pub IsOver : (n : ℕ) (queue : List Request) (group : List Exchange) → Type 0
 IsOver n queue group = ComeInTurn n queue group × (next_of n queue group ≡ None)
 
 sends_over : (n : ℕ) (queue : List Request) (group : List Exchange) (left : List Request) → Sends n queue group left → IsOver n queue group
@@ -103,7 +103,7 @@ over_from s n v None (Close txn end) group plays = rw plays (tt, none_by_queue n
 over_from s n v (Some h) (Close txn end) group (left, sends) = sends_over n _ group left sends
 over_from s n v o Drain group (left, sends) = sends_over n v.waiting group left sends
 
-over : (s : Source) (n : ℕ) (P : List Step) (x : Step) → Plays s n P x → IsOver (tries_in n x.quiet) (queue_of s (view s P) (held_for (view s P) x.action) x.action) x.group
+pub over : (s : Source) (n : ℕ) (P : List Step) (x : Step) → Plays s n P x → IsOver (tries_in n x.quiet) (queue_of s (view s P) (held_for (view s P) x.action) x.action) x.group
 over s n P x plays = over_from s (tries_in n x.quiet) (view s P) (held_for (view s P) x.action) x.action x.group plays
 
 -- each exchange of a step is the next one
@@ -146,10 +146,7 @@ same_decision U q o (Some r) (Some p) h i = ap Some (one_brought U o r p h.0 i.0
 same_exchange : OneReply → (x y : Exchange) → x.request ≡ y.request → x.outcome ≡ y.outcome → IsDecision x.request x.outcome x.decided → IsDecision y.request y.outcome y.decided → x ≡ y
 same_exchange U x y e f h i =
     let decided : x.decided ≡ y.decided = same_decision U y.request y.outcome x.decided y.decided (subst (λ (o : Outcome). IsDecision y.request o x.decided) f (subst (λ (q : Request). IsDecision q x.outcome x.decided) e h)) i in
-    let A : Request → Exchange = λ q. record { request = q; outcome = x.outcome; decided = x.decided } in
-    let B : Outcome → Exchange = λ o. record { request = y.request; outcome = o; decided = x.decided } in
-    let C : Option Reply → Exchange = λ d. record { request = y.request; outcome = y.outcome; decided = d } in
-    ap A e ∙ ap B f ∙ ap C decided
+    ap (λ (q : Request). record x { request = q }) e ∙ ap (λ (o : Outcome). record x { request = y.request; outcome = o }) f ∙ ap (λ (d : Option Reply). record y { decided = d }) decided
 
 -- exchanges that came in turn and ended alike are the same
 pub same_turns : OneReply → (n : ℕ) (queue : List Request) (g h : List Exchange) → ComeInTurn n queue g → ComeInTurn n queue h → outcomes g ≡ outcomes h → g ≡ h

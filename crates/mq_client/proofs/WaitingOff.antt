@@ -2,9 +2,10 @@
 use Rattle.std.proofs.Common.{◌≡◌, ℕ, zero, suc, ◌+◌, ◌<◌, ◌≤◌, ◌==◌, ◌&&◌, ◌||◌, not, Bool, false, true, List, [], ◌∷◌, ◌++◌, refl, sym, ap, ◌∙◌, subst, arith, append_assoc, append-nil, Option, None, Some, is_some, if◌then◌else◌, filter}
 use Rattle.mq_client.proofs.Words.{Action, AllByRecursion, all_append, and_false, AreUnderway, Ask, Close, CloseEnd, ComeInTurn, Drain, Exchange, Held, Id, Limit, Release, Request, Reserve, Retire, Settle, Source, Step, View, after, after_close, all_push, closing_of, closing_under, closings_in, decisions, drop, drop-drop, held_by, held_for, is_decided_by, is_decided_in, live_in, neither_so, never, none_some, numbers_in, or_first, or_second, queue_of, reserve_of, same_id, same_request, same_text, slice_get, some_is, tries_in, view, waiting_in}
 use Rattle.std.proofs.lemmas.List.Elements.{filter-append}
+use Rattle.mq_lemmas.proofs.Lists.{all_of}
 use Rattle.mq_lemmas.proofs.Numbers.{number_itself, other_number}
 use Rattle.mq_request.proofs.Alike.{text_itself, id_itself}
-use Rattle.mq_client.proofs.Basics.{all_weaker, of_closing}
+use Rattle.mq_client.proofs.Basics.{all_both, all_weaker, of_closing}
 use Rattle.mq_client.proofs.Turning.{next_in_queue}
 use Rattle.mq_client.proofs.ReadingOff.{live_read, numbers_read}
 
@@ -74,10 +75,6 @@ abbrev Ascends : List Request → Type 0
 Ascends [] = Unit {0}
 Ascends (q ∷ qs) = AllByRecursion (λ r. seq_of q < seq_of r) qs × Ascends qs
 
-all_both : (P : Request → Type 0) (xs ys : List Request) → AllByRecursion P (xs ++ ys) → AllByRecursion P xs × AllByRecursion P ys
-all_both P [] ys all = (tt, all)
-all_both P (x ∷ xs) ys all = let (a, b) = all_both P xs ys all.1 in ((all.0, a), b)
-
 all_two : (P Q : Request → Type 0) (R : Request → Type 0) (qs : List Request) → ((q : Request) → P q → Q q → R q) → AllByRecursion P qs → AllByRecursion Q qs → AllByRecursion R qs
 all_two P Q R [] f a b = tt
 all_two P Q R (q ∷ qs) f a b = (f q a.0 b.0, all_two P Q R qs f a.1 b.1)
@@ -95,11 +92,7 @@ abbrev ComesAfter : List Request → Request → Type 0
 ComesAfter xs q = AllByRecursion (λ r. seq_of r < seq_of q) xs
 
 comes_after : (xs ys : List Request) → Ascends (xs ++ ys) → AllByRecursion (ComesAfter xs) ys
-comes_after [] ys a = all_weaker (λ q. Unit {0}) (ComesAfter []) ys (λ q u. u) (units ys)
-  where
-    units : (ys : List Request) → AllByRecursion (λ q. Unit {0}) ys
-    units [] = tt
-    units (y ∷ ys) = (tt, units ys)
+comes_after [] ys a = all_of (ComesAfter []) ys (λ q i. tt)
 comes_after (x ∷ xs) ys a = all_two (λ r. seq_of x < seq_of r) (ComesAfter xs) (ComesAfter (x ∷ xs)) ys (λ q h i. (h, i)) (all_both (λ r. seq_of x < seq_of r) xs ys a.0).1 (comes_after xs ys a.1)
 
 -- ---- what a group leaves of a queue
