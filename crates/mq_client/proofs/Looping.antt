@@ -58,9 +58,6 @@ is_ok_by (Err e) x is = absurd cc
 
 -- ---- lines that add up
 
-ready_new : (lines : List (List ℕ)) (line : List ℕ) → AllByRecursion IsEarly lines → Reads line ReadyLine → IsReady (lines ++ line ∷ []) []
-ready_new lines line all h = record { before = lines; ready = line; after = []; whole = refl; early = all; reads_ready = h; read = refl }
-
 ready_more : (lines : List (List ℕ)) (line : List ℕ) (L : List Meaning) (m : Meaning) → IsReady lines L → Reads line m → IsReady (lines ++ line ∷ []) (m ∷ L)
 ready_more lines line L m r h = record {
   before = r.before;
@@ -115,7 +112,7 @@ carries_ready m f f' sink sink' told client h e app now tracker answers holdup =
     let (no_step, no_text, none_held) = rw is at s.has_text in
     so_far_more o bytes line rest f f' (around sink told client) (around sink' told client) None registration (AfterReady []) one s
     (record { written = app; exchanged = Tells-none told; made = refl })
-    (ready_new s.lines line (rw is at s.reaches) (rw e at reads)) (now, rw tracker tracks, answers ∙ none) (ap (λ x. x.0) holdup)
+    (record { before = s.lines; ready = line; after = []; whole = refl; early = rw is at s.reaches; reads_ready = rw e at reads; read = refl }) (now, rw tracker tracks, answers ∙ none) (ap (λ x. x.0) holdup)
     ([], (no_step, refl, ap (λ x. x.1) holdup ∙ none_held), ap (λ t. t ++ registration) no_text ∙ sym (append-nil registration))
 
 -- a line after `config|ready`
@@ -196,10 +193,6 @@ takes_noted k L l step apart none c = (none, c, refl)
 pub count_noted : (L : List Meaning) (l : Line) → ((seconds : ℕ) (subsystem phase session token rest : Bor (List ℕ)) → l ≡ line.Filter seconds subsystem phase session token rest → ⊥) → answer_count (meaning l ∷ L) ≡ answer_count L
 count_noted L (line.Filter seconds subsystem phase session token rest) apart = absurd (apart seconds subsystem phase session token rest refl)
 count_noted L l apart = refl
-
--- a request says nothing of sessions
-pub tracks_filter : (t : State') (L : List Meaning) (seconds : ℕ) (subsystem phase session token rest : List ℕ) → TracksAt t L → TracksAt t (FilterLine seconds subsystem phase session token rest ∷ L)
-tracks_filter t L seconds subsystem phase session token rest st = record { sessions = st.sessions; begins = st.begins }
 
 -- one more request was answered
 pub answer_counted : (L : List Meaning) (seconds : ℕ) (subsystem phase session token rest : List ℕ) (n : ℕ) → n ≡ answer_count L → n + 1 ≡ answer_count (FilterLine seconds subsystem phase session token rest ∷ L)

@@ -116,14 +116,11 @@ pub decisions_undecided : (n : ℕ) (q : Request) (tries : List Exchange) → Is
 decisions_undecided n q [] t = refl
 decisions_undecided n q (x ∷ tries) t = decisions_failed q (x ∷ tries) t.0
 
-drop_one_more : (n : ℕ) (q : Request) (left queue : List Request) → q ∷ left ≡ drop n queue → left ≡ drop (n + 1) queue
-drop_one_more n q left queue e = ap (drop 1) e ∙ drop-drop 1 n queue
-
 pub some_left : (n : ℕ) (queue : List Request) (group : List Exchange) (left : List Request) → SendsSome n queue group left → left ≡ drop (decisions group) queue
 some_left n queue group left NoneYet = refl
 some_left n queue group left (OneMore q more done tries r s t) =
     let count : decisions (tries ++ done) ≡ decisions done + 1 = omega (arith, decisions-append tries done, decisions_decided n q tries r t) in
-    rw count (drop_one_more (decisions done) q left queue (some_left n queue done (q ∷ left) s))
+    rw count (ap (drop 1) (some_left n queue done (q ∷ left) s) ∙ drop-drop 1 (decisions done) queue)
 
 pub sends_left : (n : ℕ) (queue : List Request) (group : List Exchange) (left : List Request) → Sends n queue group left → left ≡ drop (decisions group) queue
 sends_left n queue group left (SendsAll done s) = some_left n queue group left s

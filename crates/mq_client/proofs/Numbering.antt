@@ -110,12 +110,9 @@ sent_numbered s n (x ∷ P) u =
     (group_numbered s (tries_in n x.quiet) P (view s P) x.action x.group x.quiet (numbers_read s P) (live_read s P) (waiting_numbered s P) u.0)
     (all_weaker (λ y. IsNumbered s P y.request) (λ y. IsNumbered s (x ∷ P) y.request) (exchanges_in P) (λ y. older s x P y.request) (sent_numbered s n P u.1))
 
-pub seq_is : (s : Source) (m n : ℕ) → Some (id_of s m) ≡ Some (id_of s n) → m ≡ n
-seq_is s m n e = ap (λ (i : Id). i.number) (some_is (id_of s m) (id_of s n) e)
-
 pub one_request : (s : Source) (P : List Step) (q r : Request) → IsNumbered s P q → IsNumbered s P r → id_in q ≡ id_in r → q ≡ r
 one_request s P q r i j e =
-    let same : i.number ≡ j.number = seq_is s i.number j.number (sym i.id ∙ e ∙ j.id) in
+    let same : i.number ≡ j.number = ap (λ (a : Id). a.number) (some_is (id_of s i.number) (id_of s j.number) (sym i.id ∙ e ∙ j.id)) in
     some_is q r (sym i.under ∙ ap (request_under s P) same ∙ j.under)
 
 -- two exchanges under one number are of one request

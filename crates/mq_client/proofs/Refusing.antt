@@ -37,9 +37,6 @@ refused_by L m track.Message is = is
 refused_by L m track.Exhausted is = is
 refused_by L m track.Memory is = absurd (subst IsTold is (told_fault L m))
 
-wants_memory : (L : List Meaning) (m : Meaning) (e : TrackFault) → e ≡ track.Memory → fault L m ≡ None → may_ask_for_memory L m ≡ true → IsRefused (filter_fault e) L m
-wants_memory L m e is none may = subst (λ (x : TrackFault). IsRefused (filter_fault x) L m) (sym is) (none, may)
-
 pub may_by_tracker : (L : List Meaning) (m : Meaning) → needs_memory (event m) ≡ true → may_ask_for_memory L m ≡ true
 may_by_tracker L m e = or_second (is_filter m) _ (or_second (is_some (closing L m)) (needs_memory (event m)) e)
 
@@ -51,7 +48,7 @@ pub refused : (X : Type 0) (L : List Meaning) (m : Meaning) (e : TrackFault) →
 refused X L m e told memory needs = by_fault (fault L m) refl told
   where
     by_fault : (o : Option TrackFault) → fault L m ≡ o → IfSome o (λ f. ◌≡◌ {A = Result X TrackFault} (Err e) (Err f)) → IsRefused (filter_fault e) L m
-    by_fault None is h = wants_memory L m e (memory is) is (may_by_tracker L m (needs (memory is)))
+    by_fault None is h = subst (λ (x : TrackFault). IsRefused (filter_fault x) L m) (sym (memory is)) (is, may_by_tracker L m (needs (memory is)))
     by_fault (Some f) is h = let same : e ≡ f = cc (h) in refused_by L m e (is ∙ ap Some (sym same))
 
 -- a closing that wasn't made

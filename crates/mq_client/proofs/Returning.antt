@@ -3,7 +3,7 @@ use Rattle.std.proofs.Common.{◌≡◌, ℕ, ◌+◌, ◌==◌, ◌&&◌, Bool,
 use Rattle.mq_client.proofs.Words.{Action, Ask, Asks, AsksForNoClosed, Close, CloseEnd, Closed, Closing, ConfigLine, Drain, Exchange, FilterLine, Filters, Held, Holding, Live, Meaning, Never, NoneReturns, OtherLine, Passes, Query, ReadyLine, Refuses, ReportLine, Source, Spans, Step, Transaction, View, action_of, actions, actions_of, after, after_close, asking_of, at_line, bytes_eq, close_of, closing, codes, eqb-true, held_by, is_closed, is_login, is_moment, login, none_some, open_transaction, option_map, position_of, push, query, query_at, view}
 use Rattle.mq_track.specs.Laws.{StayClosed}
 use Rattle.mq_client.proofs.Sameness.{taken_kind, actions_push}
-use Rattle.mq_client.proofs.Basics.{nil_cons, cons_head, cons_tail}
+use Rattle.mq_client.proofs.Basics.{nil_cons, cons_head, cons_tail, mapped_some}
 
 -- ---- the actions of lines
 
@@ -32,17 +32,12 @@ record WasClosed (L : List Meaning) (t : ℕ) : Type 0 where
   txn_is : closed.txn ≡ t
 
 asks_no_close : (q : Query) (txn : ℕ) (end : CloseEnd) → asking_of q ≡ Some (Close txn end) → ⊥
-asks_no_close Passes txn end e = none_some (Close txn end) e
-asks_no_close Refuses txn end e = none_some (Close txn end) e
 asks_no_close (Asks u moment name) txn end e = cc
-
-closes_by : (o : Option Closing) (txn : ℕ) (end : CloseEnd) → option_map close_of o ≡ Some (Close txn end) → (c : Closing) × (o ≡ Some c) × (c.txn ≡ txn)
-closes_by None txn end e = absurd (none_some (Close txn end) e)
-closes_by (Some c) txn end e = (c, refl, cc (e))
+asks_no_close q txn end e = none_some (Close txn end) e
 
 closes_at : (L : List Meaning) (m : Meaning) (txn : ℕ) (end : CloseEnd) → action_of L m ≡ Some (Close txn end) → (c : Closing) × (closing L m ≡ Some c) × (c.txn ≡ txn)
 closes_at L (FilterLine seconds subsystem phase session token rest) txn end e = absurd (asks_no_close (query L subsystem phase session) txn end e)
-closes_at L m txn end e = closes_by (closing L m) txn end e
+closes_at L m txn end e = let (c, is, same) = mapped_some close_of (closing L m) (Close txn end) e in (c, is, cc (same))
 
 later_line : (m : Meaning) (L : List Meaning) (t : ℕ) → WasClosed L t → WasClosed (m ∷ L) t
 later_line m L t w = record { later = m ∷ w.later; line = w.line; before = w.before; closed = w.closed; whole = ap (λ l. m ∷ l) w.whole; is = w.is; txn_is = w.txn_is }
@@ -74,19 +69,14 @@ asks_open true (Some n) (Some t) txn moment login e = by_range (is_login n && is
     by_range false f = absurd cc
 
 asking_asks : (q : Query) (txn moment : ℕ) (login : List ℕ) → asking_of q ≡ Some (Ask txn moment login) → q ≡ Asks txn moment login
-asking_asks Passes txn moment login e = absurd (none_some (Ask txn moment login) e)
-asking_asks Refuses txn moment login e = absurd (none_some (Ask txn moment login) e)
 asking_asks (Asks u v n) txn moment login e = cc (e)
-
-close_no_ask : (o : Option Closing) (txn moment : ℕ) (login : List ℕ) → option_map close_of o ≡ Some (Ask txn moment login) → ⊥
-close_no_ask None txn moment login e = none_some (Ask txn moment login) e
-close_no_ask (Some c) txn moment login e = cc (e)
+asking_asks q txn moment login e = absurd (none_some (Ask txn moment login) e)
 
 asked_open : (L : List Meaning) (m : Meaning) (txn moment : ℕ) (name : List ℕ) → action_of L m ≡ Some (Ask txn moment name) → (session : List ℕ) × (t : Transaction) × (open_transaction L session ≡ Some t) × (t.txn ≡ txn)
 asked_open L (FilterLine seconds subsystem phase session token rest) txn moment name e =
     let (t, is_open, txn_is) = asks_open (bytes_eq subsystem (codes "smtp-in") && bytes_eq phase (codes "rcpt-to")) (login L session) (open_transaction L session) txn moment name (asking_asks (query L subsystem phase session) txn moment name e) in
     (session, t, is_open, txn_is)
-asked_open L m txn moment name e = absurd (close_no_ask (closing L m) txn moment name e)
+asked_open L m txn moment name e = let (c, is, same) = mapped_some close_of (closing L m) (Ask txn moment name) e in absurd (cc (same))
 
 -- ---- what ended was closed
 

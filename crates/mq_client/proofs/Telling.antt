@@ -20,10 +20,6 @@ Tells-trans (Some c) (Some d) (Some e) xs ys h i = i ∙ ap (λ l. l ++ ys) h �
 pub told_frame : (old new : Option (List Told)) (bytes : List ℕ) (q : Request) (o : Outcome) → bytes ≡ request_frame q → Tells old new (record { frame = bytes; outcome = o } ∷ []) → Tells old new (record { frame = request_frame q; outcome = o } ∷ [])
 told_frame old new bytes q o e h = subst (λ (b : List ℕ). Tells old new (record { frame = b; outcome = o } ∷ [])) e h
 
--- exchanges told one after another
-pub told_more : (a b c : Option (List Told)) (done : List Exchange) (x : Exchange) → Tells a b (told_all done) → Tells b c (told_of x ∷ []) → Tells a c (told_all (x ∷ done))
-told_more a b c done x h i = Tells-trans a b c (told_all done) (told_of x ∷ []) h i
-
 pub told_all-append : (later done : List Exchange) → told_all (later ++ done) ≡ told_all done ++ told_all later
 told_all-append [] done = sym (append-nil (told_all done))
 told_all-append (x ∷ later) done = ap (λ l. l ++ told_of x ∷ []) (told_all-append later done) ∙ append_assoc (told_all done) (told_all later) (told_of x ∷ [])

@@ -13,12 +13,9 @@ record Comes (n : ℕ) (queue : List Request) (group : List Exchange) (failed de
 next_is : (n : ℕ) (queue : List Request) (group : List Exchange) (q : Request) → failures group < n → slice_get queue (decisions group) ≡ Some q → next_of n queue group ≡ Some q
 next_is n queue group q h e = rw (lt-leb n (failures group) h) e
 
-decision_is : (q : Request) (x : Exchange) (d : Option Reply) → IsTry q x d → IsDecision x.request x.outcome x.decided
-decision_is q x d t = subst (λ (r : Request). IsDecision r x.outcome x.decided) (sym t.request_is) t.decision
-
 come_next : (n : ℕ) (queue : List Request) (group : List Exchange) (q : Request) (x : Exchange) (d : Option Reply) (f k : ℕ) → Comes n queue group f k → f < n → slice_get queue k ≡ Some q → IsTry q x d → ComeInTurn n queue (x ∷ group)
 come_next n queue group q x d f k c h e t =
-    (next_is n queue group q (omega (arith, h, c.failed_is)) (ap (slice_get queue) c.decided_is ∙ e) ∙ ap Some (sym t.request_is), decision_is q x d t, c.in_turn)
+    (next_is n queue group q (omega (arith, h, c.failed_is)) (ap (slice_get queue) c.decided_is ∙ e) ∙ ap Some (sym t.request_is), subst (λ (r : Request). IsDecision r x.outcome x.decided) (sym t.request_is) t.decision, c.in_turn)
 
 come_failed : (n : ℕ) (queue : List Request) (group : List Exchange) (q : Request) (x : Exchange) (f k : ℕ) → Comes n queue group f k → f < n → slice_get queue k ≡ Some q → IsTry q x None → Comes n queue (x ∷ group) (f + 1) k
 come_failed n queue group q x f k c h e t = record {

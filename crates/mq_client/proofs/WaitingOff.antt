@@ -5,7 +5,7 @@ use Rattle.std.proofs.lemmas.List.Elements.{filter-append}
 use Rattle.mq_lemmas.proofs.Lists.{all_of}
 use Rattle.mq_lemmas.proofs.Numbers.{number_itself, other_number}
 use Rattle.mq_request.proofs.Alike.{text_itself, id_itself}
-use Rattle.mq_client.proofs.Basics.{all_both, all_weaker, of_closing}
+use Rattle.mq_client.proofs.Basics.{all_at, all_both, all_weaker, of_closing}
 use Rattle.mq_client.proofs.Turning.{next_in_queue}
 use Rattle.mq_client.proofs.ReadingOff.{live_read, numbers_read}
 
@@ -58,15 +58,11 @@ closing_is s n txn end h = of_closing (λ (q : Request). IsClosing q × (seq_of 
 failed_more : (x : Exchange) (group : List Exchange) (q : Request) → is_some x.decided ≡ false → is_decided_by (x ∷ group) q ≡ is_decided_by group q
 failed_more x group q e = rw (e, and_false (same_request x.request q)) refl
 
-the_only : (k : ℕ) (q r : Request) → slice_get (q ∷ []) k ≡ Some r → r ≡ q
-the_only zero q r e = sym (some_is q r e)
-the_only (suc k) q r e = absurd (none_some r e)
-
 -- an ask decides no closing
 ask_none : (n : ℕ) (r : Request) (group : List Exchange) (q : Request) → ComeInTurn n (r ∷ []) group → same_request r q ≡ false → is_decided_by group q ≡ false
 ask_none n r [] q turns other = refl
 ask_none n r (x ∷ group) q turns other =
-    let is : x.request ≡ r = the_only (decisions group) r x.request (next_in_queue n (r ∷ []) group x.request turns.0).1 in
+    let is : x.request ≡ r = all_at (λ (p : Request). p ≡ r) (decisions group) (r ∷ []) x.request (refl, tt) (next_in_queue n (r ∷ []) group x.request turns.0).1 in
     neither_so _ _ (first_false (same_request x.request q) (is_some x.decided) (ap (λ p. same_request p q) is ∙ other)) (ask_none n r group q turns.2 other)
 
 -- ---- lists of closings, the earlier numbers first

@@ -1,6 +1,6 @@
 use Rattle.std.proofs.Common.{◌≡◌, ◌⊎◌, List, is_some, subst, Some, ◌+◌, ◌++◌, ◌∷◌, [], sym, ap, ◌∙◌, None, arith}
 use Rattle.mq_client.proofs.Words.{Closes, FilterLine, Holding, IsAt, IsAtWork, Meaning, Replies, Spans, Stage, TracksAt, after_line, at_line, closing, meaning, noted_by, seconds_in, still, still_by}
-use Rattle.mq_client.proofs.Looping.{Appends-none, Does-nothing, carries_take, stops_within, cut_found, cut_in_hand, takes_noted, count_noted, tracks_filter, answer_counted, request_works, refused_stops, may_go}
+use Rattle.mq_client.proofs.Looping.{Appends-none, Does-nothing, carries_take, stops_within, cut_found, cut_in_hand, takes_noted, count_noted, answer_counted, request_works, refused_stops, may_go}
 use Rattle.mq_client.proofs.filter.after_ready.Goals as goal
 
 pub returns-in-Ok-clause-ok : goal.returns-in-Ok-clause-ok
@@ -13,7 +13,7 @@ returns-in-Ok-clause-ok g c =
     c.pass.ensures ∙ ap (λ s. (f.holdup.0, still_by f.holdup.0 s f.holdup.1)) (c.seconds_of.ensures ∙ ap (λ l. seconds_in (meaning l)) q.is) in
     let R : List Meaning → Spans × Holding → Type 0 = λ L h. Replies h.1 L q.subsystem.now q.phase.now q.session.now q.token.now step text in
     rw (ap meaning q.is) (carries_take m f (record { tracker = f.tracker; is_ready = f.is_ready; answers = f.answers + 1; holdup = c.answer.new.holdup }) _ _ step text c.requires.ready does
-    (λ L st. (subst (R L) pass (replies L st), tracks_filter f.tracker L q.seconds _ _ _ _ _ st)) (held ∙ ap (λ h. (h.0, noted_by h.0 (Some q.seconds) step h.1)) pass) c.requires.ready (λ L e. answer_counted L q.seconds q.subsystem.now q.phase.now q.session.now q.token.now q.rest.now f.answers e))
+    (λ L st. (subst (R L) pass (replies L st), record { sessions = st.sessions; begins = st.begins })) (held ∙ ap (λ h. (h.0, noted_by h.0 (Some q.seconds) step h.1)) pass) c.requires.ready (λ L e. answer_counted L q.seconds q.subsystem.now q.phase.now q.session.now q.token.now q.rest.now f.answers e))
 
 pub returns-in-Err-clause-fault : goal.returns-in-Err-clause-fault
 returns-in-Err-clause-fault g c =

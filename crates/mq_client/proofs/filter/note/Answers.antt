@@ -5,9 +5,6 @@ use Rattle.mq_client.proofs.Looping.{accepted}
 use Rattle.mq_client.proofs.Refusing.{refused, may_by_closing}
 use Rattle.mq_client.proofs.filter.note.Goals as goal
 
-err_is : {e f : FilterFault} → ◌≡◌ {A = Result Bool FilterFault} (Err e) (Err f) → e ≡ f
-err_is h = cc (h)
-
 pub returns-in-Ok-close-clause-ok : goal.returns-in-Ok-close-clause-ok
 returns-in-Ok-close-clause-ok g c =
     let m = meaning c.args.line.now in
@@ -35,5 +32,5 @@ returns-in-Err-close-clause-fault g c = λ L st.
     let k = c.in-Ok.closing in
     let (memory, some) = c.in-Err-close.ensures.memory in
     let none = accepted (fault L m) k (c.in-Ok.ensures.refused L st) in
-    let is : faults.Memory ≡ c.in-Err-close.fault = err_is (sym memory) in
+    let is : faults.Memory ≡ c.in-Err-close.fault = cc (memory) in
     subst (λ (f : FilterFault). IsRefused f L m) is (none, may_by_closing L m k (sym (c.in-Ok.ensures.accepted L st none)) some)

@@ -1,6 +1,6 @@
-use Rattle.std.proofs.Common.{◌≡◌, ◌∷◌, length, ◌∙◌, subst, arith, None}
-use Rattle.mq_client.proofs.Words.{IsVerdict, Tried, verdict_of}
-use Rattle.mq_client.proofs.Telling.{told_more, undecided, decided_by_last, no_verdict, late_more, comes_decided, comes_undecided}
+use Rattle.std.proofs.Common.{◌≡◌, [], ◌∷◌, length, ◌∙◌, subst, arith, None}
+use Rattle.mq_client.proofs.Words.{told_all, told_of, IsVerdict, Tried, verdict_of}
+use Rattle.mq_client.proofs.Telling.{Tells-trans, undecided, decided_by_last, no_verdict, late_more, comes_decided, comes_undecided}
 use Rattle.mq_client.proofs.tries.try_all.Goals as goal
 
 pub loop-attempt-preserved : goal.loop-attempt-preserved
@@ -11,7 +11,7 @@ loop-attempt-preserved g c =
     let fails = undecided _ x decided is_try (subst (IsVerdict decided) none comes.verdict) in
     record {
       done = x ∷ i.done;
-      told = told_more _ _ _ i.done x i.told told;
+      told = Tells-trans _ _ _ (told_all i.done) (told_of x ∷ []) i.told told;
       failed = (fails, i.failed);
       count = omega (arith, i.count);
       late = c.with_try-timed_out.ensures ∙ late_more x i.done _ _ fails.decided_is comes.late i.late;
@@ -25,7 +25,7 @@ returns-in-Decided g c =
     let says = subst (λ (t : Tried). IsVerdict decided (verdict_of t)) c.in-Decided.is comes.verdict in (
       x ∷ i.done,
       decided,
-      told_more _ _ _ i.done x i.told told,
+      Tells-trans _ _ _ (told_all i.done) (told_of x ∷ []) i.told told,
       decided_by_last c.args.tries _ x i.done decided v is_try says i.failed (omega (arith, i.count)),
       comes_decided _ x i.done decided v is_try says,
     )
