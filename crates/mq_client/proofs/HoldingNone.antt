@@ -1,6 +1,6 @@
 -- Without spans nothing is held back.
 use Rattle.std.proofs.Common.{◌≡◌, ℕ, ◌-◌, true, false, List, [], ◌∷◌, refl, ap, ◌∙◌, sym, subst, Option, None, Some, is_some, arith, not, if◌then◌else◌}
-use Rattle.mq_client.proofs.Words.{AllByRecursion, Answers, Asks, Closes, Closing, ConfigLine, Decision, FilterLine, Filters, Full, Holding, Meaning, OtherLine, Passes, Query, ReadyLine, Refuses, ReportLine, Spans, Step, Takes, at_line, closing, filter, held_back, is_full, is_over, nat_le, nat_lt, or_second, push, query, still, still_paused}
+use Rattle.mq_client.proofs.Words.{AllByRecursion, Answers, Asks, Closes, Closing, Decision, FilterLine, Filters, Full, Holding, Meaning, Query, ReportLine, Spans, Step, Takes, at_line, closing, filter, held_back, is_full, is_over, nat_le, nat_lt, or_second, push, query, still, still_paused}
 use Rattle.std.proofs.lemmas.Bool.Decides.{nat_tests}
 use Rattle.mq_line.specs.declared.results.Decision.TheVariants.{RejectLimit, RejectService}
 

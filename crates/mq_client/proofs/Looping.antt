@@ -1,6 +1,6 @@
 -- Lines handled one after another.
 use Rattle.std.proofs.Common.{◌≡◌, ℕ, ◌+◌, Bool, true, false, List, [], ◌∷◌, ◌++◌, length, refl, sym, ap, ◌∙◌, subst, append_assoc, append-nil, arith, rules, cond, inl, inr, ◌⊎◌, Option, None, Some, is_some}
-use Rattle.mq_client.proofs.Words.{AfterReady, AllByRecursion, Appends, Appends-trans, BeforeReady, Carries, Closes, Does, Drain, Ended, EndsWith, Err, Exchange, FilterFault, FilterLine, HasText, Holding, Holds, IfSome, IsAt, IsAtWork, IsCut, IsEarly, IsFound, IsInHand, IsLine, IsOk, IsReady, IsRefused, Makes, MakesAll, MakesOne, MayGo, Meaning, Ok, Outside, Plays, Reaches, Reads, ReadyLine, Replies, Result, SoFar, Source, Spans, Stage, StandsAt, StandsFirst, State, Step, StopsAt, StopsWithin, Takes, Tells, Told, TrackFault, TrackState as State', TracksAt, after_line, all_push, answer_count, around, at_line, closing, concat, is_early, is_filter, meaning, nothing_held, push, registration, still, sum_by-cons, text_of, told_all, told_one, told_steps, track_fault as fault, view}
+use Rattle.mq_client.proofs.Words.{AfterReady, Appends, Appends-trans, BeforeReady, Carries, Closes, Does, Drain, Ended, EndsWith, Err, Exchange, FilterFault, FilterLine, HasText, Holding, Holds, IfSome, IsAt, IsAtWork, IsCut, IsEarly, IsFound, IsInHand, IsLine, IsOk, IsReady, IsRefused, Makes, MakesAll, MakesOne, MayGo, Meaning, Ok, Outside, Plays, Reaches, Reads, ReadyLine, Replies, Result, SoFar, Source, Spans, Stage, StandsAt, StandsFirst, State, Step, StopsAt, StopsWithin, Takes, Tells, Told, TrackFault, TracksAt, after_line, all_push, answer_count, around, at_line, closing, concat, is_early, is_filter, meaning, nothing_held, push, registration, still, sum_by-cons, text_of, told_all, told_one, told_steps, track_fault as fault, view}
 use Rattle.std.specs.Borrow.{Bor}
 use Rattle.mq_line.specs.declared.reading.Line.{Line}
 use Rattle.mq_line.specs.declared.reading.Line.TheVariants as line

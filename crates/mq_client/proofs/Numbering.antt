@@ -1,6 +1,6 @@
 -- Each number has one request, and each request that is sent is the one of its number.
-use Rattle.std.proofs.Common.{◌≡◌, ℕ, ◌+◌, ◌≤◌, ◌==◌, ◌&&◌, ◌||◌, not, nat_le, Bool, false, true, List, [], ◌∷◌, ◌++◌, refl, sym, ap, ◌∙◌, subst, arith, inl, inr, Option, None, Some, is_some, if◌then◌else◌}
-use Rattle.mq_client.proofs.Words.{Action, AllByRecursion, AreUnderway, Ask, Asked, AsksForNoClosed, Close, CloseEnd, Closed, ComeInTurn, Drain, Exchange, Held, Id, IsNumbered, Limit, ListRequest, Live, Never, NoneReturns, Release, Request, Reserve, Retire, Settle, SettlesWhatWasLet, Source, Standing, Step, Suits, Usage, View, WasCommitted, after, after_close, all_append, all_drop, all_push, answer_of, closing_of, decisions, eq-eqb, eqb-true, exchanges_in, held_by, held_for, id_in, id_of, is_closed, is_commit, is_other, length, let_through, live_in, ne_eqb, neither_first, neither_second, none_some, not_false, numbers_in, opened, option_map, option_or, queue_of, refuses, request_by, request_under, reserve_of, same_text, some_is, takes_number, tries_in, txn_in, view}
+use Rattle.std.proofs.Common.{◌≡◌, ℕ, ◌+◌, ◌≤◌, ◌==◌, ◌||◌, not, nat_le, Bool, false, true, List, [], ◌∷◌, ◌++◌, refl, sym, ap, ◌∙◌, subst, arith, inl, inr, Option, None, Some, is_some, if◌then◌else◌}
+use Rattle.mq_client.proofs.Words.{Action, AllByRecursion, AreUnderway, Ask, Asked, AsksForNoClosed, Close, CloseEnd, Closed, ComeInTurn, Drain, Exchange, Held, Id, IsNumbered, Live, Never, NoneReturns, Release, Request, Settle, SettlesWhatWasLet, Source, Standing, Step, Suits, View, WasCommitted, after, after_close, all_append, all_drop, all_push, answer_of, closing_of, decisions, eq-eqb, eqb-true, exchanges_in, held_by, held_for, id_in, id_of, is_closed, is_other, length, let_through, live_in, ne_eqb, neither_first, neither_second, none_some, not_false, numbers_in, opened, option_map, option_or, queue_of, refuses, request_by, request_under, reserve_of, same_text, some_is, takes_number, tries_in, txn_in, view}
 use Rattle.std.specs.Cmp.Lexicographic.{bytes_decides}
 use Rattle.mq_track.specs.declared.closing.CloseEnd.TheVariants as ending
 use Rattle.mq_client.specs.declared.held.Asked.TheVariants as asked

@@ -1,6 +1,6 @@
 -- The place where a run comes to its end follows from its whole input.
-use Rattle.std.proofs.Common.{◌≡◌, ℕ, ◌<◌, if◌then◌else◌, ◌+◌, true, false, List, [], ◌∷◌, ◌++◌, length, refl, sym, ap, ◌∙◌, subst, append_assoc, length-append, arith, Option, None, Some}
-use Rattle.mq_client.proofs.Words.{le-leb, lt-leb, nat_le, AfterReady, AllByRecursion, AreRead, BeforeReady, ConfigLine, FilterFault, FilterLine, Filters, HasText, Holding, IsEarly, IsLine, IsReady, IsTooLong, Meaning, OtherLine, Reaches, Reads, ReadyLine, ReportLine, Spans, Stage, Step, Takes, TrackFault, at_line, fault, is_early, is_stamped, none_some, some_is, track_fault, true_false, ◌≢◌}
+use Rattle.std.proofs.Common.{◌≡◌, ℕ, ◌<◌, if◌then◌else◌, true, false, List, [], ◌∷◌, ◌++◌, length, refl, sym, ap, ◌∙◌, subst, append_assoc, length-append, arith, Option, None, Some}
+use Rattle.mq_client.proofs.Words.{le-leb, lt-leb, nat_le, AfterReady, AllByRecursion, AreRead, BeforeReady, ConfigLine, FilterFault, FilterLine, Filters, HasText, Holding, IsEarly, IsLine, IsReady, IsTooLong, Meaning, OtherLine, Reaches, Reads, ReadyLine, Spans, Stage, Step, Takes, TrackFault, at_line, fault, is_early, is_stamped, none_some, some_is, track_fault, true_false, ◌≢◌}
 use Rattle.mq_line.specs.declared.fault.LineFault.{LineFault}
 use Rattle.mq_client.specs.declared.fault.FilterFault.TheVariants as faults
 use Rattle.mq_line.specs.Text.{max_line}

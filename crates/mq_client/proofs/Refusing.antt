@@ -1,6 +1,6 @@
 -- A line that the tracker refuses.
-use Rattle.std.proofs.Common.{◌≡◌, ℕ, Bool, true, false, ◌||◌, List, refl, sym, ap, ◌∙◌, subst, Option, None, Some, is_some, if◌then◌else◌}
-use Rattle.mq_client.proofs.Words.{or_first, or_second, Closing, ConfigLine, Err, FilterFault, FilterLine, IfErr, IfSome, IsRefused, Meaning, Ok, OnErr, OtherLine, ReadyLine, ReportLine, Result, TrackFault, begin_count, bytes_eq, closing, codes, filter_fault, is_exhausted, is_filter, is_none, may_ask_for_memory, option_or, track_fault as fault}
+use Rattle.std.proofs.Common.{◌≡◌, ℕ, true, List, refl, sym, ap, ◌∙◌, subst, Option, None, Some, is_some}
+use Rattle.mq_client.proofs.Words.{or_first, or_second, Closing, Err, FilterFault, IfErr, IfSome, IsRefused, Meaning, Ok, OnErr, ReportLine, Result, TrackFault, begin_count, bytes_eq, closing, codes, filter_fault, is_exhausted, is_filter, is_none, may_ask_for_memory, option_or, track_fault as fault}
 use Rattle.mq_line.specs.Parameters.{auth, message}
 use Rattle.mq_track.specs.Events.{event, has_message, report_fault, unreadable}
 use Rattle.mq_track.specs.declared.fault.TrackFault.TheVariants as track

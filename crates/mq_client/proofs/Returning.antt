@@ -1,6 +1,6 @@
 -- What the lines have the client do: a transaction that was closed is never asked for again.
 use Rattle.std.proofs.Common.{◌≡◌, ℕ, ◌+◌, ◌==◌, ◌&&◌, Bool, false, true, List, [], ◌∷◌, ◌++◌, refl, sym, ap, ◌∙◌, subst, inl, inr, ◌⊎◌, Option, None, Some, if◌then◌else◌}
-use Rattle.mq_client.proofs.Words.{Action, Ask, Asks, AsksForNoClosed, Close, CloseEnd, Closed, Closing, ConfigLine, Drain, Exchange, FilterLine, Filters, Held, Holding, Live, Meaning, Never, NoneReturns, OtherLine, Passes, Query, ReadyLine, Refuses, ReportLine, Source, Spans, Step, Transaction, View, action_of, actions, actions_of, after, after_close, asking_of, at_line, bytes_eq, close_of, closing, codes, eqb-true, held_by, is_closed, is_login, is_moment, login, none_some, open_transaction, option_map, position_of, push, query, query_at, view}
+use Rattle.mq_client.proofs.Words.{Action, Ask, Asks, AsksForNoClosed, Close, CloseEnd, Closed, Closing, Drain, Exchange, FilterLine, Filters, Held, Holding, Live, Meaning, NoneReturns, Passes, Query, Refuses, Source, Spans, Step, Transaction, View, action_of, actions, actions_of, after, after_close, asking_of, at_line, bytes_eq, close_of, closing, codes, eqb-true, held_by, is_closed, is_login, is_moment, login, none_some, open_transaction, position_of, push, query, query_at, view}
 use Rattle.mq_track.specs.Laws.{StayClosed}
 use Rattle.mq_client.proofs.Sameness.{taken_kind, actions_push}
 use Rattle.mq_client.proofs.Basics.{nil_cons, cons_head, cons_tail, mapped_some}

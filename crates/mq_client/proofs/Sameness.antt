@@ -1,6 +1,6 @@
 -- A run depends on the bytes that were read, on what stood before it, and on how its exchanges ended.
 use Rattle.std.proofs.Common.{◌≡◌, ℕ, Bool, true, List, [], ◌∷◌, ◌++◌, refl, sym, ap, ◌∙◌, subst, append_assoc, Option, None, Some, is_some}
-use Rattle.mq_client.proofs.Words.{some_is, Action, AllByRecursion, Answers, ArePlayed, AreRead, Ask, Asks, Closes, Closing, ComeInTurn, ConfigLine, Decision, Exchange, FilterLine, Filters, Holding, IsEarly, IsReady, Meaning, OtherLine, Outcome, Passes, Plays, Query, Reads, ReadyLine, Refuses, ReportLine, Request, Source, Spans, Step, Takes, action_of, actions, after_line, all_outcomes, append_cancel_right, asking_of, at_line, close_of, closing, decision_by, held_back, held_for, is_early, next_of, none_some, option_map, outcomes, push, query, queue_of, quiets, result_text, tries_in, view}
+use Rattle.mq_client.proofs.Words.{some_is, Action, AllByRecursion, Answers, ArePlayed, AreRead, Ask, Asks, Closes, Closing, ComeInTurn, Decision, Exchange, FilterLine, Filters, Holding, IsEarly, IsReady, Meaning, Outcome, Plays, Query, Reads, ReadyLine, Request, Source, Spans, Step, Takes, action_of, actions, after_line, all_outcomes, append_cancel_right, asking_of, at_line, close_of, closing, decision_by, held_back, held_for, is_early, next_of, none_some, option_map, outcomes, push, query, queue_of, quiets, result_text, tries_in, view}
 use Rattle.mq_client.proofs.Turning.{OneReply, IsOver, over, same_turns}
 use Rattle.mq_client.proofs.Basics.{nil_cons, cons_head, cons_tail}
 

@@ -15,7 +15,7 @@ pub use Rattle.mq_request.specs.Same.{same_id, same_request, same_text}
 pub use Rattle.mq_request.specs.declared.message.Id.{Id}
 pub use Rattle.mq_request.specs.declared.message.Reply.{Reply}
 pub use Rattle.mq_request.specs.declared.message.Request.{Request}
-pub use Rattle.mq_request.specs.declared.message.Request.TheVariants.{Limit, List as ListRequest, Release, Reserve, Retire, Settle, Usage}
+pub use Rattle.mq_request.specs.declared.message.Request.TheVariants.{Limit, Release, Reserve, Retire, Settle}
 pub use Rattle.mq_frame.specs.Spelling.{SpellsReply, request_frame}
 pub use Rattle.mq_stream.specs.Flow.{IsFlushed, TellsReads}
 pub use Rattle.mq_line.specs.Grammar.{ConfigLine, FilterLine, Meaning, OtherLine, Reads, ReadyLine, ReportLine, fault, meaning}
@@ -23,7 +23,7 @@ pub use Rattle.mq_line.specs.Results.{registration, result_text}
 pub use Rattle.mq_line.specs.Text.{Holds, IsLine, IsTooLong, left as left_over, lines as all_lines, text_of}
 pub use Rattle.mq_line.specs.declared.results.Decision.{Decision}
 pub use Rattle.mq_track.specs.Sessions.{Transaction, begin_count, closing, fault as track_fault, is_exhausted, login, open_transaction, position_of}
-pub use Rattle.mq_track.specs.State.{State as TrackState, TracksAt}
+pub use Rattle.mq_track.specs.State.{TracksAt}
 pub use Rattle.mq_track.specs.declared.closing.CloseEnd.{CloseEnd}
 pub use Rattle.mq_track.specs.declared.closing.Closing.{Closing}
 pub use Rattle.mq_track.specs.declared.fault.TrackFault.{TrackFault}

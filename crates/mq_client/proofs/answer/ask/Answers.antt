@@ -9,11 +9,10 @@ returns-in-Some-clause-ok g c =
     let h = c.args.holdup.now.1 in
     let may : (is_login c.args.login.now && is_moment c.args.moment) ≡ true = search rules in
     let is : held_back_lem h c.args.login.now ≡ Some c.in-Some.decision = sym c.held_back.ensures ∙ c.in-Some.is in
-    let S : Bool → Option Step = λ k. Some (record { action = Ask c.args.txn c.args.moment c.args.login.now; group = []; quiet = k }) in
-    let M : State → Type 0 = λ s. Makes c.args.client.now s (record { action = Ask c.args.txn c.args.moment c.args.login.now; group = []; quiet = true }) in (
+    let S : Bool → Option Step = λ k. Some (record { action = Ask c.args.txn c.args.moment c.args.login.now; group = []; quiet = k }) in (
       S true,
       Tells-none _,
-      subst M (sym c.note_held_back.ensures) (held_back c.args.client.now c.args.txn c.args.moment c.args.login.now),
+      subst (λ (s : State). Makes c.args.client.now s (record { action = Ask c.args.txn c.args.moment c.args.login.now; group = []; quiet = true })) (sym c.note_held_back.ensures) (held_back c.args.client.now c.args.txn c.args.moment c.args.login.now),
       rw may ([], ap S (sym (ap is_some is)), c.unasked-in-Some.ensures.decision ∙ sym (ap (λ (o : Option Decision). decision_by o []) is)),
       c.unasked-in-Some.ensures.timed_out,
       c.unasked-in-Some.ensures.full,

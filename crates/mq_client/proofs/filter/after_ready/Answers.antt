@@ -1,4 +1,4 @@
-use Rattle.std.proofs.Common.{◌≡◌, ◌⊎◌, List, is_some, subst, Some, ◌+◌, ◌++◌, ◌∷◌, [], sym, ap, ◌∙◌, None, arith}
+use Rattle.std.proofs.Common.{◌≡◌, ◌⊎◌, List, is_some, subst, Some, ◌+◌, ◌++◌, ◌∷◌, [], sym, ap, ◌∙◌, None}
 use Rattle.mq_client.proofs.Words.{Closes, FilterLine, Holding, IsAt, IsAtWork, Meaning, Replies, Spans, Stage, TracksAt, after_line, at_line, closing, meaning, noted_by, seconds_in, still, still_by}
 use Rattle.mq_client.proofs.Looping.{Appends-none, Does-nothing, carries_take, stops_within, cut_found, cut_in_hand, takes_noted, count_noted, answer_counted, request_works, refused_stops, may_go}
 use Rattle.mq_client.proofs.filter.after_ready.Goals as goal
@@ -11,9 +11,8 @@ returns-in-Ok-clause-ok g c =
     let f = c.args.filter.now in
     let pass : c.pass.new.self ≡ (f.holdup.0, still f.holdup.0 q.seconds f.holdup.1) =
     c.pass.ensures ∙ ap (λ s. (f.holdup.0, still_by f.holdup.0 s f.holdup.1)) (c.seconds_of.ensures ∙ ap (λ l. seconds_in (meaning l)) q.is) in
-    let R : List Meaning → Spans × Holding → Type 0 = λ L h. Replies h.1 L q.subsystem.now q.phase.now q.session.now q.token.now step text in
     rw (ap meaning q.is) (carries_take m f (record { tracker = f.tracker; is_ready = f.is_ready; answers = f.answers + 1; holdup = c.answer.new.holdup }) _ _ step text c.requires.ready does
-    (λ L st. (subst (R L) pass (replies L st), record { sessions = st.sessions; begins = st.begins })) (held ∙ ap (λ h. (h.0, noted_by h.0 (Some q.seconds) step h.1)) pass) c.requires.ready (λ L e. answer_counted L q.seconds q.subsystem.now q.phase.now q.session.now q.token.now q.rest.now f.answers e))
+    (λ L st. (subst (λ (h : Spans × Holding). Replies h.1 L q.subsystem.now q.phase.now q.session.now q.token.now step text) pass (replies L st), record { sessions = st.sessions; begins = st.begins })) (held ∙ ap (λ h. (h.0, noted_by h.0 (Some q.seconds) step h.1)) pass) c.requires.ready (λ L e. answer_counted L q.seconds q.subsystem.now q.phase.now q.session.now q.token.now q.rest.now f.answers e))
 
 pub returns-in-Err-clause-fault : goal.returns-in-Err-clause-fault
 returns-in-Err-clause-fault g c =
@@ -31,38 +30,24 @@ returns-in-Err-clause-fault g c =
     (may_go f stage line rest q.seconds _ _ _ _ _ step _ c.requires.ready a one (rw (ap meaning q.is) at reads) (subst (λ (h : Spans × Holding). ((step ≡ None) × (front ++ more ≡ [])) ⊎ ((L : List Meaning) → TracksAt f.tracker L → Replies h.1 L q.subsystem.now q.phase.now q.session.now q.token.now step (front ++ more))) pass acts)))
     (λ stage a e. work stage a)
 
-pub returns-in-Ok-note : goal.returns-in-Ok-note
-returns-in-Ok-note g c =
+pub returns-in-Ok-note-clause-ok : goal.returns-in-Ok-note-clause-ok
+returns-in-Ok-note-clause-ok g c =
     let (step, told, made, notes, held) = c.in-Ok-note.ensures.ok in
     let l = c.args.line.now in
     let f = c.args.filter.now in
     let apart = c.in_default.not-Filter in
     let pass : c.pass.new.self ≡ (f.holdup.0, at_line f.holdup.0 (meaning l) f.holdup.1) = c.pass.ensures ∙ ap (λ s. (f.holdup.0, still_by f.holdup.0 s f.holdup.1)) c.seconds_of.ensures in
-    let C : List Meaning → Spans × Holding → Type 0 = λ L h. Closes (is_some h.1.paused) (closing L (meaning l)) step in
     let k = at_line f.holdup.0 (meaning l) f.holdup.1 in
-    record {
-      ok = carries_take (meaning l) f (record { tracker = c.note.new.tracker; is_ready = f.is_ready; answers = f.answers; holdup = c.note.new.holdup }) _ _ step [] c.requires.ready
-          (record { written = Appends-none _; exchanged = told; made = made })
-          (λ L st. let n = notes L st in (takes_noted k L l step apart n.0 (subst (C L) pass n.1), n.2)) (held ∙ ap (λ h. (h.0, after_line h.0 (meaning l) step h.1)) pass) c.requires.ready (λ L e. e ∙ sym (count_noted L l apart));
-      count = omega arith;
-      works = λ works differs. works;
-      flushed = λ flushed differs. flushed;
-      fault = tt;
-    }
+    carries_take (meaning l) f (record { tracker = c.note.new.tracker; is_ready = f.is_ready; answers = f.answers; holdup = c.note.new.holdup }) _ _ step [] c.requires.ready
+    (record { written = Appends-none _; exchanged = told; made = made })
+    (λ L st. let n = notes L st in (takes_noted k L l step apart n.0 (subst (λ (h : Spans × Holding). Closes (is_some h.1.paused) (closing L (meaning l)) step) pass n.1), n.2))
+    (held ∙ ap (λ h. (h.0, after_line h.0 (meaning l) step h.1)) pass) c.requires.ready (λ L e. e ∙ sym (count_noted L l apart))
 
-pub returns-in-Err-note : goal.returns-in-Err-note
-returns-in-Err-note g c =
-    let l = c.args.line.now in
+pub returns-in-Err-note-clause-fault : goal.returns-in-Err-note-clause-fault
+returns-in-Err-note-clause-fault g c = λ o pieces line rest source read_failed one reads s.
     let f = c.args.filter.now in
+    let fault = c.in-Err-note.fault in
     let e = c.in-Err-note.ensures in
-    record {
-      ok = tt;
-      count = tt;
-      works = λ works differs. works;
-      flushed = λ flushed differs. flushed;
-      fault = λ o pieces line rest source read_failed one reads s.
-          stops_within o pieces (line ++ 10 ∷ rest) f source _ _ read_failed _ c.in-Err-note.fault None [] [] s (Does-nothing g.K.Link.told _ _ _ _ _ e.link e.client)
-          (λ stage a. (refused_stops c.in-Err-note.fault f stage pieces line rest (meaning l) source read_failed _ c.requires.ready a one reads e.fault).0)
-          (λ stage a. (refused_stops c.in-Err-note.fault f stage pieces line rest (meaning l) source read_failed (g.W.Sink.has_failed c.args.output.now) c.requires.ready a one reads e.fault).1)
-          (λ stage a. (refused_stops c.in-Err-note.fault f stage pieces line rest (meaning l) source read_failed (g.W.Sink.has_failed c.args.output.now) c.requires.ready a one reads e.fault).2);
-    }
+    let refused = λ (stage : Stage) (a : IsAt f stage). refused_stops fault f stage pieces line rest (meaning c.args.line.now) source read_failed (g.W.Sink.has_failed c.args.output.now) c.requires.ready a one reads e.fault in
+    stops_within o pieces (line ++ 10 ∷ rest) f source _ _ read_failed _ fault None [] [] s (Does-nothing g.K.Link.told _ _ _ _ _ e.link e.client)
+    (λ stage a. (refused stage a).0) (λ stage a. (refused stage a).1) (λ stage a. (refused stage a).2)

@@ -21,69 +21,45 @@ loop-read-init g c = record {
 }
 
 -- the read failed
-pub returns-in-Err : goal.returns-in-Err
-returns-in-Err g c =
-    let i = c.loop-read.invariant in
-    record {
-      ok = tt;
-      fault = (
-        i.pieces ++ [] ∷ [],
-        supplied_more _ _ _ i.pieces [] i.supplied (consumes_kept _ _ c.in-Err.ensures.bytes) c.in-Err.ensures.told (omega arith) (omega (arith, i.reads)),
-        stops _ (i.pieces ++ [] ∷ []) c.loop-read.feed.rest c.loop-read.filter _ _ _ _ _ faults.Read None [] []
-            (so_far_none _ i.pieces [] c.loop-read.feed.rest c.loop-read.filter _ refl i.so_far) (Does-still _)
-            (λ stage a. (i.held, inl (c.in-Err.ensures.failed)))
-            (λ stage a. (refl, refl)),
-      );
-      written = tt;
-      sink_works = λ works differs. i.sink_works works;
-      flushed = λ flushed differs. i.flushed flushed;
-      source_works = λ works differs. absurd (differs refl);
-    }
+pub returns-in-Err-clause-fault : goal.returns-in-Err-clause-fault
+returns-in-Err-clause-fault g c =
+    let i = c.loop-read.invariant in (
+      i.pieces ++ [] ∷ [],
+      supplied_more _ _ _ i.pieces [] i.supplied (consumes_kept _ _ c.in-Err.ensures.bytes) c.in-Err.ensures.told (omega arith) (omega (arith, i.reads)),
+      stops _ (i.pieces ++ [] ∷ []) c.loop-read.feed.rest c.loop-read.filter _ _ _ _ _ faults.Read None [] []
+          (so_far_none _ i.pieces [] c.loop-read.feed.rest c.loop-read.filter _ refl i.so_far) (Does-still _)
+          (λ stage a. (i.held, inl (c.in-Err.ensures.failed)))
+          (λ stage a. (refl, refl)),
+    )
 
 -- there was no memory for what was read
-pub returns-in-Err-feed : goal.returns-in-Err-feed
-returns-in-Err-feed g c =
+pub returns-in-Err-feed-clause-fault : goal.returns-in-Err-feed-clause-fault
+returns-in-Err-feed-clause-fault g c =
     let i = c.loop-read.invariant in
     let piece = take c.in-Ok.count c.read.new.piece in
     let fits : c.in-Ok.count ≤ length c.read.new.piece = search rules in
-    let long = length-take-le c.in-Ok.count c.read.new.piece fits in
-    record {
-      ok = tt;
-      fault = (
-        i.pieces ++ piece ∷ [],
-        supplied_more _ _ _ i.pieces piece i.supplied c.in-Ok.ensures.bytes.0 c.in-Ok.ensures.told (omega (arith, long)) (omega (arith, i.reads)),
-        stops _ (i.pieces ++ piece ∷ []) (c.loop-read.feed.rest ++ piece) c.loop-read.filter _ _ _ _ _ faults.Memory None [] []
-            (so_far_fed _ i.pieces c.loop-read.feed.rest (c.loop-read.feed.rest ++ piece) piece c.loop-read.filter _ refl i.so_far) (Does-still _)
-            (λ stage a. inl (record { before = i.pieces; piece = piece; held = c.loop-read.feed.rest; last = refl; whole = refl; is_line = i.held; some = omega (arith, long) }))
-            (λ stage a. inl (refl, refl)),
-      );
-      written = tt;
-      sink_works = λ works differs. i.sink_works works;
-      flushed = λ flushed differs. i.flushed flushed;
-      source_works = λ works differs. c.in-Ok.ensures.failed;
-    }
+    let long = length-take-le c.in-Ok.count c.read.new.piece fits in (
+      i.pieces ++ piece ∷ [],
+      supplied_more _ _ _ i.pieces piece i.supplied c.in-Ok.ensures.bytes.0 c.in-Ok.ensures.told (omega (arith, long)) (omega (arith, i.reads)),
+      stops _ (i.pieces ++ piece ∷ []) (c.loop-read.feed.rest ++ piece) c.loop-read.filter _ _ _ _ _ faults.Memory None [] []
+          (so_far_fed _ i.pieces c.loop-read.feed.rest (c.loop-read.feed.rest ++ piece) piece c.loop-read.filter _ refl i.so_far) (Does-still _)
+          (λ stage a. inl (record { before = i.pieces; piece = piece; held = c.loop-read.feed.rest; last = refl; whole = refl; is_line = i.held; some = omega (arith, long) }))
+          (λ stage a. inl (refl, refl)),
+    )
 
 -- a line stopped the run
-pub returns-in-Err-take_lines : goal.returns-in-Err-take_lines
-returns-in-Err-take_lines g c =
+pub returns-in-Err-take_lines-clause-fault : goal.returns-in-Err-take_lines-clause-fault
+returns-in-Err-take_lines-clause-fault g c =
     let i = c.loop-read.invariant in
     let piece = take c.in-Ok.count c.read.new.piece in
     let fed : c.feed.new.self.rest ≡ c.loop-read.feed.rest ++ piece = search rules in
     let fits : c.in-Ok.count ≤ length c.read.new.piece = search rules in
-    let long = length-take-le c.in-Ok.count c.read.new.piece fits in
-    record {
-      ok = tt;
-      fault = (
-        i.pieces ++ piece ∷ [],
-        supplied_more _ _ _ i.pieces piece i.supplied c.in-Ok.ensures.bytes.0 c.in-Ok.ensures.told (omega (arith, long)) (omega (arith, i.reads)),
-        (c.in-Err-take_lines.ensures.fault _ (i.pieces ++ piece ∷ []) _ _
-            (so_far_fed _ i.pieces c.loop-read.feed.rest c.feed.new.self.rest piece c.loop-read.filter _ fed i.so_far)).0,
-      );
-      written = tt;
-      sink_works = λ works differs. c.in-Err-take_lines.ensures.works (i.sink_works works) (λ same. differs (cc (same)));
-      flushed = λ flushed differs. c.in-Err-take_lines.ensures.flushed (i.flushed flushed) (λ same. differs (cc (same)));
-      source_works = λ works differs. c.in-Ok.ensures.failed;
-    }
+    let long = length-take-le c.in-Ok.count c.read.new.piece fits in (
+      i.pieces ++ piece ∷ [],
+      supplied_more _ _ _ i.pieces piece i.supplied c.in-Ok.ensures.bytes.0 c.in-Ok.ensures.told (omega (arith, long)) (omega (arith, i.reads)),
+      (c.in-Err-take_lines.ensures.fault _ (i.pieces ++ piece ∷ []) _ _
+          (so_far_fed _ i.pieces c.loop-read.feed.rest c.feed.new.self.rest piece c.loop-read.filter _ fed i.so_far)).0,
+    )
 
 pub loop-read-preserved : goal.loop-read-preserved
 loop-read-preserved g c =
@@ -107,61 +83,37 @@ loop-read-preserved g c =
     }
 
 -- all reads were made
-pub returns : goal.returns
-returns g c =
+pub returns-clause-fault : goal.returns-clause-fault
+returns-clause-fault g c =
     let i = c.loop-read.invariant in
-    let all : length i.pieces ≡ 1099511627776 = omega (arith, i.reads) in
-    record {
-      ok = tt;
-      fault = (
-        i.pieces,
-        i.supplied,
-        stops _ i.pieces c.loop-read.feed.rest c.loop-read.filter _ _ _ _ _ faults.Read None [] [] i.so_far (Does-still _)
-            (λ stage a. (i.held, inr all))
-            (λ stage a. (refl, refl)),
-      );
-      written = tt;
-      sink_works = λ works differs. i.sink_works works;
-      flushed = λ flushed differs. i.flushed flushed;
-      source_works = λ works differs. absurd (differs refl);
-    }
+    let all : length i.pieces ≡ 1099511627776 = omega (arith, i.reads) in (
+      i.pieces,
+      i.supplied,
+      stops _ i.pieces c.loop-read.feed.rest c.loop-read.filter _ _ _ _ _ faults.Read None [] [] i.so_far (Does-still _)
+          (λ stage a. (i.held, inr all))
+          (λ stage a. (refl, refl)),
+    )
 
 -- the input ended, and so did the run
-pub returns-in-Ok-finish : goal.returns-in-Ok-finish
-returns-in-Ok-finish g c =
+pub returns-in-Ok-finish-clause-ok : goal.returns-in-Ok-finish-clause-ok
+returns-in-Ok-finish-clause-ok g c =
     let i = c.loop-read.invariant in
     let piece = take c.in-Ok.count c.read.new.piece in
-    let none : piece ≡ [] = ap (λ n. take n c.read.new.piece) c.if-count-eq0.true in
-    record {
-      ok = (
-        i.pieces ++ piece ∷ [],
-        supplied_more _ _ _ i.pieces piece i.supplied c.in-Ok.ensures.bytes.0 c.in-Ok.ensures.told (omega (arith, ap length none)) (omega (arith, i.reads)),
-        c.in-Ok.ensures.bytes.1 c.if-count-eq0.true (omega arith),
-        c.in-Ok-finish.ensures.ok _ (concat (i.pieces ++ piece ∷ [])) _ (so_far_none _ i.pieces piece c.loop-read.feed.rest c.loop-read.filter _ none i.so_far),
-      );
-      fault = tt;
-      written = i.written c.in-Ok-finish.ensures.ready;
-      sink_works = λ works differs. i.sink_works works;
-      flushed = λ flushed differs. i.flushed flushed;
-      source_works = λ works differs. c.in-Ok.ensures.failed;
-    }
+    let none : piece ≡ [] = ap (λ n. take n c.read.new.piece) c.if-count-eq0.true in (
+      i.pieces ++ piece ∷ [],
+      supplied_more _ _ _ i.pieces piece i.supplied c.in-Ok.ensures.bytes.0 c.in-Ok.ensures.told (omega (arith, ap length none)) (omega (arith, i.reads)),
+      c.in-Ok.ensures.bytes.1 c.if-count-eq0.true (omega arith),
+      c.in-Ok-finish.ensures.ok _ (concat (i.pieces ++ piece ∷ [])) _ (so_far_none _ i.pieces piece c.loop-read.feed.rest c.loop-read.filter _ none i.so_far),
+    )
 
 -- the input ended where the run can't
-pub returns-in-Err-finish : goal.returns-in-Err-finish
-returns-in-Err-finish g c =
+pub returns-in-Err-finish-clause-fault : goal.returns-in-Err-finish-clause-fault
+returns-in-Err-finish-clause-fault g c =
     let i = c.loop-read.invariant in
     let piece = take c.in-Ok.count c.read.new.piece in
     let none : piece ≡ [] = ap (λ n. take n c.read.new.piece) c.if-count-eq0.true in
-    let at_end : IsAtEnd (g.S.Source.remaining c.read.new.self) = c.in-Ok.ensures.bytes.1 c.if-count-eq0.true (omega arith) in
-    record {
-      ok = tt;
-      fault = (
-        i.pieces ++ piece ∷ [],
-        supplied_more _ _ _ i.pieces piece i.supplied c.in-Ok.ensures.bytes.0 c.in-Ok.ensures.told (omega (arith, ap length none)) (omega (arith, i.reads)),
-        c.in-Err-finish.ensures.fault _ (i.pieces ++ piece ∷ []) _ _ _ _ at_end (so_far_none _ i.pieces piece c.loop-read.feed.rest c.loop-read.filter _ none i.so_far),
-      );
-      written = tt;
-      sink_works = λ works differs. i.sink_works works;
-      flushed = λ flushed differs. i.flushed flushed;
-      source_works = λ works differs. c.in-Ok.ensures.failed;
-    }
+    let at_end : IsAtEnd (g.S.Source.remaining c.read.new.self) = c.in-Ok.ensures.bytes.1 c.if-count-eq0.true (omega arith) in (
+      i.pieces ++ piece ∷ [],
+      supplied_more _ _ _ i.pieces piece i.supplied c.in-Ok.ensures.bytes.0 c.in-Ok.ensures.told (omega (arith, ap length none)) (omega (arith, i.reads)),
+      c.in-Err-finish.ensures.fault _ (i.pieces ++ piece ∷ []) _ _ _ _ at_end (so_far_none _ i.pieces piece c.loop-read.feed.rest c.loop-read.filter _ none i.so_far),
+    )

@@ -1,5 +1,5 @@
-use Rattle.std.proofs.Common.{◌≡◌, ℕ, ◌+◌, List, [], ◌∷◌, ◌++◌, refl, sym, ap, ◌∙◌, subst, rules, arith, None, Some}
-use Rattle.mq_client.proofs.Words.{AllByRecursion, Close, Framed, IsFramed, Makes, Request, Sends, State, all_push, closing_of, find, map-append, requests_of, state_of}
+use Rattle.std.proofs.Common.{◌≡◌, ℕ, ◌+◌, List, [], ◌∷◌, ◌++◌, refl, ap, ◌∙◌, subst, rules, arith, None, Some}
+use Rattle.mq_client.proofs.Words.{Close, Framed, Makes, Request, Sends, State, closing_of, find, map-append, requests_of, state_of}
 use Rattle.mq_client.proofs.Telling.{Tells-none}
 use Rattle.mq_client.proofs.Making.{closed, closed_nothing}
 use Rattle.mq_client.proofs.Keeping.{closed_in_range}
@@ -15,9 +15,6 @@ pub framed_closing-requires-clause-held : goal.framed_closing-requires-clause-he
 framed_closing-requires-clause-held g c =
     let there : find c.self.inside.held c.args.closing.txn ≡ Some c.in-Some.known.now = search rules in
     c.self.invariant.held c.args.closing.txn c.in-Some.known.now there
-
-pub send_all-timed_out-requires : goal.send_all-timed_out-requires
-send_all-timed_out-requires g c = subst (AllByRecursion IsFramed) (sym c.in_ok-push_back.ensures.items) (all_push IsFramed c.self.inside.outbox.items _ c.self.invariant.outbox (search rules))
 
 pub invariant_of-self-2 : goal.invariant_of-self-2
 invariant_of-self-2 g c =
@@ -39,13 +36,12 @@ pub returns-clause-ok : goal.returns-clause-ok
 returns-clause-ok g c =
     let (group, told, sends, late) = c.send_all-timed_out.ensures.step in
     let i = c.self.inside in
-    let d : State = record { source = record { host = i.host; run = i.run }; tries = i.tries; spans = i.spans; held = c.release.new.self; numbers = i.numbers + 1; waiting = requests_of c.send_all-timed_out.new.outbox.items } in
+    let d : State = record (state_of i) { held = c.release.new.self; numbers = i.numbers + 1; waiting = requests_of c.send_all-timed_out.new.outbox.items } in
     let there : find i.held c.args.closing.txn ≡ Some c.in-Some.known.now = search rules in
     let pushed = ap requests_of c.in_ok-push_back.ensures.items ∙ map-append (λ (framed : Framed). framed.request) i.outbox.items _ ∙ ap (λ q. requests_of i.outbox.items ++ q ∷ []) (c.in_ok-framed.ensures.request) in
-    let q = closing_of (record { host = i.host; run = i.run }) (i.numbers + 1) c.args.closing.txn c.args.closing.end c.in-Some.known.now in
-    let S : ℕ → Type 0 = λ n. Sends n (requests_of i.outbox.items ++ q ∷ []) group (requests_of c.send_all-timed_out.new.outbox.items) in (
+    let q = closing_of d.source (i.numbers + 1) c.args.closing.txn c.args.closing.end c.in-Some.known.now in (
       group,
       told,
-      subst (λ (s : State). Makes s d (record { action = Close c.args.closing.txn c.args.closing.end; group = group; quiet = c.args.paused })) c.self.view_is (closed (state_of i) d c.args.closing.txn c.args.closing.end c.args.paused c.in-Some.known.now group refl refl there (subst S c.tries_in-tries.ensures (subst (λ (w : List Request). Sends c.tries_in-tries.result w group (requests_of c.send_all-timed_out.new.outbox.items)) pushed sends)) c.release.ensures.find c.release.ensures.len refl),
+      subst (λ (s : State). Makes s d (record { action = Close c.args.closing.txn c.args.closing.end; group = group; quiet = c.args.paused })) c.self.view_is (closed (state_of i) d c.args.closing.txn c.args.closing.end c.args.paused c.in-Some.known.now group refl refl there (subst (λ (n : ℕ). Sends n (requests_of i.outbox.items ++ q ∷ []) group (requests_of c.send_all-timed_out.new.outbox.items)) c.tries_in-tries.ensures (subst (λ (w : List Request). Sends c.tries_in-tries.result w group (requests_of c.send_all-timed_out.new.outbox.items)) pushed sends)) c.release.ensures.find c.release.ensures.len refl),
       late,
     )

@@ -1,5 +1,5 @@
 use Rattle.std.proofs.Common.{◌≡◌, ℕ, ◌+◌, ◌==◌, [], length, refl, sym, ◌∙◌, subst, rules, true, false, Some, if◌then◌else◌}
-use Rattle.mq_client.proofs.Words.{AllHeld, Ask, Framed, Makes, State, answer_by, find, length-map, let_through, opened, refuses, requests_of, state_of}
+use Rattle.mq_client.proofs.Words.{AllHeld, Ask, Framed, Makes, State, answer_by, find, length-map, let_through, opened, refuses, state_of}
 use Rattle.mq_client.proofs.Telling.{Tells-none}
 use Rattle.mq_client.proofs.Making.{refused, asked, answer_of_tries, held_and_counted}
 use Rattle.mq_client.proofs.Keeping.{has_room, asked_in_range}
@@ -41,7 +41,7 @@ pub returns-clause-ok : goal.returns-clause-ok
 returns-clause-ok g c =
     let (group, decided, told, tries, answer, late) = c.ask-asking.ensures in
     let i = c.self.inside in
-    let d : State = record { source = record { host = i.host; run = i.run }; tries = i.tries; spans = i.spans; held = c.count.new.self; numbers = i.numbers + 1; waiting = requests_of i.outbox.items } in
+    let d : State = record (state_of i) { held = c.count.new.self; numbers = i.numbers + 1 } in
     let free : refuses (find i.held c.args.txn) (length i.held) i.numbers (length i.outbox.items) c.args.moment c.args.login.now ≡ false = search rules in
     let found = held_and_counted c.args.txn c.args.moment c.args.login.now c.ask-asking.result.asked i.held c.hold.new.self c.count.new.self c.in_ok-hold.ensures.find c.count.ensures.find in
     let by : (t : ℕ) → find c.count.new.self t ≡ (if c.args.txn == t then Some (let_through (answer_by decided) (opened c.args.moment c.args.login.now (find i.held c.args.txn))) else find i.held t) = rw answer at found in
