@@ -32,6 +32,9 @@ accepted (Some f) x h = absurd cc
 
 -- ---- steps that add up
 
+pub makes_none : (c : State) → MakesAll c c []
+makes_none c = record { source = refl; tries = refl; plays = λ P st. tt; stands = λ P st. st }
+
 pub makes_push : (a b c : State) (steps : List Step) (step : Option Step) → MakesAll a b steps → MakesOne b c step → MakesAll a c (push step steps)
 makes_push a b c steps None m e = subst (λ (x : State). MakesAll a x steps) (sym e) m
 makes_push a b c steps (Some x) m n = record {
@@ -274,7 +277,7 @@ so_far_start sink told client f held none h tracks zero holdup = record {
   has_text = (refl, refl, ap (λ x. x.1) holdup);
   written = Appends-none sink;
   exchanged = Tells-none told;
-  made = record { source = refl; tries = refl; plays = λ P st. tt; stands = λ P st. st };
+  made = makes_none client;
 }
 
 -- a read gave a piece
