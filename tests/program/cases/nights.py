@@ -81,7 +81,6 @@ def run(world, checks):
     of_thousands(world, checks)
     on_the_disk_in_order(world, checks)
     beside_a_renewal(world, checks)
-    a_new_file_that_is_removed(world, checks)
     killed_at_a_rename(world, checks)
     killed_at_a_change(world, checks)
     wrong_clocks(world, checks)
@@ -669,12 +668,20 @@ def warned_of(server):
 
 
 def a_switch_that_fails(world, checks):
-    """The new ledger's log was removed by somebody, or a folder has the name that its file gets:
-    the server ends, says of which file and why, and the former ledger is whole."""
+    """The new ledger's file or its log was removed by somebody, or a folder has the name that its
+    file gets: the server ends, says of which file and why, and the former ledger is whole."""
     source = f"{world.folder}/to-be-switched"
     books = filled(world, source, MANY)
     for place, (what, change, undo, of, why, left) in enumerate(
         [
+            (
+                "a new file that was removed",
+                lambda path: os.remove(f"{path}.part"),
+                lambda path: None,
+                ".part",
+                "it was removed",
+                ["", "-wal", ".part-wal"],
+            ),
             (
                 "a new ledger without its log",
                 lambda path: os.remove(f"{path}.part-wal"),
@@ -1005,22 +1012,6 @@ def warns_once_over_a_night(world, checks):
         ]
         wanted = f"near has used 800 of its limit of {DEFAULT} on day {day}"
         checks.equal(f"{what}: the log", (good, len(came), lines), (True, 1, [wanted]))
-
-
-def a_new_file_that_is_removed(world, checks):
-    """Somebody removes the new file while it is filled: the server ends, and the ledger is what it
-    was."""
-    what, path = "a new file that was removed", f"{world.folder}/removed"
-    books = filled(world, path, MANY)
-    with nightly(world, path) as server:
-        good = wait_until(lambda: os.path.exists(f"{path}.part-wal"))
-        os.remove(f"{path}.part")
-        ended = server.status(), [
-            line for line in server.log_lines() if not line.startswith("[INFO")
-        ]
-    wanted = [of_store(f"{path}.part", "it was removed").rstrip("\n"), f"mailquota: {NOT_OPENED}"]
-    checks.equal(f"{what}: the end", (good, ended), (True, (1, wanted)))
-    checks.equal(f"{what}: audit", audit(world, path, default=DEFAULT), sound(books))
 
 
 class Client(threading.Thread):
