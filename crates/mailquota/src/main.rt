@@ -1,13 +1,13 @@
 //! The program: a sending-quota filter for smtpd, and the quota server that its hosts share.
 //!
-//! `main` hands the words of its process to `mq_words`, and has `mq_remote` or `mq_program` do what they ask for. From
-//! `mailquota/src/main.rt`:
+//! `main` hands the words of its process to `mq_words`, and has `mq_remote` or `mq_program` do what
+//! they ask for. From `mailquota/src/main.rt`:
 //!
 //!     ExitCode::from(program::run(&rt, Unknown, Unknown, &mut rt.stderr()))
 //!
-//! It stands on `mq_words`, `mq_process`, `mq_remote` and `mq_program`, and knows which subcommand is whose, its
-//! exit status, and that nothing is known of a file. Begin with `program.rt`, then `subcommand.rt`;
-//! docs/ARCHITECTURE.md shows how the data flows from there.
+//! It stands on `mq_words`, `mq_process`, `mq_remote` and `mq_program`, and knows which subcommand
+//! is whose, its exit status, and that nothing is known of a file. Begin with `program.rt`, then
+//! `subcommand.rt`; docs/ARCHITECTURE.md shows how the data flows from there.
 #![tactic(auto)]
 
 mod program;
@@ -17,9 +17,9 @@ mod version;
 use sqlite::Unknown;
 use std::process::ExitCode;
 
-/// `Unknown` is what a database file and its log hold, one that a server left or one that is just made: all that is proved of a
-/// server is proved whatever that is, and this is the one place that names it. A write that the disk tears leaves each byte old
-/// or new.
+/// `Unknown` is what a database file and its log hold, one that a server left or one that is just
+/// made: all that is proved of a server is proved whatever that is, and this is the one place that
+/// names it. A write that the disk tears leaves each byte old or new.
 fn main(rt: HostRuntime) -> ExitCode {
     ExitCode::from(program::run(&rt, Unknown, Unknown, &mut rt.stderr()))
 }

@@ -3,17 +3,17 @@
 use crate::subcommand::run_subcommand;
 use crate::version::VERSION;
 use mq_program::{ProgramFault, end_program, or_memory};
-use mq_words::{Unprinted, print_fault, read_arguments};
+use mq_words::{PrintFault, print_fault, read_arguments};
 use sqlite::Start;
 use std::env;
 use std::io::Write;
 use std::rt::Env;
 
-/// Runs the program by the words of the process and gives its exit status: 0 done, 1 fault,
-/// 2 usage.
+/// Runs the program by the words of the process and gives its exit status: 0 done, 1 fault, 2
+/// usage.
 ///
-/// `start` stands for what the file of a server's ledger and its log hold before the call, and `new` for what a file that is
-/// just made and its log hold.
+/// `start` stands for what the file of a server's ledger and its log hold before the call, and
+/// `new` for what a file that is just made and its log hold.
 pub fn run<E: Write, S: Start, N: Start>(rt: &HostRuntime, start: S, new: N, errors: &mut E) -> u8 {
     match words_of(rt) {
         Ok(words) => run_words(rt, words.as_slice(), start, new, errors),
@@ -42,8 +42,8 @@ fn run_words<E: Write, S: Start, N: Start>(
         Ok(given) => run_subcommand(rt, given, start, new, errors),
         Err(fault) => match print_fault(rt, fault) {
             Ok(status) => status,
-            Err(Unprinted::Memory) => end_program(Err(ProgramFault::Memory), errors),
-            Err(Unprinted::Write) => end_program(Err(ProgramFault::Write), errors),
+            Err(PrintFault::Memory) => end_program(Err(ProgramFault::Memory), errors),
+            Err(PrintFault::Write) => end_program(Err(ProgramFault::Write), errors),
         },
     }
 }

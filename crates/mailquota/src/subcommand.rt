@@ -9,11 +9,11 @@ use sqlite::Start;
 use std::io;
 use std::io::{IsTerminal, Write};
 
-/// Runs a subcommand, prints on `errors` why it isn't done, and gives the exit status: 0 done,
-/// 1 fault, 2 usage.
+/// Runs a subcommand, prints on `errors` why it isn't done, and gives the exit status: 0 done, 1
+/// fault, 2 usage.
 ///
-/// `start` stands for what the file of a server's ledger and its log hold before the call, and `new` for what a file that is
-/// just made and its log hold.
+/// `start` stands for what the file of a server's ledger and its log hold before the call, and
+/// `new` for what a file that is just made and its log hold.
 pub fn run_subcommand<E: Write, S: Start, N: Start>(
     rt: &HostRuntime,
     given: Arguments<'_>,

@@ -42,7 +42,8 @@ pub trait Chore<L: Ledger> {
         ensures fits { L.has_kept ledger.new → L.is_sound ledger.old →
             Fitted (fits self.old) (L.book ledger.old) → fits self.new (L.book ledger.new) }
         ensures done { L.has_kept ledger.new → L.is_sound ledger.old →
-            Fitted (fits self.old) (L.book ledger.old) → result ≡ Piece.Done → is_done self.new (L.book ledger.new) };
+            Fitted (fits self.old) (L.book ledger.old) → result ≡ Piece.Done
+            → is_done self.new (L.book ledger.new) };
 }
 
 /// There is nothing to do, and never an end to it.

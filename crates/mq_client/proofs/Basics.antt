@@ -1,6 +1,6 @@
 -- Small facts of choices, options and lists.
 use Rattle.std.proofs.Common.{◌≡◌, ◌&&◌, ℕ, zero, suc, Bool, true, false, List, [], ◌∷◌, ◌++◌, subst, refl, Option, None, Some, if◌then◌else◌}
-use Rattle.mq_client.proofs.Words.{AllByRecursion, CloseEnd, Held, Release, Request, Settle, Source, closing_of, id_of, is_commit, nat_le, none_some, option_map, slice_get, some_is}
+use Rattle.mq_client.proofs.Words.{AllByRecursion, CloseEnd, HeldTransaction, Release, Request, Settle, Source, closing_of, id_of, is_commit, nat_le, none_some, option_map, slice_get, some_is}
 
 pub nil_cons : {A : Type 0} (x : A) (xs : List A) → [] ≡ x ∷ xs → ⊥
 nil_cons x xs e = cc
@@ -30,7 +30,7 @@ of_either F true x y h i = h
 of_either F false x y h i = i
 
 -- what closes a transaction is a settle or a release
-pub of_closing : (F : Request → Type 0) (s : Source) (n txn : ℕ) (end : CloseEnd) (h : Held) → F (Settle (id_of s n) txn h.moment h.login h.granted) → F (Release (id_of s n) txn h.moment h.login) → F (closing_of s n txn end h)
+pub of_closing : (F : Request → Type 0) (s : Source) (n txn : ℕ) (end : CloseEnd) (h : HeldTransaction) → F (Settle (id_of s n) txn h.moment h.login h.granted) → F (Release (id_of s n) txn h.moment h.login) → F (closing_of s n txn end h)
 of_closing F s n txn end h settle release = of_either F (is_commit end && nat_le 1 h.granted) _ _ settle release
 
 pub mapped_some : {A B : Type 0} (f : A → B) (o : Option A) (y : B) → option_map f o ≡ Some y → (x : A) × (o ≡ Some x) × (f x ≡ y)

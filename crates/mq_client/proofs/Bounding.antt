@@ -1,7 +1,7 @@
 -- However a client was used, few transactions are live or waiting, numbers are left to close the live ones, and a
 -- step makes few exchanges.
 use Rattle.std.proofs.Common.{◌≡◌, ℕ, zero, suc, ◌+◌, ◌*◌, ◌<◌, ◌≤◌, Bool, false, true, List, [], ◌∷◌, ◌++◌, length, refl, ap, subst, arith, length-append, length-drop, Option, None, Some, is_some, if◌then◌else◌}
-use Rattle.mq_client.proofs.Words.{Action, AreUnderway, Ask, Close, CloseEnd, ComeInTurn, Drain, Exchange, Held, IsBounded, Request, Source, Step, View, after, after_close, closing_of, decisions, failures, held_by, held_for, next_of, none_some, queue_of, refuses, reserve_of, slice_get, tries_in, view, with_asked}
+use Rattle.mq_client.proofs.Words.{Action, AreUnderway, Ask, Close, CloseEnd, ComeInTurn, Drain, Exchange, HeldTransaction, IsBounded, Request, Source, Step, View, after, after_close, closing_of, decisions, failures, held_by, held_for, next_of, none_some, queue_of, refuses, reserve_of, slice_get, tries_in, view, with_asked}
 use Rattle.std.proofs.Math.Nat.{mul-le-mul_left}
 use Rattle.mq_client.proofs.Counting.{AreCounted, counted, length_closed}
 use Rattle.mq_client.proofs.Keeping.{has_room}
@@ -13,7 +13,7 @@ pub asked_free : (b : Bool) (n : ℕ) (q r : Request) (group : List Exchange) �
 asked_free false n q r group e = refl
 asked_free true n q r group e = absurd (none_some r (next_in_queue n [] group r e).1)
 
-length_asked : (o : Option Held) (txn : ℕ) (live : List ℕ) → length (with_asked txn o live) ≡ (if is_some o then length live else length live + 1)
+length_asked : (o : Option HeldTransaction) (txn : ℕ) (live : List ℕ) → length (with_asked txn o live) ≡ (if is_some o then length live else length live + 1)
 length_asked None txn live = omega arith
 length_asked (Some h) txn live = refl
 
@@ -24,7 +24,7 @@ ask_bounded s n v txn moment login x group free b =
     let long = length_asked (held_by (v.standing txn)) txn v.live in
     record { places = room.places _ long; numbers = room.numbers _ long }
 
-close_bounded : (s : Source) (v : View) (txn : ℕ) (end : CloseEnd) (group : List Exchange) (o : Option Held) → held_by (v.standing txn) ≡ o → AreCounted v → IsBounded v → IsBounded (after_close s txn end group v o)
+close_bounded : (s : Source) (v : View) (txn : ℕ) (end : CloseEnd) (group : List Exchange) (o : Option HeldTransaction) → held_by (v.standing txn) ≡ o → AreCounted v → IsBounded v → IsBounded (after_close s txn end group v o)
 close_bounded s v txn end group None e all b = b
 close_bounded s v txn end group (Some h) e all b =
     let one = length_closed v txn all (ap is_some e) in
@@ -71,7 +71,7 @@ few_in_turn n queue (x ∷ group) turns =
 ask_queue : (b : Bool) (q : Request) → length (if b then [] else q ∷ []) ≤ 4096
 ask_queue b q = of_either (λ (l : List Request). length l ≤ 4096) b [] (q ∷ []) (omega arith) (omega arith)
 
-queue_length : (s : Source) (v : View) (a : Action) (o : Option Held) → held_for v a ≡ o → AreCounted v → IsBounded v → length (queue_of s v o a) ≤ 4096
+queue_length : (s : Source) (v : View) (a : Action) (o : Option HeldTransaction) → held_for v a ≡ o → AreCounted v → IsBounded v → length (queue_of s v o a) ≤ 4096
 queue_length s v (Ask txn moment login) o e all b = ask_queue (refuses o (length v.live) v.numbers (length v.waiting) moment login) (reserve_of s (v.numbers + 1) txn moment login)
 queue_length s v (Close txn end) None e all b = omega arith
 queue_length s v (Close txn end) (Some h) e all b =

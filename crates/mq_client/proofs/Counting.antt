@@ -1,6 +1,6 @@
 -- The live transactions of a past, each once.
 use Rattle.std.proofs.Common.{◌≡◌, ℕ, ◌+◌, ◌==◌, Bool, false, true, List, [], ◌∷◌, length, refl, sym, ap, ◌∙◌, arith, Option, None, Some, is_some, if◌then◌else◌}
-use Rattle.mq_client.proofs.Words.{Action, Ask, Close, CloseEnd, Closed, Drain, Exchange, Held, Live, Source, Step, View, after, after_close, both_ways, eq-eqb, eqb-true, held_by, ne_eqb, view, with_asked, without}
+use Rattle.mq_client.proofs.Words.{Action, Ask, Close, CloseEnd, Closed, Drain, Exchange, HeldTransaction, Live, Source, Step, View, after, after_close, both_ways, eq-eqb, eqb-true, held_by, ne_eqb, view, with_asked, without}
 use Rattle.mq_client.proofs.Basics.{of_either}
 
 abbrev pub count_in : ℕ → List ℕ → ℕ
@@ -42,7 +42,7 @@ count_without t u (x ∷ xs) = count_without_at t u x xs (x == u) (u == t) refl 
 abbrev pub AreCounted : View → Type 0
 AreCounted v = (t : ℕ) → count_in t v.live ≡ one_if (is_some (held_by (v.standing t)))
 
-ask_counted : (t txn : ℕ) (now : Held) (v : View) (o : Option Held) (b : Bool) → held_by (v.standing txn) ≡ o → (txn == t) ≡ b → AreCounted v
+ask_counted : (t txn : ℕ) (now : HeldTransaction) (v : View) (o : Option HeldTransaction) (b : Bool) → held_by (v.standing txn) ≡ o → (txn == t) ≡ b → AreCounted v
     → count_in t (with_asked txn o v.live) ≡ one_if (is_some (held_by (if b then Live now else v.standing t)))
 ask_counted t txn now v None true e f all =
     let none : count_in txn v.live ≡ 0 = all txn ∙ ap (λ k. one_if (is_some k)) e in
@@ -51,12 +51,12 @@ ask_counted t txn now v None false e f all = rw f (all t)
 ask_counted t txn now v (Some h) true e f all = ap (λ k. count_in k v.live) (sym (eqb-true txn t f)) ∙ all txn ∙ ap (λ k. one_if (is_some k)) e
 ask_counted t txn now v (Some h) false e f all = all t
 
-close_counted : (t : ℕ) (v : View) (end : CloseEnd) (number : ℕ) (h : Held) (b : Bool) → count_in t v.live ≡ one_if (is_some (held_by (v.standing t)))
+close_counted : (t : ℕ) (v : View) (end : CloseEnd) (number : ℕ) (h : HeldTransaction) (b : Bool) → count_in t v.live ≡ one_if (is_some (held_by (v.standing t)))
     → (if b then 0 else count_in t v.live) ≡ one_if (is_some (held_by (if b then Closed end number h else v.standing t)))
 close_counted t v end number h true e = refl
 close_counted t v end number h false e = e
 
-counted_close : (s : Source) (txn : ℕ) (end : CloseEnd) (group : List Exchange) (v : View) (o : Option Held) → AreCounted v → AreCounted (after_close s txn end group v o)
+counted_close : (s : Source) (txn : ℕ) (end : CloseEnd) (group : List Exchange) (v : View) (o : Option HeldTransaction) → AreCounted v → AreCounted (after_close s txn end group v o)
 counted_close s txn end group v None all = all
 counted_close s txn end group v (Some h) all = λ t. count_without t txn v.live ∙ close_counted t v end (v.numbers + 1) h (txn == t) (all t)
 

@@ -1,6 +1,6 @@
 -- Two runs over the same input, whose exchanges ended alike, do and write the same.
 use Rattle.std.proofs.Common.{◌≡◌, ℕ, Bool, true, false, List, [], ◌∷◌, ◌++◌, length, refl, sym, ap, ◌∙◌, subst, append_assoc, inl, inr, ◌⊎◌, Option, None, Some}
-use Rattle.mq_client.proofs.Words.{AfterReady, ArePlayed, BeforeReady, Drain, Ended, EndsWith, FilterFault, Filters, HasText, Holding, Holds, IsFound, IsInHand, IsLine, IsTooLong, Meaning, Outside, Reaches, Source, Spans, Stage, StandsAt, StandsFirst, State, Step, StopsAt, actions, all_lines, all_outcomes, answer_count, concat, drained, left_over, no_rest, none_some, outcomes, push, quiets, registration, some_is, text_of, true_false, view}
+use Rattle.mq_client.proofs.Words.{AfterReady, ArePlayed, BeforeReady, Drain, RunEnd, EndsWith, FilterFault, Filters, HasText, Holding, Holds, IsFound, IsInHand, IsLine, IsTooLong, Meaning, Outside, Reaches, Source, Spans, Stage, StandsAt, StandsFirst, State, Step, StopsAt, actions, all_lines, all_outcomes, answer_count, concat, drained, left_over, no_rest, none_some, outcomes, push, quiets, registration, some_is, text_of, true_false, view}
 use Rattle.mq_client.specs.Place.{is_of_input}
 use Rattle.mq_client.specs.declared.fault.FilterFault.TheVariants as faults
 use Rattle.mq_client.proofs.Looping.{is_line_none}
@@ -125,7 +125,7 @@ same_stops U G C o p pieces others rest more now last read_failed write_failed r
 end_fate : (C : Cutting) (L : List Meaning) → Fate (AfterReady L) (all_lines []) (left_over []) None
 end_fate C L = let (f, g) = nothing_left C [] refl in AtEnd f (Over L refl g refl)
 
-pub no_stop_and_end : (G : Grammar) (C : Cutting) (o p : Outside) (bytes more : List ℕ) (others : List (List ℕ)) (now last : Outside) (read_failed write_failed : Bool) (e : Ended) (g : FilterFault)
+pub no_stop_and_end : (G : Grammar) (C : Cutting) (o p : Outside) (bytes more : List ℕ) (others : List (List ℕ)) (now last : Outside) (read_failed write_failed : Bool) (e : RunEnd) (g : FilterFault)
     → EndsWith o bytes now e → StopsAt p others (Some more) last read_failed write_failed g → bytes ≡ concat others ++ more → is_of_input g ≡ false
 no_stop_and_end G C o p bytes more others now last read_failed write_failed e g h i same = by_kind (is_of_input g) refl
   where
@@ -141,11 +141,11 @@ no_stop_and_end G C o p bytes more others now last read_failed write_failed e g 
     by_kind false k = k
     by_kind true k = absurd (clash k)
 
-same_ended : (e f : Ended) → e.answers ≡ f.answers → e.left ≡ f.left → e ≡ f
+same_ended : (e f : RunEnd) → e.answers ≡ f.answers → e.left ≡ f.left → e ≡ f
 same_ended e f a l = ap (λ (n : ℕ). record e { answers = n }) a ∙ ap (λ (n : ℕ). record f { left = n }) l
 
 -- two runs to the end of the same input, whose exchanges ended alike, do the same
-pub same_ends : OneReply → (G : Grammar) (C : Cutting) (o p : Outside) (bytes : List ℕ) (now last : Outside) (e f : Ended) (P : List Step)
+pub same_ends : OneReply → (G : Grammar) (C : Cutting) (o p : Outside) (bytes : List ℕ) (now last : Outside) (e f : RunEnd) (P : List Step)
     (h : EndsWith o bytes now e) (i : EndsWith p bytes last f)
     → StandsAt o.client P → p.client ≡ o.client → all_outcomes (drained h.group h.steps) ≡ all_outcomes (drained i.group i.steps)
     → (h.steps ≡ i.steps) × (h.group ≡ i.group) × (h.results ≡ i.results) × (e ≡ f)

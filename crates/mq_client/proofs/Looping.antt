@@ -1,6 +1,6 @@
 -- Lines handled one after another.
 use Rattle.std.proofs.Common.{◌≡◌, ℕ, ◌+◌, Bool, true, false, List, [], ◌∷◌, ◌++◌, length, refl, sym, ap, ◌∙◌, subst, append_assoc, append-nil, arith, rules, cond, inl, inr, ◌⊎◌, Option, None, Some, is_some}
-use Rattle.mq_client.proofs.Words.{AfterReady, Appends, Appends-trans, BeforeReady, Carries, Closes, Does, Drain, Ended, EndsWith, Err, Exchange, FilterFault, FilterLine, HasText, Holding, Holds, IfSome, IsAt, IsAtWork, IsCut, IsEarly, IsFound, IsInHand, IsLine, IsOk, IsReady, IsRefused, Makes, MakesAll, MakesOne, MayGo, Meaning, Ok, Outside, Plays, Reaches, Reads, ReadyLine, Replies, Result, SoFar, Source, Spans, Stage, StandsAt, StandsFirst, State, Step, StopsAt, StopsWithin, Takes, Tells, Told, TrackFault, TracksAt, after_line, all_push, answer_count, around, at_line, closing, concat, is_early, is_filter, meaning, nothing_held, push, registration, still, sum_by-cons, text_of, told_all, told_one, told_steps, track_fault as fault, view}
+use Rattle.mq_client.proofs.Words.{AfterReady, Appends, Appends-trans, BeforeReady, Carries, Closes, Does, Drain, RunEnd, EndsWith, Err, Exchange, FilterFault, FilterLine, HasText, Holding, Holds, IfSome, IsAt, IsAtWork, IsCut, IsEarly, IsFound, IsInHand, IsLine, IsOk, IsReady, IsRefused, Makes, MakesAll, MakesOne, MayGo, Meaning, Ok, Outside, Plays, Reaches, Reads, ReadyLine, Replies, Result, SoFar, Source, Spans, Stage, StandsAt, StandsFirst, State, Step, StopsAt, StopsWithin, Takes, Tells, ReportedExchange, TrackFault, TracksAt, after_line, all_push, answer_count, around, at_line, closing, concat, is_early, is_filter, meaning, nothing_held, push, registration, still, sum_by-cons, text_of, told_all, told_one, told_steps, track_fault as fault, view}
 use Rattle.std.specs.Borrow.{Bor}
 use Rattle.mq_line.specs.declared.reading.Line.{Line}
 use Rattle.mq_line.specs.declared.reading.Line.TheVariants as line
@@ -18,7 +18,7 @@ Appends-none (Some xs) = sym (append-nil xs)
 pub Does-still : (now : Outside) → Does now now None []
 Does-still now = record { written = Appends-none now.sink; exchanged = Tells-none now.told; made = refl }
 
-pub Does-nothing : {T : Type 0} (told : T → Option (List Told)) (sink : Option (List ℕ)) (old new : T) (client client' : State) → new ≡ old → client' ≡ client → Does (around sink (told old) client) (around sink (told new) client') None []
+pub Does-nothing : {T : Type 0} (told : T → Option (List ReportedExchange)) (sink : Option (List ℕ)) (old new : T) (client client' : State) → new ≡ old → client' ≡ client → Does (around sink (told old) client) (around sink (told new) client') None []
 Does-nothing told sink old new client client' e f = record {
   written = Appends-none sink;
   exchanged = subst (λ x. Tells (told old) (told x) []) (sym e) (Tells-none (told old));
@@ -45,7 +45,7 @@ makes_push a b c steps (Some x) m n = record {
   stands = λ P st. n.stands (steps ++ P) (m.stands P st);
 }
 
-pub told_push : (a b c : Option (List Told)) (steps : List Step) (step : Option Step) → Tells a b (told_steps steps) → Tells b c (told_one step) → Tells a c (told_steps (push step steps))
+pub told_push : (a b c : Option (List ReportedExchange)) (steps : List Step) (step : Option Step) → Tells a b (told_steps steps) → Tells b c (told_one step) → Tells a c (told_steps (push step steps))
 told_push a b c steps None h i =
     subst (Tells a c) (append-nil (told_steps steps)) (Tells-trans a b c (told_steps steps) [] h i)
 told_push a b c steps (Some x) h i = Tells-trans a b c (told_steps steps) (told_all x.group) h i
@@ -107,7 +107,7 @@ carries_early m f now h e = λ o bytes line rest one reads s.
     so_far_more o bytes line rest f f now now None [] s.stage one s (Does-still now) (rw is (all_push IsEarly s.lines line (rw is at s.reaches) (m, reads, e))) s.is_at refl (subst (λ (t : List ℕ). HasText o.client.spans s.stage s.steps t f.holdup.1) (sym (append-nil s.text)) s.has_text)
 
 -- `config|ready` is answered by the registration
-pub carries_ready : (m : Meaning) (f f' : Filter) (sink sink' : Option (List ℕ)) (told : Option (List Told)) (client : State) → f.is_ready ≡ false → m ≡ ReadyLine → Appends sink sink' registration
+pub carries_ready : (m : Meaning) (f f' : Filter) (sink sink' : Option (List ℕ)) (told : Option (List ReportedExchange)) (client : State) → f.is_ready ≡ false → m ≡ ReadyLine → Appends sink sink' registration
     → f'.is_ready ≡ true → f'.tracker ≡ f.tracker → f'.answers ≡ f.answers → f'.holdup ≡ f.holdup → Carries m f f' (around sink told client) (around sink' told client)
 carries_ready m f f' sink sink' told client h e app now tracker answers holdup = λ o bytes line rest one reads s.
     let is = at_before f s.stage h s.is_at in
@@ -235,7 +235,7 @@ refused_stops fault f stage pieces line rest m source read_failed write_failed h
 -- ---- the end
 
 -- what waits is sent once more
-pub ends : (o : Outside) (bytes held : List ℕ) (f : Filter) (sink : Option (List ℕ)) (told told' : Option (List Told)) (client client' : State) (group : List Exchange) (e : Ended)
+pub ends : (o : Outside) (bytes held : List ℕ) (f : Filter) (sink : Option (List ℕ)) (told told' : Option (List ReportedExchange)) (client client' : State) (group : List Exchange) (e : RunEnd)
     → SoFar o bytes held f (around sink told client) → f.is_ready ≡ true → held ≡ []
     → Tells told told' (told_all group) → Makes client client' (record { action = Drain; group = group; quiet = false })
     → e.answers ≡ f.answers → ((P : List Step) → StandsAt client' P → e.left ≡ length (view client'.source P).waiting)
@@ -263,7 +263,7 @@ ends o bytes held f sink told told' client client' group e s h none tells makes 
 -- ---- bytes that come
 
 -- nothing was read yet
-pub so_far_start : (sink : Option (List ℕ)) (told : Option (List Told)) (client : State) (f : Filter) (held : List ℕ) → held ≡ [] → f.is_ready ≡ false → TracksAt f.tracker [] → f.answers ≡ 0 → f.holdup ≡ (client.spans, nothing_held)
+pub so_far_start : (sink : Option (List ℕ)) (told : Option (List ReportedExchange)) (client : State) (f : Filter) (held : List ℕ) → held ≡ [] → f.is_ready ≡ false → TracksAt f.tracker [] → f.answers ≡ 0 → f.holdup ≡ (client.spans, nothing_held)
     → SoFar (around sink told client) [] held f (around sink told client)
 so_far_start sink told client f held none h tracks zero holdup = record {
   lines = [];

@@ -1,6 +1,6 @@
 -- A step of a client, at each past at which it stands.
 use Rattle.std.proofs.Common.{◌≡◌, ℕ, ◌+◌, ◌≤◌, ◌==◌, Bool, false, true, List, [], ◌∷◌, ◌++◌, length, drop, refl, sym, ap, ◌∙◌, subst, arith, Option, None, Some, is_some, if◌then◌else◌, MatchBool}
-use Rattle.mq_client.proofs.Words.{Action, AreFailed, AreTries, Ask, Asked, Close, CloseEnd, Closed, Drain, Exchange, Held, IsUndecided, Live, Makes, NoneYet, OneMore, PlaysFrom, Reply, Request, Sends, SendsAll, SendsSome, SendsUpTo, Source, Standing, State, View, answer_by, answer_of, closing_of, decisions, drop-drop, eq-eqb, find, held_by, let_through, opened, refuses, reserve_of, tries_in, view, with_asked}
+use Rattle.mq_client.proofs.Words.{Action, AreFailed, AreTries, Ask, RecipientAnswer, Close, CloseEnd, Closed, Drain, Exchange, HeldTransaction, IsUndecided, Live, Makes, NoneYet, OneMore, PlaysFrom, Reply, Request, Sends, SendsAll, SendsSome, SendsUpTo, Source, Standing, State, View, answer_by, answer_of, closing_of, decisions, drop-drop, eq-eqb, find, held_by, let_through, opened, refuses, reserve_of, tries_in, view, with_asked}
 use Rattle.mq_client.proofs.Counting.{counted, length_closed}
 
 -- the answer is that of the reply that decided
@@ -15,9 +15,9 @@ not_empty n q None h t = omega (arith, h, t.1)
 not_empty n q (Some r) h t = t
 
 -- what may come next depends on what the past leaves
-plays_alike : (s : Source) (n : ℕ) (a : Action) (group : List Exchange) (o p : Option Held) (l m u v : ℕ) (w x : List Request) → o ≡ p → l ≡ m → u ≡ v → w ≡ x → PlaysFrom s n o l u w a group → PlaysFrom s n p m v x a group
+plays_alike : (s : Source) (n : ℕ) (a : Action) (group : List Exchange) (o p : Option HeldTransaction) (l m u v : ℕ) (w x : List Request) → o ≡ p → l ≡ m → u ≡ v → w ≡ x → PlaysFrom s n o l u w a group → PlaysFrom s n p m v x a group
 plays_alike s n a group o p l m u v w x e f g h play =
-    subst (λ (i : List Request). PlaysFrom s n p m v i a group) h (subst (λ (i : ℕ). PlaysFrom s n p m i w a group) g (subst (λ (i : ℕ). PlaysFrom s n p i u w a group) f (subst (λ (i : Option Held). PlaysFrom s n i l u w a group) e play)))
+    subst (λ (i : List Request). PlaysFrom s n p m v i a group) h (subst (λ (i : ℕ). PlaysFrom s n p m i w a group) g (subst (λ (i : ℕ). PlaysFrom s n p i u w a group) f (subst (λ (i : Option HeldTransaction). PlaysFrom s n i l u w a group) e play)))
 
 match_true : (b : Bool) (A B : Type 0) → b ≡ true → A → MatchBool b A B
 match_true b A B e a = rw e a
@@ -50,14 +50,14 @@ held_back c txn moment login = record {
   stands = λ P st. record { held = st.held; live = st.live; numbers = st.numbers; waiting = st.waiting };
 }
 
-held_at : (v : View) (txn moment : ℕ) (login : List ℕ) (answer now : Asked) (held new : List (ℕ × Held)) (t : ℕ) (b : Bool) → answer ≡ now
+held_at : (v : View) (txn moment : ℕ) (login : List ℕ) (answer now : RecipientAnswer) (held new : List (ℕ × HeldTransaction)) (t : ℕ) (b : Bool) → answer ≡ now
     → find new t ≡ (if b then Some (let_through answer (opened moment login (find held txn))) else find held t)
     → ((k : ℕ) → find held k ≡ held_by (v.standing k))
     → find new t ≡ held_by (if b then Live (let_through now (opened moment login (held_by (v.standing txn)))) else v.standing t)
 held_at v txn moment login answer now held new t true e n h = n ∙ ap (λ o. Some (let_through answer (opened moment login o))) (h txn) ∙ ap (λ a. Some (let_through a (opened moment login (held_by (v.standing txn))))) e
 held_at v txn moment login answer now held new t false e n h = n ∙ h t
 
-live_at : (o p : Option Held) (txn : ℕ) (live : List ℕ) (old new : ℕ) → o ≡ p → old ≡ length live → new ≡ (if is_some o then old else old + 1) → new ≡ length (with_asked txn p live)
+live_at : (o p : Option HeldTransaction) (txn : ℕ) (live : List ℕ) (old new : ℕ) → o ≡ p → old ≡ length live → new ≡ (if is_some o then old else old + 1) → new ≡ length (with_asked txn p live)
 live_at None p txn live old new e l n = rw (← e) (omega (arith, n, l))
 live_at (Some h) p txn live old new e l n = rw (← e) (n ∙ l)
 
@@ -86,9 +86,9 @@ pick true x y z w e = refl
 pick false x y z w e = e
 
 -- a transaction is held, and then what was let through is counted
-pub held_and_counted : (txn moment : ℕ) (login : List ℕ) (answer : Asked) (old mid new : List (ℕ × Held))
+pub held_and_counted : (txn moment : ℕ) (login : List ℕ) (answer : RecipientAnswer) (old mid new : List (ℕ × HeldTransaction))
     → ((t : ℕ) → find mid t ≡ (if txn == t then Some (opened moment login (find old txn)) else find old t))
-    → ((h : Held) → find mid txn ≡ Some h → (t : ℕ) → find new t ≡ (if txn == t then Some (let_through answer h) else find mid t))
+    → ((h : HeldTransaction) → find mid txn ≡ Some h → (t : ℕ) → find new t ≡ (if txn == t then Some (let_through answer h) else find mid t))
     → (t : ℕ) → find new t ≡ (if txn == t then Some (let_through answer (opened moment login (find old txn))) else find old t)
 held_and_counted txn moment login answer old mid new h n t =
     let here : find mid txn ≡ Some (opened moment login (find old txn)) = rw (eq-eqb txn txn refl) at (h txn) in
@@ -134,17 +134,17 @@ closed_nothing c txn end quiet e =
     record {
       source = refl;
       tries = refl;
-      plays = λ P st. plays_alike c.source (tries_in c.tries quiet) (Close txn end) [] _ _ _ _ _ _ _ _ (st.held txn) st.live st.numbers st.waiting (subst (λ (o : Option Held). PlaysFrom c.source (tries_in c.tries quiet) o (length c.held) c.numbers c.waiting (Close txn end) []) (sym e) refl);
+      plays = λ P st. plays_alike c.source (tries_in c.tries quiet) (Close txn end) [] _ _ _ _ _ _ _ _ (st.held txn) st.live st.numbers st.waiting (subst (λ (o : Option HeldTransaction). PlaysFrom c.source (tries_in c.tries quiet) o (length c.held) c.numbers c.waiting (Close txn end) []) (sym e) refl);
       stands = λ P st. let gone : held_by ((view c.source P).standing txn) ≡ None = sym (st.held txn) ∙ e in
           record { held = rw gone st.held; live = rw gone st.live; numbers = rw gone st.numbers; waiting = rw gone st.waiting };
     }
 
-gone_at : (v : View) (txn : ℕ) (st : Standing) (held new : List (ℕ × Held)) (t : ℕ) (b : Bool) → held_by st ≡ None → find new t ≡ (if b then None else find held t)
+gone_at : (v : View) (txn : ℕ) (st : Standing) (held new : List (ℕ × HeldTransaction)) (t : ℕ) (b : Bool) → held_by st ≡ None → find new t ≡ (if b then None else find held t)
     → ((k : ℕ) → find held k ≡ held_by (v.standing k)) → find new t ≡ held_by (if b then st else v.standing t)
 gone_at v txn st held new t true e n h = n ∙ sym e
 gone_at v txn st held new t false e n h = n ∙ h t
 
-pub closed : (c d : State) (txn : ℕ) (end : CloseEnd) (quiet : Bool) (h : Held) (group : List Exchange) → d.source ≡ c.source → d.tries ≡ c.tries → find c.held txn ≡ Some h
+pub closed : (c d : State) (txn : ℕ) (end : CloseEnd) (quiet : Bool) (h : HeldTransaction) (group : List Exchange) → d.source ≡ c.source → d.tries ≡ c.tries → find c.held txn ≡ Some h
     → Sends (tries_in c.tries quiet) (c.waiting ++ closing_of c.source (c.numbers + 1) txn end h ∷ []) group d.waiting
     → ((t : ℕ) → find d.held t ≡ (if txn == t then None else find c.held t)) → length d.held + 1 ≡ length c.held → d.numbers ≡ c.numbers + 1
     → Makes c d (record { action = Close txn end; group = group; quiet = quiet })
@@ -152,7 +152,7 @@ closed c d txn end quiet h group source same e sends held len numbers =
     record {
       source = source;
       tries = same;
-      plays = λ P st. plays_alike c.source (tries_in c.tries quiet) (Close txn end) group _ _ _ _ _ _ _ _ (st.held txn) st.live st.numbers st.waiting (subst (λ (o : Option Held). PlaysFrom c.source (tries_in c.tries quiet) o (length c.held) c.numbers c.waiting (Close txn end) group) (sym e) (d.waiting, sends));
+      plays = λ P st. plays_alike c.source (tries_in c.tries quiet) (Close txn end) group _ _ _ _ _ _ _ _ (st.held txn) st.live st.numbers st.waiting (subst (λ (o : Option HeldTransaction). PlaysFrom c.source (tries_in c.tries quiet) o (length c.held) c.numbers c.waiting (Close txn end) group) (sym e) (d.waiting, sends));
       stands = λ P st. rw source (
           let v : View = view c.source P in
           let was : held_by (v.standing txn) ≡ Some h = sym (st.held txn) ∙ e in

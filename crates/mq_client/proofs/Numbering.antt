@@ -1,9 +1,9 @@
 -- Each number has one request, and each request that is sent is the one of its number.
 use Rattle.std.proofs.Common.{◌≡◌, ℕ, ◌+◌, ◌≤◌, ◌==◌, ◌||◌, not, nat_le, Bool, false, true, List, [], ◌∷◌, ◌++◌, refl, sym, ap, ◌∙◌, subst, arith, inl, inr, Option, None, Some, is_some, if◌then◌else◌}
-use Rattle.mq_client.proofs.Words.{Action, AllByRecursion, AreUnderway, Ask, Asked, AsksForNoClosed, Close, CloseEnd, Closed, ComeInTurn, Drain, Exchange, Held, Id, IsNumbered, Live, Never, NoneReturns, Release, Request, Settle, SettlesWhatWasLet, Source, Standing, Step, Suits, View, WasCommitted, after, after_close, all_append, all_drop, all_push, answer_of, closing_of, decisions, eq-eqb, eqb-true, exchanges_in, held_by, held_for, id_in, id_of, is_closed, is_other, length, let_through, live_in, ne_eqb, neither_first, neither_second, none_some, not_false, numbers_in, opened, option_map, option_or, queue_of, refuses, request_by, request_under, reserve_of, same_text, some_is, takes_number, tries_in, txn_in, view}
+use Rattle.mq_client.proofs.Words.{Action, AllByRecursion, AreUnderway, Ask, RecipientAnswer, AsksForNoClosed, Close, CloseEnd, Closed, ComeInTurn, Drain, Exchange, HeldTransaction, Id, IsNumbered, Live, Never, NoneReturns, Release, Request, Settle, SettlesWhatWasLet, Source, Standing, Step, Suits, View, WasCommitted, after, after_close, all_append, all_drop, all_push, answer_of, closing_of, decisions, eq-eqb, eqb-true, exchanges_in, held_by, held_for, id_in, id_of, is_closed, is_other, length, let_through, live_in, ne_eqb, neither_first, neither_second, none_some, not_false, numbers_in, opened, option_map, option_or, queue_of, refuses, request_by, request_under, reserve_of, same_text, some_is, takes_number, tries_in, txn_in, view}
 use Rattle.std.specs.Cmp.Lexicographic.{bytes_decides}
 use Rattle.mq_track.specs.declared.closing.CloseEnd.TheVariants as ending
-use Rattle.mq_client.specs.declared.held.Asked.TheVariants as asked
+use Rattle.mq_client.specs.declared.held.RecipientAnswer.TheVariants as asked
 use Rattle.mq_client.proofs.ReadingOff.{live_read, numbers_read}
 use Rattle.mq_client.proofs.Turning.{next_in_queue}
 use Rattle.mq_client.proofs.Bounding.{asked_free}
@@ -12,7 +12,7 @@ use Rattle.mq_client.proofs.Basics.{all_weaker, all_at, mapped_some, of_closing,
 -- ---- the request of a step
 
 -- what a step that takes a number asks has that number
-closing_id : (s : Source) (n txn : ℕ) (end : CloseEnd) (h : Held) → id_in (closing_of s n txn end h) ≡ Some (id_of s n)
+closing_id : (s : Source) (n txn : ℕ) (end : CloseEnd) (h : HeldTransaction) → id_in (closing_of s n txn end h) ≡ Some (id_of s n)
 closing_id s n txn end h = of_closing (λ (q : Request). id_in q ≡ Some (id_of s n)) s n txn end h refl refl
 
 request_id : (s : Source) (P : List Step) (a : Action) (group : List Exchange) (q : Request) → request_by s P a group ≡ Some q → (id_in q ≡ Some (id_of s (numbers_in P + 1))) × (takes_number P a group ≡ true)
@@ -59,7 +59,7 @@ reserve_numbered false s P txn moment login y group k n e = (newest s (record { 
 all_older : (s : Source) (x : Step) (P : List Step) (qs : List Request) → AllByRecursion (IsNumbered s P) qs → AllByRecursion (IsNumbered s (x ∷ P)) qs
 all_older s x P qs all = all_weaker (IsNumbered s P) (IsNumbered s (x ∷ P)) qs (older s x P) all
 
-closing_numbered : (s : Source) (P : List Step) (v : View) (txn : ℕ) (end : CloseEnd) (group : List Exchange) (k : Bool) (h : Held) → v.numbers ≡ numbers_in P → live_in P txn ≡ Some h → AllByRecursion (IsNumbered s P) v.waiting
+closing_numbered : (s : Source) (P : List Step) (v : View) (txn : ℕ) (end : CloseEnd) (group : List Exchange) (k : Bool) (h : HeldTransaction) → v.numbers ≡ numbers_in P → live_in P txn ≡ Some h → AllByRecursion (IsNumbered s P) v.waiting
     → AllByRecursion (IsNumbered s (record { action = Close txn end; group = group; quiet = k } ∷ P)) (v.waiting ++ closing_of s (v.numbers + 1) txn end h ∷ [])
 closing_numbered s P v txn end group k h n live w =
     let x : Step = record { action = Close txn end; group = group; quiet = k } in
@@ -67,7 +67,7 @@ closing_numbered s P v txn end group k h n live w =
     all_push (IsNumbered s (x ∷ P)) v.waiting q (all_older s x P v.waiting w)
     (newest s x P q (ap (option_map (closing_of s (numbers_in P + 1) txn end)) live ∙ ap (λ k. Some (closing_of s (k + 1) txn end h)) (sym n)))
 
-queue_numbered : (s : Source) (P : List Step) (v : View) (a : Action) (group : List Exchange) (k : Bool) (o : Option Held) (y : Exchange) → held_for v a ≡ o → v.numbers ≡ numbers_in P → ((t : ℕ) → held_by (v.standing t) ≡ live_in P t) → AllByRecursion (IsNumbered s P) v.waiting
+queue_numbered : (s : Source) (P : List Step) (v : View) (a : Action) (group : List Exchange) (k : Bool) (o : Option HeldTransaction) (y : Exchange) → held_for v a ≡ o → v.numbers ≡ numbers_in P → ((t : ℕ) → held_by (v.standing t) ≡ live_in P t) → AllByRecursion (IsNumbered s P) v.waiting
     → AllByRecursion (IsNumbered s (record { action = a; group = y ∷ group; quiet = k } ∷ P)) (queue_of s v o a)
 queue_numbered s P v (Ask txn moment login) group k o y e n live w = reserve_numbered (refuses o (length v.live) v.numbers (length v.waiting) moment login) s P txn moment login y group k v.numbers n
 queue_numbered s P v (Close txn end) group k None y e n live w = tt
@@ -84,7 +84,7 @@ group_numbered : (s : Source) (n : ℕ) (P : List Step) (v : View) (a : Action) 
 group_numbered s n P v a [] k e live w turns = tt
 group_numbered s n P v a (y ∷ group) k e live w turns = turns_numbered n (queue_of s v (held_for v a) a) (IsNumbered s (record { action = a; group = y ∷ group; quiet = k } ∷ P)) (y ∷ group) (queue_numbered s P v a group k (held_for v a) y refl e live w) turns
 
-closed_waiting : (s : Source) (P : List Step) (v : View) (txn : ℕ) (end : CloseEnd) (group : List Exchange) (k : Bool) (o : Option Held) → v.numbers ≡ numbers_in P → live_in P txn ≡ o → AllByRecursion (IsNumbered s P) v.waiting
+closed_waiting : (s : Source) (P : List Step) (v : View) (txn : ℕ) (end : CloseEnd) (group : List Exchange) (k : Bool) (o : Option HeldTransaction) → v.numbers ≡ numbers_in P → live_in P txn ≡ o → AllByRecursion (IsNumbered s P) v.waiting
     → AllByRecursion (IsNumbered s (record { action = Close txn end; group = group; quiet = k } ∷ P)) (after_close s txn end group v o).waiting
 closed_waiting s P v txn end group k None n live w = all_older s (record { action = Close txn end; group = group; quiet = k }) P v.waiting w
 closed_waiting s P v txn end group k (Some h) n live w =
@@ -124,7 +124,7 @@ one_for_each s n P u =
 
 -- ---- what a settle asks for
 
-closing_settle : (s : Source) (n t : ℕ) (end : CloseEnd) (h : Held) (id : Id) (txn moment count : ℕ) (login : List ℕ) → closing_of s n t end h ≡ Settle id txn moment login count
+closing_settle : (s : Source) (n t : ℕ) (end : CloseEnd) (h : HeldTransaction) (id : Id) (txn moment count : ℕ) (login : List ℕ) → closing_of s n t end h ≡ Settle id txn moment login count
     → (t ≡ txn) × (end ≡ ending.Commit) × (h.moment ≡ moment) × (h.login ≡ login) × (h.granted ≡ count)
 closing_settle s n t ending.Rollback h id txn moment count login e = let no : ⊥ = cc in absurd no
 closing_settle s n t ending.Commit h id txn moment count login e = by_count (nat_le 1 h.granted) e
@@ -192,40 +192,40 @@ all_settle s n P u = all_weaker (λ x. IsNumbered s P x.request) (λ x. SettlesW
 
 -- ---- what the requests of a transaction are
 
-pub let_through_at : (answer : Asked) (h : Held) → (let_through answer h).moment ≡ h.moment
+pub let_through_at : (answer : RecipientAnswer) (h : HeldTransaction) → (let_through answer h).moment ≡ h.moment
 let_through_at asked.Granted h = refl
 let_through_at answer h = refl
 
 -- what an ask lets through changes no reserve
-let_reserve : (s : Source) (n t : ℕ) (answer : Asked) (h : Held) → reserve_of s n t h.moment h.login ≡ reserve_of s n t (let_through answer h).moment (let_through answer h).login
+let_reserve : (s : Source) (n t : ℕ) (answer : RecipientAnswer) (h : HeldTransaction) → reserve_of s n t h.moment h.login ≡ reserve_of s n t (let_through answer h).moment (let_through answer h).login
 let_reserve s n t asked.Granted h = refl
 let_reserve s n t answer h = refl
 
-pub ended_not : (end : CloseEnd) (number : ℕ) (h : Held) → is_closed (Closed end number h) ≡ false → ⊥
+pub ended_not : (end : CloseEnd) (number : ℕ) (h : HeldTransaction) → is_closed (Closed end number h) ≡ false → ⊥
 ended_not end number h e = cc (e)
 
 -- an ask of a live transaction that isn't refused has its login and moment
-same_asked : (h : Held) (moment : ℕ) (login : List ℕ) (more : Bool) → (is_other h moment login || more) ≡ false → (h.login ≡ login) × (h.moment ≡ moment)
+same_asked : (h : HeldTransaction) (moment : ℕ) (login : List ℕ) (more : Bool) → (is_other h moment login || more) ≡ false → (h.login ≡ login) × (h.moment ≡ moment)
 same_asked h moment login more e =
     let same = neither_first (is_other h moment login) more e in
     ((bytes_decides h.login login).0 (not_false _ (neither_first (not (same_text h.login login)) _ same)), eqb-true h.moment moment (not_false _ (neither_second (not (same_text h.login login)) _ same)))
 
 -- a reserve of a transaction that an ask finds live
-reserve_stays : (s : Source) (n t moment : ℕ) (login : List ℕ) (answer : Asked) (st : Standing) (q : Request) → is_closed st ≡ false → Suits s n t st q → Suits s n t (Live (let_through answer (opened moment login (held_by st)))) q
+reserve_stays : (s : Source) (n t moment : ℕ) (login : List ℕ) (answer : RecipientAnswer) (st : Standing) (q : Request) → is_closed st ≡ false → Suits s n t st q → Suits s n t (Live (let_through answer (opened moment login (held_by st)))) q
 reserve_stays s n t moment login answer Never q e suits = absurd suits
 reserve_stays s n t moment login answer (Live h) q e suits = suits ∙ let_reserve s n t answer h
 reserve_stays s n t moment login answer (Closed end number h) q e suits = absurd (ended_not end number h e)
 
-reserve_new : (s : Source) (n t moment : ℕ) (login : List ℕ) (answer : Asked) (o : Option Held) (live numbers waiting : ℕ) → refuses o live numbers waiting moment login ≡ false
+reserve_new : (s : Source) (n t moment : ℕ) (login : List ℕ) (answer : RecipientAnswer) (o : Option HeldTransaction) (live numbers waiting : ℕ) → refuses o live numbers waiting moment login ≡ false
     → reserve_of s n t moment login ≡ reserve_of s n t (let_through answer (opened moment login o)).moment (let_through answer (opened moment login o)).login
 reserve_new s n t moment login answer None live numbers waiting free = let_reserve s n t answer (opened moment login None)
 reserve_new s n t moment login answer (Some h) live numbers waiting free =
     let (same_login, same_at) = same_asked h moment login _ free in
     ap (λ (m : ℕ). reserve_of s n t m login) (sym same_at) ∙ ap (λ (l : List ℕ). reserve_of s n t h.moment l) (sym same_login) ∙ let_reserve s n t answer h
 
-closed_stays : (s : Source) (n t number : ℕ) (end : CloseEnd) (h : Held) (st : Standing) (q : Request) → held_by st ≡ Some h → Suits s n t st q → Suits s n t (Closed end number h) q
+closed_stays : (s : Source) (n t number : ℕ) (end : CloseEnd) (h : HeldTransaction) (st : Standing) (q : Request) → held_by st ≡ Some h → Suits s n t st q → Suits s n t (Closed end number h) q
 closed_stays s n t number end h Never q e suits = absurd suits
-closed_stays s n t number end h (Live k) q e suits = inl (subst (λ (x : Held). q ≡ reserve_of s n t x.moment x.login) (some_is k h e) suits)
+closed_stays s n t number end h (Live k) q e suits = inl (subst (λ (x : HeldTransaction). q ≡ reserve_of s n t x.moment x.login) (some_is k h e) suits)
 closed_stays s n t number end h (Closed end' number' k) q e suits = absurd (none_some h e)
 
 -- an older request
@@ -240,18 +240,18 @@ suits_old s n t q v (Ask txn moment login) (x ∷ group) fresh suits = by_txn (t
     by_txn false e = suits
 suits_old s n t q v (Close txn end) group fresh suits = by_held (held_by (v.standing txn)) refl
   where
-    by_txn : (h : Held) (b : Bool) → (txn == t) ≡ b → held_by (v.standing txn) ≡ Some h → Suits s n t (if b then Closed end (v.numbers + 1) h else v.standing t) q
+    by_txn : (h : HeldTransaction) (b : Bool) → (txn == t) ≡ b → held_by (v.standing txn) ≡ Some h → Suits s n t (if b then Closed end (v.numbers + 1) h else v.standing t) q
     by_txn h true e f =
         let is : txn ≡ t = eqb-true txn t e in
         closed_stays s n t (v.numbers + 1) end h (v.standing txn) q f (subst (λ (u : ℕ). Suits s n t (v.standing u) q) (sym is) suits)
     by_txn h false e f = suits
 
-    by_held : (o : Option Held) → held_by (v.standing txn) ≡ o → Suits s n t ((after_close s txn end group v o).standing t) q
+    by_held : (o : Option HeldTransaction) → held_by (v.standing txn) ≡ o → Suits s n t ((after_close s txn end group v o).standing t) q
     by_held None f = suits
     by_held (Some h) f = by_txn h (txn == t) refl f
 suits_old s n t q v Drain group fresh suits = suits
 
-closing_txn : (s : Source) (n txn : ℕ) (end : CloseEnd) (h : Held) → txn_in (closing_of s n txn end h) ≡ Some txn
+closing_txn : (s : Source) (n txn : ℕ) (end : CloseEnd) (h : HeldTransaction) → txn_in (closing_of s n txn end h) ≡ Some txn
 closing_txn s n txn end h = of_closing (λ (q : Request). txn_in q ≡ Some txn) s n txn end h refl refl
 
 -- the request of the step

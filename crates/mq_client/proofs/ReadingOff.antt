@@ -1,11 +1,11 @@
 -- What a past leaves is what is read off the whole list of its steps.
 use Rattle.std.proofs.Common.{◌≡◌, ℕ, ◌+◌, ◌==◌, Bool, false, true, List, [], ◌∷◌, refl, sym, ap, ◌∙◌, arith, cond, Option, None, Some, is_some, if◌then◌else◌, count_by}
-use Rattle.mq_client.proofs.Words.{Action, Ask, Asked, Asking, Close, CloseEnd, Closed, Drain, Exchange, Held, Live, Source, Standing, Step, View, after, after_close, answer_of, asking, asks_of, closed_by, closed_in, cons_option, eqb-true, filter_map, first_of, held_by, is_granted, let_through, live_by, live_in, live_or, numbers_in, opened, since_close, standing_in, standing_or, sum_by-cons, view}
-use Rattle.mq_client.specs.declared.held.Asked.TheVariants as asked
+use Rattle.mq_client.proofs.Words.{Action, Ask, RecipientAnswer, Asking, Close, CloseEnd, Closed, Drain, Exchange, HeldTransaction, Live, Source, Standing, Step, View, after, after_close, answer_of, asking, asks_of, closed_by, closed_in, cons_option, eqb-true, filter_map, first_of, held_by, is_granted, let_through, live_by, live_in, live_or, numbers_in, opened, since_close, standing_in, standing_or, sum_by-cons, view}
+use Rattle.mq_client.specs.declared.held.RecipientAnswer.TheVariants as asked
 use Rattle.mq_client.proofs.Counting.{count_in, one_if, counted}
 
 -- one more ask
-abbrev one_ask : List ℕ → ℕ → Asked → Asking
+abbrev one_ask : List ℕ → ℕ → RecipientAnswer → Asking
 one_ask login moment answer = record { login = login; moment = moment; answer = answer }
 
 abbrev granted_in : List Asking → ℕ
@@ -14,14 +14,14 @@ granted_in asks = count_by (λ b. is_granted b.answer) asks
 granted_more : (a : Asking) (more : List Asking) → granted_in (a ∷ more) ≡ cond (is_granted a.answer) 1 0 + granted_in more
 granted_more a more = sum_by-cons (λ (b : Asking). cond (is_granted b.answer) 1 0) a more
 
-live_more : (login : List ℕ) (moment : ℕ) (answer : Asked) (more : List Asking) → live_by (one_ask login moment answer ∷ more) ≡ Some (let_through answer (opened moment login (live_by more)))
+live_more : (login : List ℕ) (moment : ℕ) (answer : RecipientAnswer) (more : List Asking) → live_by (one_ask login moment answer ∷ more) ≡ Some (let_through answer (opened moment login (live_by more)))
 live_more login moment asked.Granted [] = refl
 live_more login moment answer [] = refl
 live_more login moment asked.Granted (b ∷ more) =
-    let F : ℕ → Option Held = λ n. Some (record { login = (first_of b more).login; moment = (first_of b more).moment; granted = n }) in
+    let F : ℕ → Option HeldTransaction = λ n. Some (record { login = (first_of b more).login; moment = (first_of b more).moment; granted = n }) in
     ap F (omega (arith, granted_more (one_ask login moment asked.Granted) (b ∷ more)))
 live_more login moment answer (b ∷ more) =
-    let F : ℕ → Option Held = λ n. Some (record { login = (first_of b more).login; moment = (first_of b more).moment; granted = n }) in
+    let F : ℕ → Option HeldTransaction = λ n. Some (record { login = (first_of b more).login; moment = (first_of b more).moment; granted = n }) in
     ap F (omega (arith, granted_more (one_ask login moment answer) (b ∷ more)))
 
 -- ---- live transactions
@@ -29,18 +29,18 @@ live_more login moment answer (b ∷ more) =
 abbrev IsLiveRead : View → List Step → Type 0
 IsLiveRead v P = (t : ℕ) → held_by (v.standing t) ≡ live_in P t
 
-ask_live : (t txn moment : ℕ) (login : List ℕ) (answer : Asked) (v : View) (P : List Step) (b : Bool) → (txn == t) ≡ b → IsLiveRead v P
+ask_live : (t txn moment : ℕ) (login : List ℕ) (answer : RecipientAnswer) (v : View) (P : List Step) (b : Bool) → (txn == t) ≡ b → IsLiveRead v P
     → held_by (if b then Live (let_through answer (opened moment login (held_by (v.standing txn)))) else v.standing t)
     ≡ live_by (cons_option (if b then Some (one_ask login moment answer) else None) (asks_of t P))
 ask_live t txn moment login answer v P true e all =
-    let F : Option Held → Option Held = λ o. Some (let_through answer (opened moment login o)) in
+    let F : Option HeldTransaction → Option HeldTransaction = λ o. Some (let_through answer (opened moment login o)) in
     ap F (ap (λ k. held_by (v.standing k)) (eqb-true txn t e) ∙ all t) ∙ sym (live_more login moment answer (asks_of t P))
 ask_live t txn moment login answer v P false e all = all t
 
 abbrev asks_after : ℕ → Bool → Step → List Step → List Asking
 asks_after t b x P = filter_map (λ x. asking t x.action x.group) (if b then [] else x ∷ since_close t P)
 
-close_live : (s : Source) (t txn : ℕ) (end : CloseEnd) (group : List Exchange) (k : Bool) (v : View) (P : List Step) (o : Option Held) (b : Bool) → held_by (v.standing txn) ≡ o → (txn == t) ≡ b → IsLiveRead v P
+close_live : (s : Source) (t txn : ℕ) (end : CloseEnd) (group : List Exchange) (k : Bool) (v : View) (P : List Step) (o : Option HeldTransaction) (b : Bool) → held_by (v.standing txn) ≡ o → (txn == t) ≡ b → IsLiveRead v P
     → held_by ((after_close s txn end group v o).standing t) ≡ live_by (asks_after t b (record { action = Close txn end; group = group; quiet = k }) P)
 close_live s t txn end group k v P None true e f all = ap (λ k. held_by (v.standing k)) (sym (eqb-true txn t f)) ∙ e
 close_live s t txn end group k v P None false e f all = all t
@@ -59,7 +59,7 @@ live_read s (x ∷ P) = live_step s (view s P) P x.action x.group x.quiet (live_
 
 -- ---- numbers
 
-close_numbers : (s : Source) (txn : ℕ) (end : CloseEnd) (group : List Exchange) (v : View) (n : ℕ) (o : Option Held) → v.numbers ≡ n → (after_close s txn end group v o).numbers ≡ (if is_some o then n + 1 else n)
+close_numbers : (s : Source) (txn : ℕ) (end : CloseEnd) (group : List Exchange) (v : View) (n : ℕ) (o : Option HeldTransaction) → v.numbers ≡ n → (after_close s txn end group v o).numbers ≡ (if is_some o then n + 1 else n)
 close_numbers s txn end group v n None e = e
 close_numbers s txn end group v n (Some h) e = ap (λ k. k + 1) e
 
@@ -78,18 +78,18 @@ numbers_read s (x ∷ P) = numbers_step s (view s P) P x.action x.group x.quiet 
 abbrev IsRead : View → List Step → Type 0
 IsRead v P = (t : ℕ) → v.standing t ≡ standing_in P t
 
-ask_read : (t txn moment : ℕ) (login : List ℕ) (answer : Asked) (v : View) (P : List Step) (b : Bool) → (txn == t) ≡ b → IsLiveRead v P → IsRead v P
+ask_read : (t txn moment : ℕ) (login : List ℕ) (answer : RecipientAnswer) (v : View) (P : List Step) (b : Bool) → (txn == t) ≡ b → IsLiveRead v P → IsRead v P
     → (if b then Live (let_through answer (opened moment login (held_by (v.standing txn)))) else v.standing t)
     ≡ live_or (live_by (cons_option (if b then Some (one_ask login moment answer) else None) (asks_of t P))) (closed_in P t)
 ask_read t txn moment login answer v P true e all read = ap (λ o. live_or o (closed_in P t)) (ask_live t txn moment login answer v P true e all)
 ask_read t txn moment login answer v P false e all read = read t
 
 -- a transaction is as it was where another is closed
-other_ended : (t number txn : ℕ) (end : CloseEnd) (o : Option Held) (before : Standing) → (txn == t) ≡ false → standing_or (closed_by t number (Close txn end) o) before ≡ before
+other_ended : (t number txn : ℕ) (end : CloseEnd) (o : Option HeldTransaction) (before : Standing) → (txn == t) ≡ false → standing_or (closed_by t number (Close txn end) o) before ≡ before
 other_ended t number txn end None before f = refl
 other_ended t number txn end (Some h) before f = rw f refl
 
-close_read : (s : Source) (t txn : ℕ) (end : CloseEnd) (group : List Exchange) (k : Bool) (v : View) (P : List Step) (o : Option Held) (b : Bool) → held_by (v.standing txn) ≡ o → (txn == t) ≡ b → v.numbers ≡ numbers_in P → IsLiveRead v P → IsRead v P
+close_read : (s : Source) (t txn : ℕ) (end : CloseEnd) (group : List Exchange) (k : Bool) (v : View) (P : List Step) (o : Option HeldTransaction) (b : Bool) → held_by (v.standing txn) ≡ o → (txn == t) ≡ b → v.numbers ≡ numbers_in P → IsLiveRead v P → IsRead v P
     → (after_close s txn end group v o).standing t ≡ live_or (live_by (asks_after t b (record { action = Close txn end; group = group; quiet = k }) P)) (standing_or (closed_by t (numbers_in P + 1) (Close txn end) (live_in P t)) (closed_in P t))
 close_read s t txn end group k v P None true e f n all read =
     let absent : live_in P t ≡ None = sym (all t) ∙ ap (λ k. held_by (v.standing k)) (sym (eqb-true txn t f)) ∙ e in

@@ -1,6 +1,6 @@
 -- What the lines have the client do: a transaction that was closed is never asked for again.
 use Rattle.std.proofs.Common.{◌≡◌, ℕ, ◌+◌, ◌==◌, ◌&&◌, Bool, false, true, List, [], ◌∷◌, ◌++◌, refl, sym, ap, ◌∙◌, subst, inl, inr, ◌⊎◌, Option, None, Some, if◌then◌else◌}
-use Rattle.mq_client.proofs.Words.{Action, Ask, Asks, AsksForNoClosed, Close, CloseEnd, Closed, Closing, Drain, Exchange, FilterLine, Filters, Held, Holding, Live, Meaning, NoneReturns, Passes, Query, Refuses, Source, Spans, Step, Transaction, View, action_of, actions, actions_of, after, after_close, asking_of, at_line, bytes_eq, close_of, closing, codes, eqb-true, held_by, is_closed, is_login, is_moment, login, none_some, open_transaction, position_of, push, query, query_at, view}
+use Rattle.mq_client.proofs.Words.{Action, Ask, Asks, AsksForNoClosed, Close, CloseEnd, Closed, Closing, Drain, Exchange, FilterLine, Filters, HeldTransaction, Holding, Live, Meaning, NoneReturns, Passes, Query, Refuses, Source, Spans, Step, Transaction, View, action_of, actions, actions_of, after, after_close, asking_of, at_line, bytes_eq, close_of, closing, codes, eqb-true, held_by, is_closed, is_login, is_moment, login, none_some, open_transaction, position_of, push, query, query_at, view}
 use Rattle.mq_track.specs.Laws.{StayClosed}
 use Rattle.mq_client.proofs.Sameness.{taken_kind, actions_push}
 use Rattle.mq_client.proofs.Basics.{nil_cons, cons_head, cons_tail, mapped_some}
@@ -83,11 +83,11 @@ asked_open L m txn moment name e = let (c, is, same) = mapped_some close_of (clo
 abbrev EndedAreClosed : View → List Action → Type 0
 EndedAreClosed v acts = (t : ℕ) → is_closed (v.standing t) ≡ true → IsClosedIn t acts
 
-ended_asked : (now : Held) (v : View) (txn t : ℕ) (b : Bool) (acts : List Action) → EndedAreClosed v acts → is_closed (if b then Live now else v.standing t) ≡ true → IsClosedIn t acts
+ended_asked : (now : HeldTransaction) (v : View) (txn t : ℕ) (b : Bool) (acts : List Action) → EndedAreClosed v acts → is_closed (if b then Live now else v.standing t) ≡ true → IsClosedIn t acts
 ended_asked now v txn t true acts all e = absurd cc
 ended_asked now v txn t false acts all e = all t e
 
-ended_closed : (s : Source) (txn : ℕ) (end : CloseEnd) (group : List Exchange) (v : View) (o : Option Held) (acts : List Action) → EndedAreClosed v acts → EndedAreClosed (after_close s txn end group v o) (Close txn end ∷ acts)
+ended_closed : (s : Source) (txn : ℕ) (end : CloseEnd) (group : List Exchange) (v : View) (o : Option HeldTransaction) (acts : List Action) → EndedAreClosed v acts → EndedAreClosed (after_close s txn end group v o) (Close txn end ∷ acts)
 ended_closed s txn end group v None acts all = λ t e. inr (all t e)
 ended_closed s txn end group v (Some h) acts all = λ t e. by_txn t (txn == t) refl e
   where

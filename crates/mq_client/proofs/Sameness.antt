@@ -1,6 +1,6 @@
 -- A run depends on the bytes that were read, on what stood before it, and on how its exchanges ended.
 use Rattle.std.proofs.Common.{◌≡◌, ℕ, Bool, true, List, [], ◌∷◌, ◌++◌, refl, sym, ap, ◌∙◌, subst, append_assoc, Option, None, Some, is_some}
-use Rattle.mq_client.proofs.Words.{some_is, Action, AllByRecursion, Answers, ArePlayed, AreRead, Ask, Asks, Closes, Closing, ComeInTurn, Decision, Exchange, FilterLine, Filters, Holding, IsEarly, IsReady, Meaning, Outcome, Plays, Query, Reads, ReadyLine, Request, Source, Spans, Step, Takes, action_of, actions, after_line, all_outcomes, append_cancel_right, asking_of, at_line, close_of, closing, decision_by, held_back, held_for, is_early, next_of, none_some, option_map, outcomes, push, query, queue_of, quiets, result_text, tries_in, view}
+use Rattle.mq_client.proofs.Words.{some_is, Action, AllByRecursion, Answers, ArePlayed, AreRead, Ask, Asks, Closes, Closing, ComeInTurn, Decision, Exchange, FilterLine, Filters, Holding, IsEarly, IsReady, Meaning, ExchangeOutcome, Plays, Query, Reads, ReadyLine, Request, Source, Spans, Step, Takes, action_of, actions, after_line, all_outcomes, append_cancel_right, asking_of, at_line, close_of, closing, decision_by, held_back, held_for, is_early, next_of, none_some, option_map, outcomes, push, query, queue_of, quiets, result_text, tries_in, view}
 use Rattle.mq_client.proofs.Turning.{OneReply, IsOver, over, same_turns}
 use Rattle.mq_client.proofs.Basics.{nil_cons, cons_head, cons_tail}
 
@@ -89,14 +89,14 @@ pub same_step : (x y : Step) → x.action ≡ y.action → x.quiet ≡ y.quiet �
 same_step x y e q f = ap (λ (a : Action). record x { action = a }) e ∙ ap (λ (g : List Exchange). record x { action = y.action; group = g }) f ∙ ap (λ (k : Bool). record y { quiet = k }) q
 
 -- no exchange comes in turn after the last one
-no_more : OneReply → (n : ℕ) (queue : List Request) (g h : List Exchange) (b : Outcome) (D : List Outcome) → ComeInTurn n queue g → ComeInTurn n queue h → next_of n queue h ≡ None → outcomes g ≡ b ∷ (D ++ outcomes h) → ⊥
+no_more : OneReply → (n : ℕ) (queue : List Request) (g h : List Exchange) (b : ExchangeOutcome) (D : List ExchangeOutcome) → ComeInTurn n queue g → ComeInTurn n queue h → next_of n queue h ≡ None → outcomes g ≡ b ∷ (D ++ outcomes h) → ⊥
 no_more U n queue [] h b D c d last e = nil_cons b (D ++ outcomes h) e
 no_more U n queue (x ∷ g) h b [] c d last e =
     let same = same_turns U n queue g h c.2 d (cons_tail x.outcome b (outcomes g) (outcomes h) e) in
     none_some x.request (sym last ∙ sym (ap (next_of n queue) same) ∙ c.0)
 no_more U n queue (x ∷ g) h b (z ∷ D) c d last e = no_more U n queue g h z D c.2 d last (cons_tail x.outcome b (outcomes g) (z ∷ D ++ outcomes h) e)
 
-same_groups : OneReply → (n : ℕ) (queue : List Request) (g h : List Exchange) (A B : List Outcome) → ComeInTurn n queue g → ComeInTurn n queue h → next_of n queue g ≡ None → next_of n queue h ≡ None → A ++ outcomes g ≡ B ++ outcomes h → g ≡ h
+same_groups : OneReply → (n : ℕ) (queue : List Request) (g h : List Exchange) (A B : List ExchangeOutcome) → ComeInTurn n queue g → ComeInTurn n queue h → next_of n queue g ≡ None → next_of n queue h ≡ None → A ++ outcomes g ≡ B ++ outcomes h → g ≡ h
 same_groups U n queue g h [] [] c d last last' e = same_turns U n queue g h c d e
 same_groups U n queue g h [] (b ∷ B) c d last last' e = absurd (no_more U n queue g h b B c d last' e)
 same_groups U n queue g h (a ∷ A) [] c d last last' e = absurd (no_more U n queue h g a A d c last (sym e))
@@ -104,7 +104,7 @@ same_groups U n queue g h (a ∷ A) (b ∷ B) c d last last' e = same_groups U n
 
 -- two steps that could come next after the same steps, of the same action and both quiet or not, whose exchanges ended
 -- alike, before more that ended alike
-same_next : OneReply → (s : Source) (n : ℕ) (P : List Step) (x y : Step) (xs ys : List Step) (A B : List Outcome) → Plays s n (xs ++ P) x → Plays s n (ys ++ P) y → x.action ≡ y.action → x.quiet ≡ y.quiet → xs ≡ ys
+same_next : OneReply → (s : Source) (n : ℕ) (P : List Step) (x y : Step) (xs ys : List Step) (A B : List ExchangeOutcome) → Plays s n (xs ++ P) x → Plays s n (ys ++ P) y → x.action ≡ y.action → x.quiet ≡ y.quiet → xs ≡ ys
     → (A ++ outcomes x.group) ++ all_outcomes xs ≡ (B ++ outcomes y.group) ++ all_outcomes ys → x ≡ y
 same_next U s n P x y xs ys A B h i action quiet same ends =
     let F : Action → Bool → Type 0 = λ a k. IsOver (tries_in n k) (queue_of s (view s (ys ++ P)) (held_for (view s (ys ++ P)) a) a) x.group in
@@ -115,7 +115,7 @@ same_next U s n P x y xs ys A B h i action quiet same ends =
     same_step x y action quiet (same_groups U (tries_in n y.quiet) _ x.group y.group A B mine.0 theirs.0 mine.1 theirs.1 ended)
 
 -- steps of the same actions, of which the same are quiet, whose exchanges ended alike one after another, are the same
-same_from : OneReply → (s : Source) (n : ℕ) (P steps others : List Step) (A B : List Outcome) → ArePlayed s n P steps → ArePlayed s n P others → actions steps ≡ actions others → quiets steps ≡ quiets others
+same_from : OneReply → (s : Source) (n : ℕ) (P steps others : List Step) (A B : List ExchangeOutcome) → ArePlayed s n P steps → ArePlayed s n P others → actions steps ≡ actions others → quiets steps ≡ quiets others
     → A ++ all_outcomes steps ≡ B ++ all_outcomes others → steps ≡ others
 same_from U s n P [] [] A B h i e q f = refl
 same_from U s n P [] (y ∷ others) A B h i e q f = absurd (nil_cons y.action (actions others) e)
@@ -156,9 +156,9 @@ taken_kind k L (FilterLine seconds subsystem phase session token rest) step text
 taken_kind k L m step text h = closed_kind (is_some k.paused) (closing L m) step h.1
 
 -- one more line
-same_line : OneReply → (spans : Spans) (s : Source) (n : ℕ) (P : List Step) (L : List Meaning) (m : Meaning) (a b : Option Step) (next next' : List ℕ) (xs ys : List Step) (text more : List ℕ) (k j : Holding) (A B : List Outcome)
+same_line : OneReply → (spans : Spans) (s : Source) (n : ℕ) (P : List Step) (L : List Meaning) (m : Meaning) (a b : Option Step) (next next' : List ℕ) (xs ys : List Step) (text more : List ℕ) (k j : Holding) (A B : List ExchangeOutcome)
     → ArePlayed s n P (push a xs) → ArePlayed s n P (push b ys) → kind_of a ≡ kind_of b → (k ≡ j → Alike a b next next')
-    → ((A B : List Outcome) → ArePlayed s n P xs → ArePlayed s n P ys → A ++ all_outcomes xs ≡ B ++ all_outcomes ys → Told xs ys text more k j)
+    → ((A B : List ExchangeOutcome) → ArePlayed s n P xs → ArePlayed s n P ys → A ++ all_outcomes xs ≡ B ++ all_outcomes ys → Told xs ys text more k j)
     → A ++ all_outcomes (push a xs) ≡ B ++ all_outcomes (push b ys) → One a b next next' xs ys text more k j
 same_line U spans s n P L m None None next next' xs ys text more k j A B h i e alike before f =
     let told = before A B h i f in
@@ -173,7 +173,7 @@ same_line U spans s n P L m (Some x) (Some y) next next' xs ys text more k j A B
     record { step = step; next_is = both.text_is step; before = told }
 
 -- what lines have the client do, what is written for them and what is held back follows from how the exchanges ended
-pub same_filters : OneReply → (spans : Spans) (s : Source) (n : ℕ) (P : List Step) (L : List Meaning) (steps others : List Step) (text more : List ℕ) (k j : Holding) (A B : List Outcome)
+pub same_filters : OneReply → (spans : Spans) (s : Source) (n : ℕ) (P : List Step) (L : List Meaning) (steps others : List Step) (text more : List ℕ) (k j : Holding) (A B : List ExchangeOutcome)
     → Filters spans L steps text k → Filters spans L others more j → ArePlayed s n P steps → ArePlayed s n P others → A ++ all_outcomes steps ≡ B ++ all_outcomes others → Told steps others text more k j
 same_filters U spans s n P [] steps others text more k j A B h i p q e = record { steps = h.0 ∙ sym i.0; text_is = h.1 ∙ sym i.1; held_is = h.2 ∙ sym i.2 }
 same_filters U spans s n P (m ∷ L) steps others text more k j A B (a, xs, written, next, held, h, takes, e, f, g) (b, ys, written', next', held', i, takes', e', f', g') p q ended =

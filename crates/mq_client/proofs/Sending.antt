@@ -1,13 +1,13 @@
 -- A queue that is sent from its front.
 use Rattle.std.proofs.Common.{◌≡◌, ℕ, ◌<◌, true, false, List, [], ◌∷◌, ◌++◌, length, ◌||◌, is_some, refl, sym, ap, ◌∙◌, subst, arith, Option, None, Some, if◌then◌else◌}
-use Rattle.mq_client.proofs.Words.{AreFailed, AreTries, Exchange, Framed, IsSent, IsUndecided, NoneYet, OneMore, Reply, Request, Sends, SendsAll, SendsSome, SendsUpTo, has_timed_out, list_any, ran_out, slice_index_or}
+use Rattle.mq_client.proofs.Words.{AreFailed, AreTries, Exchange, FramedRequest, IsSent, IsUndecided, NoneYet, OneMore, Reply, Request, Sends, SendsAll, SendsSome, SendsUpTo, has_timed_out, list_any, ran_out, slice_index_or}
 
 -- the request in front
-pub starts_with : (now : List Framed) (q : Framed) → q ≡ slice_index_or now 0 q → 0 < length now → (rest : List Framed) × (now ≡ q ∷ rest)
+pub starts_with : (now : List FramedRequest) (q : FramedRequest) → q ≡ slice_index_or now 0 q → 0 < length now → (rest : List FramedRequest) × (now ≡ q ∷ rest)
 starts_with [] q e l = absurd (omega (arith, l))
 starts_with (x ∷ rest) q e l = (rest, ap (λ z. z ∷ rest) (sym e))
 
-pub front_is : (now rest : List Framed) (q x : Framed) → q ≡ slice_index_or now 0 q → now ≡ x ∷ rest → now ≡ q ∷ rest
+pub front_is : (now rest : List FramedRequest) (q x : FramedRequest) → q ≡ slice_index_or now 0 q → now ≡ x ∷ rest → now ≡ q ∷ rest
 front_is now rest q x e p = p ∙ ap (λ z. z ∷ rest) (sym (e ∙ ap (λ l. slice_index_or l 0 q) p))
 
 pub sends_more : (n : ℕ) (queue now rest : List Request) (q : Request) (done tries : List Exchange) → now ≡ q ∷ rest → SendsSome n queue done now → IsSent n q tries true → SendsSome n queue (tries ++ done) rest

@@ -1,15 +1,15 @@
 -- What a link reports of several exchanges, and how tries add up.
 use Rattle.std.proofs.Common.{◌≡◌, ℕ, ◌<◌, Bool, true, false, List, [], ◌∷◌, ◌++◌, length, ◌||◌, is_some, refl, sym, ap, ◌∙◌, subst, append_assoc, append-nil, Option, None, Some, if◌then◌else◌}
-use Rattle.mq_client.proofs.Words.{Answered, AreFailed, AreTries, ComesOf, Exchange, Faulted, IsDecision, IsSent, IsTry, IsVerdict, Outcome, Reply, Request, SpellsReply, Tells, Told, Tried, decides, deciding, has_timed_out, is_decided, is_late, or_false, ran_out, request_frame, told_all, told_of, verdict_of}
+use Rattle.mq_client.proofs.Words.{Answered, AreFailed, AreTries, ComesOf, Exchange, Faulted, IsDecision, IsSent, IsTry, IsVerdict, ExchangeOutcome, Reply, Request, SpellsReply, Tells, ReportedExchange, TriesOutcome, decides, deciding, has_timed_out, is_decided, is_late, or_false, ran_out, request_frame, told_all, told_of, verdict_of}
 use Rattle.mq_client.specs.declared.verdict.Verdict.{Verdict}
-use Rattle.mq_client.specs.declared.tries.Tried.TheVariants as tried
+use Rattle.mq_client.specs.declared.tries.TriesOutcome.TheVariants as tried
 use Rattle.mq_link.specs.declared.link.LinkFault.{LinkFault}
 
-pub Tells-none : (t : Option (List Told)) → Tells t t []
+pub Tells-none : (t : Option (List ReportedExchange)) → Tells t t []
 Tells-none None = tt
 Tells-none (Some xs) = sym (append-nil xs)
 
-pub Tells-trans : (a b c : Option (List Told)) (xs ys : List Told) → Tells a b xs → Tells b c ys → Tells a c (xs ++ ys)
+pub Tells-trans : (a b c : Option (List ReportedExchange)) (xs ys : List ReportedExchange) → Tells a b xs → Tells b c ys → Tells a c (xs ++ ys)
 Tells-trans a b None xs ys h i = tt
 Tells-trans None None (Some e) xs ys h i = absurd i
 Tells-trans None (Some d) (Some e) xs ys h i = absurd h
@@ -17,14 +17,14 @@ Tells-trans (Some c) None (Some e) xs ys h i = absurd i
 Tells-trans (Some c) (Some d) (Some e) xs ys h i = i ∙ ap (λ l. l ++ ys) h ∙ append_assoc c xs ys
 
 -- an exchange of the request's frame
-pub told_frame : (old new : Option (List Told)) (bytes : List ℕ) (q : Request) (o : Outcome) → bytes ≡ request_frame q → Tells old new (record { frame = bytes; outcome = o } ∷ []) → Tells old new (record { frame = request_frame q; outcome = o } ∷ [])
+pub told_frame : (old new : Option (List ReportedExchange)) (bytes : List ℕ) (q : Request) (o : ExchangeOutcome) → bytes ≡ request_frame q → Tells old new (record { frame = bytes; outcome = o } ∷ []) → Tells old new (record { frame = request_frame q; outcome = o } ∷ [])
 told_frame old new bytes q o e h = subst (λ (b : List ℕ). Tells old new (record { frame = b; outcome = o } ∷ [])) e h
 
 pub told_all-append : (later done : List Exchange) → told_all (later ++ done) ≡ told_all done ++ told_all later
 told_all-append [] done = sym (append-nil (told_all done))
 told_all-append (x ∷ later) done = ap (λ l. l ++ told_of x ∷ []) (told_all-append later done) ∙ append_assoc (told_all done) (told_all later) (told_of x ∷ [])
 
-pub told_both : (a b c : Option (List Told)) (done later : List Exchange) → Tells a b (told_all done) → Tells b c (told_all later) → Tells a c (told_all (later ++ done))
+pub told_both : (a b c : Option (List ReportedExchange)) (done later : List Exchange) → Tells a b (told_all done) → Tells b c (told_all later) → Tells a c (told_all (later ++ done))
 told_both a b c done later h i = rw (told_all-append later done) (Tells-trans a b c (told_all done) (told_all later) h i)
 
 -- what a body that spells this reply comes to
@@ -52,7 +52,7 @@ pub answered_in_time : (request : Request) (body : List ℕ) (decided : Option R
 answered_in_time request body None = refl
 answered_in_time request body (Some reply) = refl
 
-pub no_verdict : (t : Tried) → ((v : Verdict) → t ≡ tried.Decided v → ⊥) → verdict_of t ≡ None
+pub no_verdict : (t : TriesOutcome) → ((v : Verdict) → t ≡ tried.Decided v → ⊥) → verdict_of t ≡ None
 no_verdict (tried.Decided v) not = absurd (not v refl)
 no_verdict t not = refl
 
@@ -71,15 +71,15 @@ comes_decided request x done (Some reply) v try says = record {
 }
 
 -- one that brings no reply
-pub comes_faulted : (request : Request) (fault : LinkFault) (t : Tried) → verdict_of t ≡ None → is_late t ≡ ran_out (Faulted fault) → ComesOf None (record { request = request; outcome = Faulted fault; decided = None } ∷ []) t
+pub comes_faulted : (request : Request) (fault : LinkFault) (t : TriesOutcome) → verdict_of t ≡ None → is_late t ≡ ran_out (Faulted fault) → ComesOf None (record { request = request; outcome = Faulted fault; decided = None } ∷ []) t
 comes_faulted request fault t none is = record { verdict = subst (IsVerdict None) (sym none) tt; late = is ∙ sym (or_false (ran_out (Faulted fault))) }
 
 -- of tries that decide nothing
-pub comes_undecided : (done : List Exchange) (t : Tried) (late : Bool) → verdict_of t ≡ None → is_late t ≡ late → late ≡ has_timed_out done → ComesOf None done t
+pub comes_undecided : (done : List Exchange) (t : TriesOutcome) (late : Bool) → verdict_of t ≡ None → is_late t ≡ late → late ≡ has_timed_out done → ComesOf None done t
 comes_undecided done t late none is so = record { verdict = subst (IsVerdict None) (sym none) tt; late = is ∙ so }
 
 -- a closing is sent, whatever comes of it
-pub sent_as : (n : ℕ) (request : Request) (group : List Exchange) (decided : Option Reply) (t : Tried) → AreTries n request group decided → IsVerdict decided (verdict_of t) → IsSent n request group (is_decided t)
+pub sent_as : (n : ℕ) (request : Request) (group : List Exchange) (decided : Option Reply) (t : TriesOutcome) → AreTries n request group decided → IsVerdict decided (verdict_of t) → IsSent n request group (is_decided t)
 sent_as n request group (Some reply) (tried.Decided v) tries says = (reply, tries)
 sent_as n request group (Some reply) t tries says = absurd says
 sent_as n request group None (tried.Decided v) tries none = absurd none

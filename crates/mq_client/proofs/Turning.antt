@@ -1,6 +1,6 @@
 -- The exchanges of a step come in turn, until none is the next one.
 use Rattle.std.proofs.Common.{◌≡◌, ℕ, zero, suc, ◌+◌, ◌<◌, ◌≤◌, Bool, false, true, List, [], ◌∷◌, ◌++◌, length, drop, refl, sym, ap, ◌∙◌, subst, append-nil, arith, Option, None, Some, if◌then◌else◌, MatchBool}
-use Rattle.mq_client.proofs.Words.{Action, Answered, AreFailed, AreTries, AreUnderway, Ask, Brings, Close, ComeInTurn, Drain, Exchange, Faulted, Held, IsDecision, IsPlayed, IsTry, IsUnderway, NoneYet, OneMore, Outcome, Plays, PlaysFrom, Reply, Request, Sends, SendsAll, SendsSome, SendsUpTo, Source, SpellsReply, Step, View, decisions, failures, held_for, le-leb, leb-false, lt-leb, nat_le, next_in, next_of, none_some, outcomes, queue_of, refuses, reserve_of, slice_get, some_is, tries_in, true_false, view}
+use Rattle.mq_client.proofs.Words.{Action, Answered, AreFailed, AreTries, AreUnderway, Ask, Brings, Close, ComeInTurn, Drain, Exchange, Faulted, HeldTransaction, IsDecision, IsPlayed, IsTry, IsUnderway, NoneYet, OneMore, ExchangeOutcome, Plays, PlaysFrom, Reply, Request, Sends, SendsAll, SendsSome, SendsUpTo, Source, SpellsReply, Step, View, decisions, failures, held_for, le-leb, leb-false, lt-leb, nat_le, next_in, next_of, none_some, outcomes, queue_of, refuses, reserve_of, slice_get, some_is, tries_in, true_false, view}
 use Rattle.mq_client.proofs.Making.{some_left}
 use Rattle.mq_client.proofs.Basics.{cons_head, cons_tail, of_either}
 
@@ -94,7 +94,7 @@ ask_over : (b : Bool) (n : ℕ) (q : Request) (group : List Exchange) → MatchB
 ask_over true n q group e = rw e (tt, none_by_queue n [] [] refl)
 ask_over false n q group (decided, t) = tries_over n q group decided t
 
-over_from : (s : Source) (n : ℕ) (v : View) (o : Option Held) (a : Action) (group : List Exchange) → PlaysFrom s n o (length v.live) v.numbers v.waiting a group → IsOver n (queue_of s v o a) group
+over_from : (s : Source) (n : ℕ) (v : View) (o : Option HeldTransaction) (a : Action) (group : List Exchange) → PlaysFrom s n o (length v.live) v.numbers v.waiting a group → IsOver n (queue_of s v o a) group
 over_from s n v o (Ask txn moment login) group plays = ask_over (refuses o (length v.live) v.numbers (length v.waiting) moment login) n (reserve_of s (v.numbers + 1) txn moment login) group plays
 over_from s n v None (Close txn end) group plays = rw plays (tt, none_by_queue n [] [] refl)
 over_from s n v (Some h) (Close txn end) group (left, sends) = sends_over n _ group left sends
@@ -129,12 +129,12 @@ next_in_queue n queue group q e = by_tries (nat_le n (failures group)) refl e
 abbrev pub OneReply : Type 0
 OneReply = (body : List ℕ) (reply other : Reply) → SpellsReply body reply → SpellsReply body other → reply ≡ other
 
-one_brought : OneReply → (o : Outcome) (r q : Reply) → Brings o r → Brings o q → r ≡ q
+one_brought : OneReply → (o : ExchangeOutcome) (r q : Reply) → Brings o r → Brings o q → r ≡ q
 one_brought U (Answered body) r q h i = U body r q h i
 one_brought U (Faulted fault) r q h i = absurd h
 
 -- which reply decided follows from the request and from how its exchange ended
-same_decision : OneReply → (q : Request) (o : Outcome) (d e : Option Reply) → IsDecision q o d → IsDecision q o e → d ≡ e
+same_decision : OneReply → (q : Request) (o : ExchangeOutcome) (d e : Option Reply) → IsDecision q o d → IsDecision q o e → d ≡ e
 same_decision U q o None None h i = refl
 same_decision U q o None (Some r) h i = absurd (true_false (sym i.1 ∙ h r i.0))
 same_decision U q o (Some r) None h i = absurd (true_false (sym h.1 ∙ i r h.0))
@@ -142,8 +142,8 @@ same_decision U q o (Some r) (Some p) h i = ap Some (one_brought U o r p h.0 i.0
 
 same_exchange : OneReply → (x y : Exchange) → x.request ≡ y.request → x.outcome ≡ y.outcome → IsDecision x.request x.outcome x.decided → IsDecision y.request y.outcome y.decided → x ≡ y
 same_exchange U x y e f h i =
-    let decided : x.decided ≡ y.decided = same_decision U y.request y.outcome x.decided y.decided (subst (λ (o : Outcome). IsDecision y.request o x.decided) f (subst (λ (q : Request). IsDecision q x.outcome x.decided) e h)) i in
-    ap (λ (q : Request). record x { request = q }) e ∙ ap (λ (o : Outcome). record x { request = y.request; outcome = o }) f ∙ ap (λ (d : Option Reply). record y { decided = d }) decided
+    let decided : x.decided ≡ y.decided = same_decision U y.request y.outcome x.decided y.decided (subst (λ (o : ExchangeOutcome). IsDecision y.request o x.decided) f (subst (λ (q : Request). IsDecision q x.outcome x.decided) e h)) i in
+    ap (λ (q : Request). record x { request = q }) e ∙ ap (λ (o : ExchangeOutcome). record x { request = y.request; outcome = o }) f ∙ ap (λ (d : Option Reply). record y { decided = d }) decided
 
 -- exchanges that came in turn and ended alike are the same
 pub same_turns : OneReply → (n : ℕ) (queue : List Request) (g h : List Exchange) → ComeInTurn n queue g → ComeInTurn n queue h → outcomes g ≡ outcomes h → g ≡ h

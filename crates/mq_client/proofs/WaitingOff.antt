@@ -1,6 +1,6 @@
 -- What waits is what is read off the whole past: the closings that no exchange decided.
 use Rattle.std.proofs.Common.{◌≡◌, ℕ, zero, suc, ◌+◌, ◌<◌, ◌≤◌, ◌==◌, ◌&&◌, ◌||◌, not, Bool, false, true, List, [], ◌∷◌, ◌++◌, refl, sym, ap, ◌∙◌, subst, arith, append_assoc, append-nil, Option, None, Some, is_some, if◌then◌else◌, filter}
-use Rattle.mq_client.proofs.Words.{Action, AllByRecursion, all_append, and_false, AreUnderway, Ask, Close, CloseEnd, ComeInTurn, Drain, Exchange, Held, Id, Limit, Release, Request, Reserve, Retire, Settle, Source, Step, View, after, after_close, all_push, closing_of, closing_under, closings_in, decisions, drop, drop-drop, held_by, held_for, is_decided_by, is_decided_in, live_in, neither_so, never, none_some, numbers_in, or_first, or_second, queue_of, reserve_of, same_id, same_request, same_text, slice_get, some_is, tries_in, view, waiting_in}
+use Rattle.mq_client.proofs.Words.{Action, AllByRecursion, all_append, and_false, AreUnderway, Ask, Close, CloseEnd, ComeInTurn, Drain, Exchange, HeldTransaction, Id, Limit, Release, Request, Reserve, Retire, Settle, Source, Step, View, after, after_close, all_push, closing_of, closing_under, closings_in, decisions, drop, drop-drop, held_by, held_for, is_decided_by, is_decided_in, live_in, neither_so, never, none_some, numbers_in, or_first, or_second, queue_of, reserve_of, same_id, same_request, same_text, slice_get, some_is, tries_in, view, waiting_in}
 use Rattle.std.proofs.lemmas.List.Elements.{filter-append}
 use Rattle.mq_lemmas.proofs.Lists.{all_of}
 use Rattle.mq_lemmas.proofs.Numbers.{number_itself, other_number}
@@ -49,7 +49,7 @@ reserve_other s n txn moment login (Settle id txn' moment' login' count) c = ref
 reserve_other s n txn moment login (Release id txn' moment' login') c = refl
 reserve_other s n txn moment login q c = absurd c
 
-closing_is : (s : Source) (n txn : ℕ) (end : CloseEnd) (h : Held) → IsClosing (closing_of s n txn end h) × (seq_of (closing_of s n txn end h) ≡ n)
+closing_is : (s : Source) (n txn : ℕ) (end : CloseEnd) (h : HeldTransaction) → IsClosing (closing_of s n txn end h) × (seq_of (closing_of s n txn end h) ≡ n)
 closing_is s n txn end h = of_closing (λ (q : Request). IsClosing q × (seq_of q ≡ n)) s n txn end h (tt, refl) (tt, refl)
 
 -- ---- which requests a group decided
@@ -201,7 +201,7 @@ ask_waits : (s : Source) (v : View) (P : List Step) (group : List Exchange) → 
     → Waits (λ q. is_decided_by group q || is_decided_in P q) (closings_in s P ++ []) v.waiting m
 ask_waits s v P group quiet m le w = rw append-nil (waits_sent _ _ v.waiting v.waiting v.numbers m group w le (record { done = []; whole = refl; decided = tt; others = λ q c h. quiet q c }))
 
-close_waits : (s : Source) (n : ℕ) (v : View) (P : List Step) (txn : ℕ) (end : CloseEnd) (group : List Exchange) (o : Option Held) → v.numbers ≡ numbers_in P → live_in P txn ≡ o
+close_waits : (s : Source) (n : ℕ) (v : View) (P : List Step) (txn : ℕ) (end : CloseEnd) (group : List Exchange) (o : Option HeldTransaction) → v.numbers ≡ numbers_in P → live_in P txn ≡ o
     → ComeInTurn n (queue_of s v o (Close txn end)) group → WaitsIn s v P
     → Waits (λ q. is_decided_by group q || is_decided_in P q) (closings_in s P ++ closing_under s (numbers_in P + 1) txn end (live_in P txn)) (after_close s txn end group v o).waiting (after_close s txn end group v o).numbers
 close_waits s n v P txn end group None same live turns w =

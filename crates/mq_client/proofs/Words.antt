@@ -28,9 +28,9 @@ pub use Rattle.mq_track.specs.declared.closing.CloseEnd.{CloseEnd}
 pub use Rattle.mq_track.specs.declared.closing.Closing.{Closing}
 pub use Rattle.mq_track.specs.declared.fault.TrackFault.{TrackFault}
 pub use Rattle.mq_link.specs.Link.{Brings, Tells}
-pub use Rattle.mq_link.specs.declared.link.Outcome.{Outcome}
-pub use Rattle.mq_link.specs.declared.link.Outcome.TheVariants.{Answered, Faulted}
-pub use Rattle.mq_link.specs.declared.link.Told.{Told}
+pub use Rattle.mq_link.specs.declared.link.ExchangeOutcome.{ExchangeOutcome}
+pub use Rattle.mq_link.specs.declared.link.ExchangeOutcome.TheVariants.{Answered, Faulted}
+pub use Rattle.mq_link.specs.declared.link.ReportedExchange.{ReportedExchange}
 pub use Rattle.mq_client.specs.Exchanges.{AreFailed, AreTries, Exchange, IsDecision, IsSent, IsTry, IsUndecided, NoneYet, OneMore, Sends, SendsAll, SendsSome, SendsUpTo, decides, decisions, has_timed_out, ran_out, told_all, told_of}
 pub use Rattle.mq_client.specs.Filter.{Answers, Asks, Closes, Filters, Passes, Query, Refuses, Takes, action_of, actions, actions_of, after_line, answer_count, asking_of, at_line, close_of, decision_by, decision_of, is_filter, is_login, is_moment, push, query, query_at}
 pub use Rattle.mq_client.specs.Framed.{IsFramed, requests_of}
@@ -46,10 +46,10 @@ pub use Rattle.mq_client.specs.Tried.{ComesOf, is_decided, is_late, verdict_of}
 pub use Rattle.mq_client.specs.Turns.{AreUnderway, ComeInTurn, IsUnderway, all_outcomes, failures, next_in, next_of, outcomes, queue_of, quiets}
 pub use Rattle.mq_client.specs.Verdict.{IsVerdict, deciding}
 pub use Rattle.mq_client.specs.declared.fault.FilterFault.{FilterFault}
-pub use Rattle.mq_client.specs.declared.filter.Ended.{Ended}
-pub use Rattle.mq_client.specs.declared.held.Asked.{Asked}
-pub use Rattle.mq_client.specs.declared.held.Held.{Held}
+pub use Rattle.mq_client.specs.declared.filter.RunEnd.{RunEnd}
+pub use Rattle.mq_client.specs.declared.held.RecipientAnswer.{RecipientAnswer}
+pub use Rattle.mq_client.specs.declared.held.HeldTransaction.{HeldTransaction}
 pub use Rattle.mq_client.specs.declared.holdup.Full.{Full}
 pub use Rattle.mq_client.specs.declared.spans.Spans.{Spans}
-pub use Rattle.mq_client.specs.declared.tries.Framed.{Framed}
-pub use Rattle.mq_client.specs.declared.tries.Tried.{Tried}
+pub use Rattle.mq_client.specs.declared.tries.FramedRequest.{FramedRequest}
+pub use Rattle.mq_client.specs.declared.tries.TriesOutcome.{TriesOutcome}

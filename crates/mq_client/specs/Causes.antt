@@ -2,12 +2,12 @@
 use Rattle.std.specs.Prelude.{ℕ, ◌+◌, List, nat_le, Option, None, Some, if◌then◌else◌}
 use Rattle.mq_client.specs.Past.{is_other, lacks_numbers}
 use Rattle.mq_client.specs.Filter.{is_login}
-use Rattle.mq_client.specs.declared.held.Held.{Held}
+use Rattle.mq_client.specs.declared.held.HeldTransaction.{HeldTransaction}
 use Rattle.mq_client.specs.declared.refusal.Cause.{Cause}
 use Rattle.mq_client.specs.declared.refusal.Cause.TheVariants.{Login, Moment, Changed, Recipients, Places, Numbers}
 
 -- of a transaction that is held or isn't, by the live ones, the numbers used and what waits: the first that applies
-abbrev pub cause_by : Option Held → (live numbers waiting moment : ℕ) → List ℕ → Option Cause
+abbrev pub cause_by : Option HeldTransaction → (live numbers waiting moment : ℕ) → List ℕ → Option Cause
 cause_by (Some h) live numbers waiting moment login =
     if is_other h moment login then Some Changed
     else (if nat_le 1000 h.granted then Some Recipients

@@ -11,14 +11,14 @@ use Rattle.mq_request.specs.declared.message.Reply.TheVariants.{TooMany, Conflic
 use Rattle.mq_frame.specs.Spelling.{request_frame}
 use Rattle.mq_link.specs.Link.{Brings}
 use Rattle.mq_link.specs.declared.link.LinkFault.TheVariants.{TimedOut}
-use Rattle.mq_link.specs.declared.link.Outcome.{Outcome}
-use Rattle.mq_link.specs.declared.link.Outcome.TheVariants.{Faulted}
-use Rattle.mq_link.specs.declared.link.Told.{Told}
+use Rattle.mq_link.specs.declared.link.ExchangeOutcome.{ExchangeOutcome}
+use Rattle.mq_link.specs.declared.link.ExchangeOutcome.TheVariants.{Faulted}
+use Rattle.mq_link.specs.declared.link.ReportedExchange.{ReportedExchange}
 
 -- an exchange of a request: how it ended, and the reply that decided the request, where one did
 pub record Exchange : Type 0 where
   pub request : Request
-  pub outcome : Outcome
+  pub outcome : ExchangeOutcome
   pub decided : Option Reply
 
 -- the kinds that answer a reserve, with its id
@@ -50,7 +50,7 @@ decides (Release id txn moment login) reply = answers_closing id reply
 decides _ reply = false
 
 -- what an exchange of the request that ended so comes to: a reply that came decides it, or none came that does
-abbrev pub IsDecision : Request → Outcome → Option Reply → Type 0
+abbrev pub IsDecision : Request → ExchangeOutcome → Option Reply → Type 0
 IsDecision request outcome (Some reply) = Brings outcome reply × (decides request reply ≡ true)
 IsDecision request outcome None = (reply : Reply) → Brings outcome reply → decides request reply ≡ false
 
@@ -80,7 +80,7 @@ decisions [] = 0
 decisions (x ∷ group) = if is_some (x.decided) then decisions group + 1 else decisions group
 
 -- an exchange that ended so ran out of time
-abbrev pub ran_out : Outcome → Bool
+abbrev pub ran_out : ExchangeOutcome → Bool
 ran_out (Faulted TimedOut) = true
 ran_out _ = false
 
@@ -114,10 +114,10 @@ IsSent n request tries true = (reply : Reply) × AreTries n request tries (Some 
 IsSent n request tries false = IsUndecided n request tries
 
 -- an exchange as the link reports it
-abbrev pub told_of : Exchange → Told
+abbrev pub told_of : Exchange → ReportedExchange
 told_of x = record { frame = request_frame x.request; outcome = x.outcome }
 
 -- the exchanges of a group as the link reports them, the oldest first
-abbrev pub told_all : List Exchange → List Told
+abbrev pub told_all : List Exchange → List ReportedExchange
 told_all [] = []
 told_all (x ∷ group) = told_all group ++ told_of x ∷ []

@@ -14,8 +14,8 @@ use Rattle.mq_client.specs.Exchanges.{Exchange}
 use Rattle.mq_client.specs.Past.{Action, Ask, Close, Step, answer_of}
 use Rattle.mq_client.specs.Holding.{Holding, nothing_held, held_back, seconds_in, still_by, noted_by}
 use Rattle.mq_client.specs.declared.spans.Spans.{Spans}
-use Rattle.mq_client.specs.declared.held.Asked.{Asked}
-use Rattle.mq_client.specs.declared.held.Asked.TheVariants as asked
+use Rattle.mq_client.specs.declared.held.RecipientAnswer.{RecipientAnswer}
+use Rattle.mq_client.specs.declared.held.RecipientAnswer.TheVariants as asked
 
 -- what becomes of a filter line: it passes, it is refused with no question, or a recipient is asked for
 pub data Query : Type 0 where
@@ -43,7 +43,7 @@ query L subsystem phase session = if bytes_eq subsystem (codes "smtp-in") && byt
     then query_at (position L session) else Passes
 
 -- what smtpd is answered for an ask: proceed where it was granted, 550 by the limit, 451 otherwise
-abbrev pub decision_of : Asked → Decision
+abbrev pub decision_of : RecipientAnswer → Decision
 decision_of asked.Granted = Proceed
 decision_of asked.Full = RejectLimit
 decision_of asked.Unavailable = RejectService

@@ -8,8 +8,8 @@ use Rattle.mq_line.specs.declared.results.Decision.{Decision}
 use Rattle.mq_line.specs.declared.results.Decision.TheVariants.{RejectLimit, RejectService}
 use Rattle.mq_client.specs.Exchanges.{has_timed_out}
 use Rattle.mq_client.specs.Past.{Action, Ask, Step, answer_of}
-use Rattle.mq_client.specs.declared.held.Asked.{Asked}
-use Rattle.mq_client.specs.declared.held.Asked.TheVariants as asked
+use Rattle.mq_client.specs.declared.held.RecipientAnswer.{RecipientAnswer}
+use Rattle.mq_client.specs.declared.held.RecipientAnswer.TheVariants as asked
 use Rattle.mq_client.specs.declared.spans.Spans.{Spans}
 use Rattle.mq_client.specs.declared.holdup.Full.{Full}
 
@@ -60,7 +60,7 @@ held_back h login = if is_full login h.full then Some RejectLimit
     else (if is_some h.paused then Some RejectService else None)
 
 -- the login that was asked for, where the limit is reached
-abbrev pub full_by : Action → Asked → Option (List ℕ)
+abbrev pub full_by : Action → RecipientAnswer → Option (List ℕ)
 full_by (Ask txn moment login) asked.Full = Some login
 full_by _ answer = None
 

@@ -30,6 +30,8 @@ pub mod Inside
 pub mod Causes
 -- the logins whose limit is in the log
 pub mod Reached
+-- the warnings that recipients of a session are refused
+pub mod Warned
 -- what a client keeps of a reply that decides
 pub mod Verdict
 -- what comes of a request's tries

@@ -22,7 +22,7 @@ use Rattle.mq_client.specs.declared.fault.FilterFault.TheVariants as fault
 use Rattle.mq_client.specs.declared.filter.Early.{Early}
 use Rattle.mq_client.specs.declared.filter.Early.TheVariants as early
 use Rattle.mq_client.specs.declared.filter.Filter.{Filter}
-use Rattle.mq_link.specs.declared.link.Told.{Told}
+use Rattle.mq_link.specs.declared.link.ReportedExchange.{ReportedExchange}
 
 -- the filter has come to the stage
 abbrev pub IsAt : Filter → Stage → Type 0
@@ -35,7 +35,7 @@ MakesOne old new None = new ≡ old
 MakesOne old new (Some x) = Makes old new x
 
 -- the exchanges of that step as the link reports them, the oldest first
-abbrev pub told_one : Option Step → List Told
+abbrev pub told_one : Option Step → List ReportedExchange
 told_one None = []
 told_one (Some x) = told_all x.group
 

@@ -12,7 +12,7 @@ use Rattle.mq_client.specs.Past.{Source, Action, Ask, Close, Drain, Step, Standi
 use Rattle.mq_client.specs.Past.{id_of, reserve_of, closing_of}
 use Rattle.mq_client.specs.Reading.{live_in, numbers_in}
 use Rattle.mq_track.specs.declared.closing.CloseEnd.TheVariants.{Commit}
-use Rattle.mq_client.specs.declared.held.Held.{Held}
+use Rattle.mq_client.specs.declared.held.HeldTransaction.{HeldTransaction}
 
 -- the id that a request carries
 abbrev pub id_in : Request → Option Id
@@ -62,7 +62,7 @@ pub record WasCommitted (P : List Step) (txn moment : ℕ) (login : List ℕ) (c
   pub group : List Exchange
   pub quiet : Bool
   pub before : List Step
-  pub held : Held
+  pub held : HeldTransaction
   pub whole : P ≡ later ++ record { action = Close txn Commit; group = group; quiet = quiet } ∷ before
   pub live : live_in before txn ≡ Some held
   pub moment_is : held.moment ≡ moment

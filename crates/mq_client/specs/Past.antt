@@ -13,11 +13,11 @@ use Rattle.mq_request.specs.declared.message.Reply.TheVariants as reply
 use Rattle.mq_client.specs.Exchanges.{Exchange, AreTries, Sends, decisions, told_all}
 use Rattle.mq_track.specs.declared.closing.CloseEnd.{CloseEnd}
 use Rattle.mq_track.specs.declared.closing.CloseEnd.TheVariants as ending
-use Rattle.mq_client.specs.declared.held.Asked.{Asked}
-use Rattle.mq_client.specs.declared.held.Asked.TheVariants as asked
-use Rattle.mq_client.specs.declared.held.Held.{Held}
+use Rattle.mq_client.specs.declared.held.RecipientAnswer.{RecipientAnswer}
+use Rattle.mq_client.specs.declared.held.RecipientAnswer.TheVariants as asked
+use Rattle.mq_client.specs.declared.held.HeldTransaction.{HeldTransaction}
 use Rattle.mq_client.specs.declared.spans.Spans.{Spans}
-use Rattle.mq_link.specs.declared.link.Told.{Told}
+use Rattle.mq_link.specs.declared.link.ReportedExchange.{ReportedExchange}
 
 -- who asks: a host, and a run of its filter
 pub record Source : Type 0 where
@@ -42,18 +42,18 @@ abbrev pub drained : List Exchange → List Step → List Step
 drained group steps = record { action = Drain; group = group; quiet = false } ∷ steps
 
 -- the answer to an ask, by the reply that decided it
-abbrev pub answer_by : Option Reply → Asked
+abbrev pub answer_by : Option Reply → RecipientAnswer
 answer_by (Some (reply.Granted id used)) = asked.Granted
 answer_by (Some (reply.Full id used cap)) = asked.Full
 answer_by _ = asked.Unavailable
 
 -- the answer to an ask with these exchanges
-abbrev pub answer_of : List Exchange → Asked
+abbrev pub answer_of : List Exchange → RecipientAnswer
 answer_of [] = asked.Unavailable
 answer_of (x ∷ group) = answer_by (x.decided)
 
 -- an ask that was answered Granted lets one recipient through
-abbrev pub let_through : Asked → Held → Held
+abbrev pub let_through : RecipientAnswer → HeldTransaction → HeldTransaction
 let_through asked.Granted h = record { login = h.login; moment = h.moment; granted = h.granted + 1 }
 let_through asked.Full h = h
 let_through asked.Unavailable h = h
@@ -62,8 +62,8 @@ let_through asked.Unavailable h = h
 -- login and moment, and how many of its recipients were let through
 pub data Standing : Type 0 where
   Never : Standing
-  Live : Held → Standing
-  Closed : (end : CloseEnd) (number : ℕ) → Held → Standing
+  Live : HeldTransaction → Standing
+  Closed : (end : CloseEnd) (number : ℕ) → HeldTransaction → Standing
 
 -- what a past leaves: each transaction, how many numbers are used, the requests that wait, in order, and the
 -- live transactions
@@ -74,13 +74,13 @@ pub record View : Type 0 where
   pub live : List ℕ
 
 -- what is known of a transaction while it is live
-abbrev pub held_by : Standing → Option Held
+abbrev pub held_by : Standing → Option HeldTransaction
 held_by Never = None
 held_by (Live h) = Some h
 held_by (Closed end number h) = None
 
 -- a transaction from its first exchange on: the first ask gives login and moment
-abbrev pub opened : ℕ → List ℕ → Option Held → Held
+abbrev pub opened : ℕ → List ℕ → Option HeldTransaction → HeldTransaction
 opened moment login None = record { login = login; moment = moment; granted = 0 }
 opened moment login (Some h) = h
 
@@ -99,7 +99,7 @@ is_commit ending.Rollback = false
 
 -- the request that closes a transaction: a settle of what was let through, where it was committed and that is
 -- at least one, and else a release
-abbrev pub closing_of : Source → ℕ → ℕ → CloseEnd → Held → Request
+abbrev pub closing_of : Source → ℕ → ℕ → CloseEnd → HeldTransaction → Request
 closing_of s number txn end h = if is_commit end && nat_le 1 h.granted then Settle (id_of s number) txn h.moment h.login h.granted
     else Release (id_of s number) txn h.moment h.login
 
@@ -108,7 +108,7 @@ abbrev pub set : ℕ → Standing → (ℕ → Standing) → ℕ → Standing
 set txn now standing t = if txn == t then now else standing t
 
 -- the live transactions with one that is asked for
-abbrev pub with_asked : ℕ → Option Held → List ℕ → List ℕ
+abbrev pub with_asked : ℕ → Option HeldTransaction → List ℕ → List ℕ
 with_asked txn None live = txn ∷ live
 with_asked txn (Some h) live = live
 
@@ -130,7 +130,7 @@ after_ask txn moment login (x ∷ group) v = record {
 
 -- the close of a live transaction takes a number, and its request joins the end of those that wait; what was
 -- decided waits no longer
-abbrev pub after_close : Source → ℕ → CloseEnd → List Exchange → View → Option Held → View
+abbrev pub after_close : Source → ℕ → CloseEnd → List Exchange → View → Option HeldTransaction → View
 after_close s txn end group v None = v
 after_close s txn end group v (Some h) = record {
   standing = set txn (Closed end (v.numbers + 1) h) v.standing;
@@ -158,7 +158,7 @@ view s (x ∷ P) = after s (view s P) x.action x.group
 -- Which step may come next.
 
 -- the transaction is held with another login or moment
-abbrev pub is_other : Held → ℕ → List ℕ → Bool
+abbrev pub is_other : HeldTransaction → ℕ → List ℕ → Bool
 is_other h moment login = not (same_text h.login login) || not (h.moment == moment)
 
 -- the unused numbers are fewer than one and one for the closing of each held transaction
@@ -167,14 +167,14 @@ lacks_numbers numbers held = nat_lt (4294967295 - numbers) (1 + held)
 
 -- an ask that makes no exchange: of a held transaction that is another or has let 1,000 recipients through, of
 -- one that isn't held where no place is left, or where numbers are lacking
-abbrev pub refuses : Option Held → (live numbers waiting moment : ℕ) → List ℕ → Bool
+abbrev pub refuses : Option HeldTransaction → (live numbers waiting moment : ℕ) → List ℕ → Bool
 refuses (Some h) live numbers waiting moment login =
     is_other h moment login || (nat_le 1000 h.granted || lacks_numbers numbers live)
 refuses None live numbers waiting moment login = nat_le 4096 (live + waiting) || lacks_numbers numbers (live + 1)
 
 -- the exchanges that an action may have, by what stands before it: the transaction, where it is live, the live
 -- ones, the numbers used and what waits
-abbrev pub PlaysFrom : Source → (tries : ℕ) → Option Held → (live numbers : ℕ) → List Request → Action → List Exchange
+abbrev pub PlaysFrom : Source → (tries : ℕ) → Option HeldTransaction → (live numbers : ℕ) → List Request → Action → List Exchange
     → Type 0
 PlaysFrom s tries held live numbers waiting (Ask txn moment login) group =
     MatchBool (refuses held live numbers (length waiting) moment login)
@@ -186,7 +186,7 @@ PlaysFrom s tries (Some h) live numbers waiting (Close txn end) group =
 PlaysFrom s tries held live numbers waiting Drain group = (left : List Request) × Sends tries waiting group left
 
 -- what is known of the transaction that an action names, while it is live
-abbrev pub held_for : View → Action → Option Held
+abbrev pub held_for : View → Action → Option HeldTransaction
 held_for v (Ask txn moment login) = held_by (v.standing txn)
 held_for v (Close txn end) = held_by (v.standing txn)
 held_for v Drain = None
@@ -214,12 +214,12 @@ pub record State : Type 0 where
   pub source : Source
   pub tries : ℕ
   pub spans : Spans
-  pub held : List (ℕ × Held)
+  pub held : List (ℕ × HeldTransaction)
   pub numbers : ℕ
   pub waiting : List Request
 
 -- what a map of transactions has of one
-abbrev pub find : List (ℕ × Held) → ℕ → Option Held
+abbrev pub find : List (ℕ × HeldTransaction) → ℕ → Option HeldTransaction
 find held txn = lookup (is_at (nat_cmp txn)) held
 
 -- the client's view is that of the past
@@ -249,7 +249,7 @@ pub record MakesAll (old new : State) (steps : List Step) : Type 0 where
   pub stands : (P : List Step) → StandsAt old P → StandsAt new (steps ++ P)
 
 -- the exchanges of some steps as the link reports them, the oldest first
-abbrev pub told_steps : List Step → List Told
+abbrev pub told_steps : List Step → List ReportedExchange
 told_steps [] = []
 told_steps (x ∷ steps) = told_steps steps ++ told_all x.group
 

@@ -8,15 +8,15 @@ use Rattle.mq_client.specs.Exchanges.{Exchange}
 use Rattle.mq_client.specs.Past.{Source, Action, Ask, Close, Drain, Step, Standing, Never, Live, Closed, answer_of}
 use Rattle.mq_client.specs.Past.{closing_of}
 use Rattle.mq_track.specs.declared.closing.CloseEnd.{CloseEnd}
-use Rattle.mq_client.specs.declared.held.Asked.{Asked}
-use Rattle.mq_client.specs.declared.held.Asked.TheVariants as asked
-use Rattle.mq_client.specs.declared.held.Held.{Held}
+use Rattle.mq_client.specs.declared.held.RecipientAnswer.{RecipientAnswer}
+use Rattle.mq_client.specs.declared.held.RecipientAnswer.TheVariants as asked
+use Rattle.mq_client.specs.declared.held.HeldTransaction.{HeldTransaction}
 
 -- an ask that made an exchange
 pub record Asking : Type 0 where
   pub login : List ℕ
   pub moment : ℕ
-  pub answer : Asked
+  pub answer : RecipientAnswer
 
 -- the action closes the transaction
 abbrev pub closes : ℕ → Action → Bool
@@ -47,14 +47,14 @@ first_of a [] = a
 first_of a (b ∷ more) = first_of b more
 
 -- the answer lets a recipient through
-abbrev pub is_granted : Asked → Bool
+abbrev pub is_granted : RecipientAnswer → Bool
 is_granted asked.Granted = true
 is_granted asked.Full = false
 is_granted asked.Unavailable = false
 
 -- a transaction is live where such asks of it are there: the first gives login and moment, and those that were
 -- answered Granted were let through
-abbrev pub live_by : List Asking → Option Held
+abbrev pub live_by : List Asking → Option HeldTransaction
 live_by [] = None
 live_by (a ∷ more) = Some (record {
   login = (first_of a more).login;
@@ -63,7 +63,7 @@ live_by (a ∷ more) = Some (record {
 })
 
 -- what the past says of a transaction that is live after it
-abbrev pub live_in : List Step → ℕ → Option Held
+abbrev pub live_in : List Step → ℕ → Option HeldTransaction
 live_in P t = live_by (asks_of t P)
 
 -- the server was asked
@@ -83,7 +83,7 @@ numbers_in [] = 0
 numbers_in (x ∷ P) = if takes_number P x.action x.group then numbers_in P + 1 else numbers_in P
 
 -- a transaction that a close found live, under the number of the close
-abbrev pub closed_by : ℕ → (number : ℕ) → Action → Option Held → Option Standing
+abbrev pub closed_by : ℕ → (number : ℕ) → Action → Option HeldTransaction → Option Standing
 closed_by t number (Ask txn moment login) held = None
 closed_by t number (Close txn end) None = None
 closed_by t number (Close txn end) (Some h) = if txn == t then Some (Closed end number h) else None
@@ -100,7 +100,7 @@ closed_in [] t = Never
 closed_in (x ∷ P) t = standing_or (closed_by t (numbers_in P + 1) x.action (live_in P t)) (closed_in P t)
 
 -- how a transaction stands: live, or as its last close left it
-abbrev pub live_or : Option Held → Standing → Standing
+abbrev pub live_or : Option HeldTransaction → Standing → Standing
 live_or None before = before
 live_or (Some h) before = Live h
 
@@ -109,7 +109,7 @@ abbrev pub standing_in : List Step → ℕ → Standing
 standing_in P t = live_or (live_in P t) (closed_in P t)
 
 -- the request of the close of a transaction, under its number, where it was live
-abbrev pub closing_under : Source → (number txn : ℕ) → CloseEnd → Option Held → List Request
+abbrev pub closing_under : Source → (number txn : ℕ) → CloseEnd → Option HeldTransaction → List Request
 closing_under s number txn end None = []
 closing_under s number txn end (Some h) = closing_of s number txn end h ∷ []
 

@@ -18,8 +18,8 @@ use Rattle.mq_client.specs.Filter.{Takes, at_line, push, Filters, is_filter, ans
 use Rattle.mq_client.specs.declared.spans.Spans.{Spans}
 use Rattle.mq_client.specs.declared.fault.FilterFault.{FilterFault}
 use Rattle.mq_client.specs.declared.fault.FilterFault.TheVariants as faults
-use Rattle.mq_client.specs.declared.filter.Ended.{Ended}
-use Rattle.mq_link.specs.declared.link.Told.{Told}
+use Rattle.mq_client.specs.declared.filter.RunEnd.{RunEnd}
+use Rattle.mq_link.specs.declared.link.ReportedExchange.{ReportedExchange}
 
 -- ---- the input
 
@@ -96,17 +96,17 @@ HasText spans (AfterReady L) steps text h = (results : List ℕ) × Filters span
 -- what stands outside of the filter: what the sink holds, what the link told, and the client
 pub record Outside : Type 0 where
   pub sink : Option (List ℕ)
-  pub told : Option (List Told)
+  pub told : Option (List ReportedExchange)
   pub client : State
 
 -- what stands outside, put together
-abbrev pub around : Option (List ℕ) → Option (List Told) → State → Outside
+abbrev pub around : Option (List ℕ) → Option (List ReportedExchange) → State → Outside
 around sink told client = record { sink = sink; told = told; client = client }
 
 -- ---- its end
 
 -- all bytes were whole lines, with `config|ready` among them, and what waited was sent at the end
-pub record EndsWith (o : Outside) (bytes : List ℕ) (now : Outside) (e : Ended) : Type 0 where
+pub record EndsWith (o : Outside) (bytes : List ℕ) (now : Outside) (e : RunEnd) : Type 0 where
   pub lines : List (List ℕ)
   pub after_ready : List Meaning
   pub steps : List Step

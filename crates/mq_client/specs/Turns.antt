@@ -5,8 +5,8 @@ use Rattle.mq_request.specs.declared.message.Request.{Request}
 use Rattle.mq_client.specs.Exchanges.{Exchange, decisions, IsDecision}
 use Rattle.mq_client.specs.Past.{Source, Action, Ask, Close, Drain, Step, View, view, reserve_of, closing_of, refuses}
 use Rattle.mq_client.specs.Past.{held_for, tries_in}
-use Rattle.mq_client.specs.declared.held.Held.{Held}
-use Rattle.mq_link.specs.declared.link.Outcome.{Outcome}
+use Rattle.mq_client.specs.declared.held.HeldTransaction.{HeldTransaction}
+use Rattle.mq_link.specs.declared.link.ExchangeOutcome.{ExchangeOutcome}
 
 -- how many exchanges failed since the last one that decided
 abbrev pub failures : List Exchange → ℕ
@@ -14,7 +14,7 @@ failures [] = 0
 failures (x ∷ group) = if is_some (x.decided) then 0 else failures group + 1
 
 -- the requests that an action sends, in order
-abbrev pub queue_of : Source → View → Option Held → Action → List Request
+abbrev pub queue_of : Source → View → Option HeldTransaction → Action → List Request
 queue_of s v held (Ask txn moment login) = if refuses held (length v.live) v.numbers (length v.waiting) moment login then []
     else reserve_of s (v.numbers + 1) txn moment login ∷ []
 queue_of s v None (Close txn end) = []
@@ -54,11 +54,11 @@ quiets [] = []
 quiets (x ∷ steps) = x.quiet ∷ quiets steps
 
 -- how exchanges ended
-abbrev pub outcomes : List Exchange → List Outcome
+abbrev pub outcomes : List Exchange → List ExchangeOutcome
 outcomes [] = []
 outcomes (x ∷ group) = x.outcome ∷ outcomes group
 
 -- how the exchanges of all the steps ended, of which the newest comes first
-abbrev pub all_outcomes : List Step → List Outcome
+abbrev pub all_outcomes : List Step → List ExchangeOutcome
 all_outcomes [] = []
 all_outcomes (x ∷ steps) = outcomes x.group ++ all_outcomes steps

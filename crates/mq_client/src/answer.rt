@@ -1,5 +1,6 @@
 //! The answer to one request of smtpd.
-ghost use Rattle.std.specs.Prelude.{◌≡◌, ◌≢◌, ◌<◌, ◌++◌, ◌&&◌, ◌⊎◌, [], ℕ, List, Option, None, Some, Err, false, codes, IfOk};
+ghost use Rattle.std.specs.Prelude.{◌≡◌, ◌≢◌, ◌<◌, ◌++◌, ◌&&◌, ◌⊎◌, [], ℕ, List, Option, None};
+ghost use Rattle.std.specs.Prelude.{Some, Err, false, codes, IfOk};
 ghost use Rattle.std.specs.Prelude.{OnOk, OnErr, IfErr};
 ghost use Rattle.std.specs.Str.{bytes_eq};
 ghost use Rattle.mq_stream.specs.Flow.{IsFlushed};
@@ -12,20 +13,21 @@ ghost use Rattle.std.specs.Option.{option_copied};
 ghost use Rattle.mq_client.specs.Past.{Step, Ask};
 ghost use Rattle.mq_client.specs.Holding.{times_out, full_by, full_in, noted_by};
 ghost use Rattle.mq_client.specs.Causes.{cause_of as cause_of_lem};
-ghost use Rattle.mq_client.specs.Filter.{is_login, is_moment, query_at, query, decision_of as decision_of_lem, Answers};
+ghost use Rattle.mq_client.specs.Filter.{is_login, is_moment, query_at, query};
+ghost use Rattle.mq_client.specs.Filter.{decision_of as decision_of_lem, Answers};
 ghost use Rattle.mq_client.specs.Run.{around};
 ghost use Rattle.mq_client.specs.Loop.{MakesOne, told_one, Does, Replies, IsCut};
 
 use crate::client::Client;
 use crate::fault::FilterFault;
-use crate::held::Asked;
+use crate::held::RecipientAnswer;
 use crate::holdup::Holdup;
 use crate::refusal::Cause;
 use log::Log;
 use mq_line::{Decision, write_result};
 use mq_link::Link;
 use mq_request::{is_login, is_moment};
-use mq_stream::{Failed, Sink, write_and_flush};
+use mq_stream::{DeviceFault, Sink, write_and_flush};
 use mq_track::{Standing, Tracker};
 use std::alloc::{AllocError, Global};
 
@@ -58,24 +60,25 @@ fn cause_of(login: &[u8]) -> Cause
 }
 
 fn is_recipient(subsystem: &[u8], phase: &[u8]) -> bool
-    ensures { result ≡ (bytes_eq subsystem.now (codes "smtp-in") && bytes_eq phase.now (codes "rcpt-to")) }
+    ensures { result ≡ (bytes_eq subsystem.now
+        (codes "smtp-in") && bytes_eq phase.now (codes "rcpt-to")) }
 {
     subsystem == b"smtp-in".as_slice() && phase == b"rcpt-to".as_slice()
 }
 
-fn decision_of(answer: Asked) -> Decision
+fn decision_of(answer: RecipientAnswer) -> Decision
     ensures { result ≡ decision_of_lem answer }
 {
     match answer {
-        Asked::Granted => Decision::Proceed,
-        Asked::Full => Decision::RejectLimit,
-        Asked::Unavailable => Decision::RejectService,
+        RecipientAnswer::Granted => Decision::Proceed,
+        RecipientAnswer::Full => Decision::RejectLimit,
+        RecipientAnswer::Unavailable => Decision::RejectService,
     }
 }
 
 /// How a request of smtpd is answered, and what came of it.
 #[derive(Clone, Copy)]
-struct Decided<'a> {
+struct Ruling<'a> {
     decision: Decision,
     /// No try decided, and one ran out of time.
     timed_out: bool,
@@ -84,12 +87,12 @@ struct Decided<'a> {
 }
 
 /// An answer that no request was made for.
-fn unasked<'a>(decision: Decision) -> Decided<'a>
+fn unasked<'a>(decision: Decision) -> Ruling<'a>
     ensures decision { result.decision ≡ decision }
     ensures timed_out { result.timed_out ≡ false }
     ensures full { option_copied result.full ≡ None }
 {
-    Decided {
+    Ruling {
         decision,
         timed_out: false,
         full: None,
@@ -97,11 +100,11 @@ fn unasked<'a>(decision: Decision) -> Decided<'a>
 }
 
 /// The login, where its limit is reached.
-fn full_login(answer: Asked, login: &[u8]) -> Option<&[u8]>
+fn full_login(answer: RecipientAnswer, login: &[u8]) -> Option<&[u8]>
     ensures { (txn moment : ℕ) → option_copied result ≡ full_by (Ask txn moment login.now) answer }
 {
     match answer {
-        Asked::Full => Some(login),
+        RecipientAnswer::Full => Some(login),
         _ => None,
     }
 }
@@ -115,7 +118,8 @@ fn note_held_back(client: &mut Client, decision: Decision)
     }
 }
 
-/// Asks for a recipient of the transaction that is open in the client's session, unless it is held back.
+/// Asks for a recipient of the transaction that is open in the client's session, unless it is held
+/// back.
 fn ask<'a, R: Log, K: Link>(
     rt: &R,
     login: &'a [u8],
@@ -124,9 +128,10 @@ fn ask<'a, R: Log, K: Link>(
     holdup: &Holdup,
     link: &mut K,
     client: &mut Client,
-) -> Result<Decided<'a>, AllocError>
+) -> Result<Ruling<'a>, AllocError>
     requires { 0 < txn }
-    ensures ok { IfOk result (λ d. (step : Option Step) × Tells (K.told link.old) (K.told link.new) (told_one step)
+    ensures ok { IfOk result (λ d. (step : Option Step)
+        × Tells (K.told link.old) (K.told link.new) (told_one step)
         × MakesOne client.old client.new step
         × Answers holdup.now.1 (query_at (Sending login.now txn moment)) step d.decision
         × (d.timed_out ≡ times_out step) × (option_copied d.full ≡ full_in step)) }
@@ -145,7 +150,7 @@ fn ask<'a, R: Log, K: Link>(
         None => {}
     }
     match client.reserve(rt, link, txn, moment, login) {
-        Ok(asking) => Ok(Decided {
+        Ok(asking) => Ok(Ruling {
             decision: decision_of(asking.asked),
             timed_out: asking.timed_out,
             full: full_login(asking.asked, login),
@@ -162,11 +167,13 @@ fn decide<'a, R: Log, K: Link>(
     holdup: &Holdup,
     link: &mut K,
     client: &mut Client,
-) -> Result<Decided<'a>, AllocError>
-    ensures ok { IfOk result (λ d. (step : Option Step) × Tells (K.told link.old) (K.told link.new) (told_one step)
+) -> Result<Ruling<'a>, AllocError>
+    ensures ok { IfOk result (λ d. (step : Option Step)
+        × Tells (K.told link.old) (K.told link.new) (told_one step)
         × MakesOne client.old client.new step
         × ((L : List Meaning) → TracksAt tracker.now L → Answers holdup.now.1
-        (query L inquiry.entry.subsystem.now inquiry.entry.phase.now inquiry.entry.session.now) step d.decision)
+        (query L inquiry.entry.subsystem.now inquiry.entry.phase.now inquiry.entry.session.now) step
+        d.decision)
         × (d.timed_out ≡ times_out step) × (option_copied d.full ≡ full_in step)) }
     ensures client { OnErr result (client.new ≡ client.old) }
     ensures link { OnErr result (link.new ≡ link.old) }
@@ -212,18 +219,25 @@ pub fn answer<R: Log, W: Sink, K: Link>(
         × Does (around (W.contents output.old) (K.told link.old) client.old)
         (around (W.contents output.new) (K.told link.new) client.new) step text
         × ((L : List Meaning) → TracksAt tracker.now L →
-        Replies holdup.old.1 L inquiry.entry.subsystem.now inquiry.entry.phase.now inquiry.entry.session.now
+        Replies holdup.old.1 L inquiry.entry.subsystem.now inquiry.entry.phase.now
+        inquiry.entry.session.now
         inquiry.entry.token.now step text)
-        × (holdup.new ≡ (holdup.old.0, noted_by holdup.old.0 (Some inquiry.entry.seconds) step holdup.old.1))) }
+        × (holdup.new ≡ (
+          holdup.old.0,
+          noted_by holdup.old.0
+              (Some inquiry.entry.seconds) step holdup.old.1,
+        ))) }
     ensures fault { IfErr result (λ f. IsCut f (W.has_failed output.new)) }
-    ensures works { W.has_failed output.old ≡ false → result ≢ Err FilterFault.Write → W.has_failed output.new ≡ false }
+    ensures works { W.has_failed output.old ≡ false → result ≢ Err FilterFault.Write
+        → W.has_failed output.new ≡ false }
     ensures flushed { IsFlushed (W.has_flushed output.old) → result ≢ Err FilterFault.Write →
         IsFlushed (W.has_flushed output.new) }
     ensures cut { OnErr result ((step : Option Step) × (front : List ℕ) × (rest : List ℕ)
         × Does (around (W.contents output.old) (K.told link.old) client.old)
         (around (W.contents output.new) (K.told link.new) client.new) step front
         × (((step ≡ None) × (front ++ rest ≡ [])) ⊎ ((L : List Meaning) → TracksAt tracker.now L →
-        Replies holdup.old.1 L inquiry.entry.subsystem.now inquiry.entry.phase.now inquiry.entry.session.now
+        Replies holdup.old.1 L inquiry.entry.subsystem.now inquiry.entry.phase.now
+        inquiry.entry.session.now
         inquiry.entry.token.now step (front ++ rest)))) }
 {
     let decided = match decide(rt, tracker, inquiry, holdup, link, client) {
@@ -238,6 +252,6 @@ pub fn answer<R: Log, W: Sink, K: Link>(
     };
     match write_and_flush(output, text.as_slice()) {
         Ok(()) => Ok(()),
-        Err(Failed) => Err(FilterFault::Write),
+        Err(DeviceFault) => Err(FilterFault::Write),
     }
 }

@@ -1,9 +1,11 @@
 //! Numbered requests, each sent again under its number until a reply decides it.
-ghost use Rattle.std.specs.Prelude.{◌≡◌, ◌≤◌, ◌<◌, ◌+◌, List, Option, [], length, None, true, false, IfOk, IsOk, OnOk, OnErr};
+ghost use Rattle.std.specs.Prelude.{◌≡◌, ◌≤◌, ◌<◌, ◌+◌, List, Option, [], length, None, true};
+ghost use Rattle.std.specs.Prelude.{false, IfOk, IsOk, OnOk, OnErr};
 ghost use Rattle.mq_request.specs.Range.{IsHost, IsRun, IsWithin, IsOrdinal, IsMoment, IsLogin};
 ghost use Rattle.mq_link.specs.Link.{Tells};
 ghost use Rattle.mq_client.specs.Exchanges.{Exchange, told_all};
-ghost use Rattle.mq_client.specs.Past.{Step, Ask, Close, Drain, StandsAt, Makes, view, answer_of, find};
+ghost use Rattle.mq_client.specs.Past.{Step, Ask, Close, Drain, StandsAt, Makes, view, answer_of};
+ghost use Rattle.mq_client.specs.Past.{find};
 ghost use Rattle.mq_client.specs.Past.{refuses as refuses_lem, reserve_of, closing_of, answer_by};
 ghost use Rattle.mq_client.specs.Past.{tries_in as tries_in_lem};
 ghost use Rattle.mq_client.specs.Exchanges.{AreTries, has_timed_out};
@@ -11,13 +13,15 @@ ghost use Rattle.mq_client.specs.Held.{IsHeld};
 ghost use Rattle.mq_client.specs.Framed.{IsFramed};
 ghost use Rattle.mq_request.specs.declared.message.Reply.{Reply};
 
-use crate::held::{Asked, Asking, Held, answer_to, closing_request, reserve_request};
+use crate::held::{
+    HeldTransaction, RecipientAnswer, TimedAnswer, answer_to, closing_request, reserve_request,
+};
 use crate::journal::Journal;
-use crate::refusal::{Cause, RefusedRecipient, Warned};
-use crate::session::Session;
+use crate::refusal::{Cause, GivenWarnings, RefusedRecipient};
+use crate::session::SessionName;
 use crate::spans::Spans;
 use crate::transactions::Transactions;
-use crate::tries::{Framed, send_all, try_all};
+use crate::tries::{FramedRequest, send_all, try_all};
 use log::{Log, warn};
 use mq_link::Link;
 use mq_request::Host;
@@ -39,11 +43,11 @@ pub struct Client {
     spans: Spans,
     held: Transactions,
     numbers: u32,
-    outbox: VecDeque<Framed>,
-    warned: Warned,
+    outbox: VecDeque<FramedRequest>,
+    warned: GivenWarnings,
     journal: Journal,
     /// The session whose requests come next.
-    session: Session,
+    session: SessionName,
 }
 
 impl Model for Client {
@@ -67,7 +71,7 @@ fn framed_reserve(
     txn: u32,
     moment: u64,
     login: &[u8],
-) -> Result<Framed, AllocError>
+) -> Result<FramedRequest, AllocError>
     requires host { IsHost host.now }
     requires run { IsRun run }
     requires number { 1 ≤ number }
@@ -79,7 +83,7 @@ fn framed_reserve(
     ensures frame { IfOk result IsFramed }
 {
     let request = reserve_request(alloc, host, run, number, txn, moment, login)?;
-    Framed::new(alloc, request)
+    FramedRequest::new(alloc, request)
 }
 
 /// The request that closes a held transaction, with its frame.
@@ -89,18 +93,19 @@ fn framed_closing(
     run: u64,
     number: u32,
     closing: Closing,
-    known: &Held,
-) -> Result<Framed, AllocError>
+    known: &HeldTransaction,
+) -> Result<FramedRequest, AllocError>
     requires host { IsHost host.now }
     requires run { IsRun run }
     requires number { 1 ≤ number }
     requires held { IsHeld closing.txn known.now }
     ensures request { IfOk result (λ framed. framed.request
-        ≡ closing_of (record { host = host.now; run = run }) number closing.txn closing.end known.now) }
+        ≡ closing_of (record { host = host.now; run = run }) number closing.txn closing.end
+        known.now) }
     ensures frame { IfOk result IsFramed }
 {
     let request = closing_request(host, run, number, closing.txn, closing.end, known)?;
-    Framed::new(alloc, request)
+    FramedRequest::new(alloc, request)
 }
 
 /// How often each request is tried: in a pause none is.
@@ -115,10 +120,10 @@ fn ask<R: Log, L: Link>(
     rt: &R,
     alloc: Global,
     link: &mut L,
-    reserve: Framed,
+    reserve: FramedRequest,
     tries: u32,
     journal: &mut Journal,
-) -> Asking
+) -> TimedAnswer
     requires { IsFramed reserve }
     ensures { (group : List Exchange) × (decided : Option Reply)
         × Tells (L.told link.old) (L.told link.new) (told_all group)
@@ -126,7 +131,7 @@ fn ask<R: Log, L: Link>(
         × (result.timed_out ≡ has_timed_out group) }
 {
     let tried = try_all(rt, alloc, link, &reserve, tries, journal);
-    Asking {
+    TimedAnswer {
         asked: answer_to(tried.verdict()),
         timed_out: tried.has_timed_out(),
     }
@@ -134,14 +139,15 @@ fn ask<R: Log, L: Link>(
 
 impl Client {
     /// A client of that host and run, with no transaction and no number used, that sends each
-    /// request at most `tries` times. `run` is 1 to 281,474,976,710,655, and `tries` 1 to 10. An `Err` says that
-    /// there was no memory for the host's name.
+    /// request at most `tries` times. `run` is 1 to 281,474,976,710,655, and `tries` 1 to 10. An
+    /// `Err` says that there was no memory for the host's name.
     pub fn new(alloc: Global, host: &Host, run: u64, tries: u32) -> Result<Client, AllocError>
         requires host { IsHost host.now }
         requires run { IsRun run }
         requires tries { IsWithin 1 10 tries }
         ensures past { IfOk result (λ client. StandsAt client []) }
-        ensures source { IfOk result (λ client. client.source ≡ record { host = host.now; run = run }) }
+        ensures source { IfOk result (λ client. client.source
+            ≡ record { host = host.now; run = run }) }
         ensures tries { IfOk result (λ client. client.tries ≡ tries) }
         ensures spans { IfOk result (λ client. client.spans ≡ record { pause = 0; hold = 0 }) }
     {
@@ -154,9 +160,9 @@ impl Client {
             held: Transactions::new(alloc),
             numbers: 0,
             outbox: VecDeque::new(alloc),
-            warned: Warned::new(alloc),
+            warned: GivenWarnings::new(alloc),
             journal: Journal::new(alloc),
-            session: Session::none(),
+            session: SessionName::none(),
         })
     }
 
@@ -181,14 +187,16 @@ impl Client {
 
     /// How many transactions are live.
     pub fn held_count(&self) -> usize
-        ensures { (P : List Step) → StandsAt self.now P → result ≡ length (view self.now.source P).live }
+        ensures { (P : List Step) → StandsAt self.now P
+            → result ≡ length (view self.now.source P).live }
     {
         self.held.len()
     }
 
     /// How many closings wait.
     pub fn outbox_count(&self) -> usize
-        ensures { (P : List Step) → StandsAt self.now P → result ≡ length (view self.now.source P).waiting }
+        ensures { (P : List Step) → StandsAt self.now P
+            → result ≡ length (view self.now.source P).waiting }
     {
         self.outbox.len()
     }
@@ -197,16 +205,16 @@ impl Client {
     pub fn set_session(&mut self, session: &[u8])
         ensures { self.new ≡ self.old }
     {
-        self.session = Session::of(session);
+        self.session = SessionName::of(session);
     }
 
-    /// Asks whether a recipient of a transaction may go through. `txn` is 1 to 4,294,967,295, `moment` is
-    /// 86,400 to 32,503,680,000 and `login` has 1 to 255 bytes.
+    /// Asks whether a recipient of a transaction may go through. `txn` is 1 to 4,294,967,295,
+    /// `moment` is 86,400 to 32,503,680,000 and `login` has 1 to 255 bytes.
     ///
-    /// It is `Unavailable` with no exchange, and a warning of the cause, where the transaction is held with another login or
-    /// moment, or has let 1,000 recipients through; where it isn't held and held transactions and
-    /// waiting closings are 4,096; and where a number would be lacking for it or for a later closing.
-    /// After an `Err` nothing has changed and no exchange was made.
+    /// It is `Unavailable` with no exchange, and a warning of the cause, where the transaction is
+    /// held with another login or moment, or has let 1,000 recipients through; where it isn't held
+    /// and held transactions and waiting closings are 4,096; and where a number would be lacking
+    /// for it or for a later closing. After an `Err` nothing has changed and no exchange was made.
     pub fn reserve<R: Log, L: Link>(
         &mut self,
         rt: &R,
@@ -214,7 +222,7 @@ impl Client {
         txn: u32,
         moment: u64,
         login: &[u8],
-    ) -> Result<Asking, AllocError>
+    ) -> Result<TimedAnswer, AllocError>
         requires txn { IsOrdinal txn }
         requires moment { IsMoment moment }
         requires login { IsLogin login.now }
@@ -227,7 +235,8 @@ impl Client {
             }) × (asking.timed_out ≡ has_timed_out group)) }
         // Memory is asked for only where the server is.
         ensures refused { refuses_lem (find self.old.held txn)
-            (length self.old.held) self.old.numbers (length self.old.waiting) moment login.now ≡ true → IsOk result }
+            (length self.old.held) self.old.numbers (length self.old.waiting) moment login.now
+            ≡ true → IsOk result }
         ensures client { OnErr result (self.new ≡ self.old) }
         ensures link { OnErr result (link.new ≡ link.old) }
     {
@@ -237,8 +246,8 @@ impl Client {
             .refusal(self.numbers, closings, txn, moment, login)
         {
             self.warn_refused(rt, login, cause);
-            return Ok(Asking {
-                asked: Asked::Unavailable,
+            return Ok(TimedAnswer {
+                asked: RecipientAnswer::Unavailable,
                 timed_out: false,
             });
         }
@@ -259,7 +268,8 @@ impl Client {
         Ok(asking)
     }
 
-    /// Warns that recipients of the session are refused without asking the server, once for each cause.
+    /// Warns that recipients of the session are refused without asking the server, once for each
+    /// cause.
     pub fn warn_refused<R: Log>(&mut self, rt: &R, login: &[u8], cause: Cause)
         ensures { self.new ≡ self.old }
     {
@@ -281,9 +291,9 @@ impl Client {
         self.journal.count_held_back();
     }
 
-    /// Closes a transaction and sends what waits, in a pause nothing; one that isn't held changes and sends nothing. It
-    /// answers whether a request was left undecided of which a try ran out of time. After an `Err` nothing has changed and
-    /// no exchange was made.
+    /// Closes a transaction and sends what waits, in a pause nothing; one that isn't held changes
+    /// and sends nothing. It answers whether a request was left undecided of which a try ran out of
+    /// time. After an `Err` nothing has changed and no exchange was made.
     pub fn close<R: Log, L: Link>(
         &mut self,
         rt: &R,
@@ -292,7 +302,8 @@ impl Client {
         paused: bool,
     ) -> Result<bool, AllocError>
         ensures ok { IfOk result (λ timed_out. (group : List Exchange)
-            × Tells (L.told link.old) (L.told link.new) (told_all group) × Makes self.old self.new (record {
+            × Tells (L.told link.old) (L.told link.new) (told_all group)
+            × Makes self.old self.new (record {
               action = Close closing.txn closing.end;
               group = group;
               quiet = paused;
@@ -321,9 +332,11 @@ impl Client {
 
     /// Sends the closings that wait, and answers how many are left.
     pub fn drain<R: Log, L: Link>(&mut self, rt: &R, link: &mut L) -> u32
-        ensures step { (group : List Exchange) × Tells (L.told link.old) (L.told link.new) (told_all group)
+        ensures step { (group : List Exchange) × Tells (L.told link.old) (L.told link.new)
+            (told_all group)
             × Makes self.old self.new (record { action = Drain; group = group; quiet = false }) }
-        ensures left { (P : List Step) → StandsAt self.new P → result ≡ length (view self.new.source P).waiting }
+        ensures left { (P : List Step) → StandsAt self.new P
+            → result ≡ length (view self.new.source P).waiting }
     {
         let (tries, journal) = (self.tries, &mut self.journal);
         let _ = send_all(rt, self.alloc, link, &mut self.outbox, tries, journal);

@@ -1,5 +1,6 @@
 //! The filter: what smtpd writes is read, and each of its requests is answered.
-ghost use Rattle.std.specs.Prelude.{◌≡◌, ◌≢◌, ◌≤◌, ◌<◌, ◌+◌, ◌*◌, ◌^◌, ◌++◌, ◌∷◌, [], ℕ, List, Option, Bool, None};
+ghost use Rattle.std.specs.Prelude.{◌≡◌, ◌≢◌, ◌≤◌, ◌<◌, ◌+◌, ◌*◌, ◌^◌, ◌++◌, ◌∷◌, [], ℕ, List};
+ghost use Rattle.std.specs.Prelude.{Option, Bool, None};
 ghost use Rattle.std.specs.Prelude.{Some, true, false, length, is_some, IfOk, OnOk, OnErr, IfErr};
 ghost use Rattle.std.specs.List.{concat};
 ghost use Rattle.std.specs.Io.KnownBytes.{Appends, IsAtEnd};
@@ -13,9 +14,10 @@ ghost use Rattle.mq_link.specs.Link.{Tells};
 ghost use Rattle.mq_client.specs.Past.{Step, State};
 ghost use Rattle.mq_client.specs.Filter.{Closes, after_line};
 ghost use Rattle.mq_client.specs.Holding.{nothing_held, seconds_in, times_out, full_in};
-ghost use Rattle.mq_link.specs.declared.link.Told.{Told};
+ghost use Rattle.mq_link.specs.declared.link.ReportedExchange.{ReportedExchange};
 ghost use Rattle.mq_client.specs.Run.{Outside, around, supply, Supplies, EndsWith, StopsAt};
-ghost use Rattle.mq_client.specs.Loop.{MakesOne, told_one, IsCut, IsSorted, IsRefused, filter_fault, Carries, Halts};
+ghost use Rattle.mq_client.specs.Loop.{MakesOne, told_one, IsCut, IsSorted, IsRefused};
+ghost use Rattle.mq_client.specs.Loop.{filter_fault, Carries, Halts};
 ghost use Rattle.mq_client.specs.Loop.{CarriesHeld, HaltsHeld, SinkWorks, SoFar};
 
 use crate::answer::{Inquiry, answer};
@@ -25,7 +27,7 @@ use crate::holdup::Holdup;
 use log::{Log, warn};
 use mq_line::{Line, LineFeed, read_line, write_registration};
 use mq_link::Link;
-use mq_stream::{Failed, Sink, Source, write_and_flush};
+use mq_stream::{DeviceFault, Sink, Source, write_and_flush};
 use mq_track::{Closing, TrackFault, Tracker};
 use std::alloc::{AllocError, Global};
 
@@ -37,7 +39,7 @@ const READS: u64 = 1_099_511_627_776;
 
 /// How a run of the filter ended.
 #[derive(Clone, Copy, Debug, PartialEq, Eq)]
-pub struct Ended {
+pub struct RunEnd {
     /// How many requests of smtpd were answered.
     pub answers: u64,
     /// How many closings wait still.
@@ -66,13 +68,16 @@ fn registration(alloc: Global) -> Result<Vec<u8>, AllocError>
 
 /// Writes the registration.
 fn register<W: Sink>(alloc: Global, output: &mut W) -> Result<(), FilterFault>
-    ensures ok { OnOk result (Appends (W.contents output.old) (W.contents output.new) registration_lem) }
+    ensures ok { OnOk result (Appends (W.contents output.old)
+        (W.contents output.new) registration_lem) }
     ensures written { OnOk result (W.has_failed output.new ≡ false) }
     ensures fault { IfErr result (λ f. IsCut f (W.has_failed output.new)) }
-    ensures works { W.has_failed output.old ≡ false → result ≢ Err FilterFault.Write → W.has_failed output.new ≡ false }
+    ensures works { W.has_failed output.old ≡ false → result ≢ Err FilterFault.Write
+        → W.has_failed output.new ≡ false }
     ensures flushed { IsFlushed (W.has_flushed output.old) → result ≢ Err FilterFault.Write →
         IsFlushed (W.has_flushed output.new) }
-    ensures cut { OnErr result ((front : List ℕ) × (rest : List ℕ) × (registration_lem ≡ front ++ rest)
+    ensures cut { OnErr result ((front : List ℕ) × (rest : List ℕ)
+        × (registration_lem ≡ front ++ rest)
         × Appends (W.contents output.old) (W.contents output.new) front) }
 {
     let Ok(text) = registration(alloc) else {
@@ -80,7 +85,7 @@ fn register<W: Sink>(alloc: Global, output: &mut W) -> Result<(), FilterFault>
     };
     match write_and_flush(output, text.as_slice()) {
         Ok(()) => Ok(()),
-        Err(Failed) => Err(FilterFault::Write),
+        Err(DeviceFault) => Err(FilterFault::Write),
     }
 }
 
@@ -142,7 +147,8 @@ fn close<R: Log, K: Link>(
 ) -> Result<bool, FilterFault>
     ensures ok { IfOk result (λ timed_out. (step : Option Step)
         × Tells (K.told link.old) (K.told link.new) (told_one step)
-        × MakesOne client.old client.new step × Closes paused closing step × (timed_out ≡ times_out step)
+        × MakesOne client.old client.new step × Closes paused closing step
+        × (timed_out ≡ times_out step)
         × (full_in step ≡ None)) }
     ensures memory { OnErr result ((result ≡ Err FilterFault.Memory) × (is_some closing ≡ true)) }
     ensures client { OnErr result (client.new ≡ client.old) }
@@ -169,13 +175,19 @@ fn note<R: Log, K: Link>(
     link: &mut K,
     client: &mut Client,
 ) -> Result<(), FilterFault>
-    ensures ok { OnOk result ((step : Option Step) × Tells (K.told link.old) (K.told link.new) (told_one step)
+    ensures ok { OnOk result ((step : Option Step) × Tells (K.told link.old) (K.told link.new)
+        (told_one step)
         × MakesOne client.old client.new step
         × ((L : List Meaning) → TracksAt tracker.old L → (fault_lem L (meaning line.now) ≡ None)
         × Closes (is_some holdup.old.1.paused) (closing_lem L (meaning line.now)) step
         × TracksAt tracker.new (meaning line.now ∷ L))
-        × (holdup.new ≡ (holdup.old.0, after_line holdup.old.0 (meaning line.now) step holdup.old.1))) }
-    ensures fault { IfErr result (λ f. (L : List Meaning) → TracksAt tracker.old L → IsRefused f L (meaning line.now)) }
+        × (holdup.new ≡ (
+          holdup.old.0,
+          after_line holdup.old.0
+              (meaning line.now) step holdup.old.1,
+        ))) }
+    ensures fault { IfErr result (λ f. (L : List Meaning) → TracksAt tracker.old L
+        → IsRefused f L (meaning line.now)) }
     ensures client { OnErr result (client.new ≡ client.old) }
     ensures link { OnErr result (link.new ≡ link.old) }
 {
@@ -202,15 +214,17 @@ fn before_ready<W: Sink>(
     output: &mut W,
 ) -> Result<(), FilterFault>
     requires { filter.old.is_ready ≡ false }
-    ensures ok { OnOk result ((told : Option (List Told)) (client : State) →
-        Carries (meaning line.now) filter.old filter.new (around (W.contents output.old) told client)
+    ensures ok { OnOk result ((told : Option (List ReportedExchange)) (client : State) →
+        Carries (meaning line.now) filter.old filter.new
+        (around (W.contents output.old) told client)
         (around (W.contents output.new) told client)) }
     ensures count { OnOk result (filter.new.answers ≡ filter.old.answers) }
     ensures written { OnOk result (SinkWorks filter.new (W.has_failed output.new)) }
-    ensures works { W.has_failed output.old ≡ false → result ≢ Err FilterFault.Write → W.has_failed output.new ≡ false }
+    ensures works { W.has_failed output.old ≡ false → result ≢ Err FilterFault.Write
+        → W.has_failed output.new ≡ false }
     ensures flushed { IsFlushed (W.has_flushed output.old) → result ≢ Err FilterFault.Write →
         IsFlushed (W.has_flushed output.new) }
-    ensures fault { IfErr result (λ f. (told : Option (List Told)) (client : State) →
+    ensures fault { IfErr result (λ f. (told : Option (List ReportedExchange)) (client : State) →
         Halts (meaning line.now) f filter.old (around (W.contents output.old) told client)
         (around (W.contents output.new) told client) (W.has_failed output.new)) }
 {
@@ -243,7 +257,8 @@ fn after_ready<R: Log, W: Sink, K: Link>(
         (around (W.contents output.old) (K.told link.old) client.old)
         (around (W.contents output.new) (K.told link.new) client.new)) }
     ensures count { OnOk result (filter.new.answers ≤ filter.old.answers + 1) }
-    ensures works { W.has_failed output.old ≡ false → result ≢ Err FilterFault.Write → W.has_failed output.new ≡ false }
+    ensures works { W.has_failed output.old ≡ false → result ≢ Err FilterFault.Write
+        → W.has_failed output.new ≡ false }
     ensures flushed { IsFlushed (W.has_flushed output.old) → result ≢ Err FilterFault.Write →
         IsFlushed (W.has_flushed output.new) }
     ensures fault { IfErr result (λ f. Halts (meaning line.now) f filter.old
@@ -311,11 +326,13 @@ fn handle<R: Log, W: Sink, K: Link>(
     ensures count { OnOk result (filter.new.answers ≤ filter.old.answers + 1) }
     ensures written { OnOk result (SinkWorks filter.old (W.has_failed output.old) →
         SinkWorks filter.new (W.has_failed output.new)) }
-    ensures works { W.has_failed output.old ≡ false → result ≢ Err FilterFault.Write → W.has_failed output.new ≡ false }
+    ensures works { W.has_failed output.old ≡ false → result ≢ Err FilterFault.Write
+        → W.has_failed output.new ≡ false }
     ensures flushed { IsFlushed (W.has_flushed output.old) → result ≢ Err FilterFault.Write →
         IsFlushed (W.has_flushed output.new) }
     ensures fault { IfErr result (λ f. (rest : List ℕ) →
-        HaltsHeld (bytes.now ++ 10 ∷ rest) f filter.old (around (W.contents output.old) (K.told link.old) client.old)
+        HaltsHeld (bytes.now ++ 10 ∷ rest) f filter.old
+        (around (W.contents output.old) (K.told link.old) client.old)
         (around (W.contents output.new) (K.told link.new) client.new) (W.has_failed output.new)) }
 {
     let line = match read_line(bytes) {
@@ -354,7 +371,8 @@ fn take_lines<R: Log, W: Sink, K: Link>(
         (filter.new.answers + length feed.new.rest ≤ filter.old.answers + length feed.old.rest) }
     ensures written { OnOk result (SinkWorks filter.old (W.has_failed output.old) →
         SinkWorks filter.new (W.has_failed output.new)) }
-    ensures works { W.has_failed output.old ≡ false → result ≢ Err FilterFault.Write → W.has_failed output.new ≡ false }
+    ensures works { W.has_failed output.old ≡ false → result ≢ Err FilterFault.Write
+        → W.has_failed output.new ≡ false }
     ensures flushed { IsFlushed (W.has_flushed output.old) → result ≢ Err FilterFault.Write →
         IsFlushed (W.has_flushed output.new) }
     ensures fault { IfErr result (λ f. HaltsHeld feed.old.rest f filter.old
@@ -388,16 +406,19 @@ fn finish<R: Log, K: Link>(
     filter: &Filter,
     link: &mut K,
     client: &mut Client,
-) -> Result<Ended, FilterFault>
+) -> Result<RunEnd, FilterFault>
     requires { IsLine feed.now.rest }
     ensures ok { IfOk result (λ e. (o : Outside) (bytes : List ℕ) (sink : Option (List ℕ)) →
         SoFar o bytes feed.now.rest filter.now (around sink (K.told link.old) client.old) →
         EndsWith o bytes (around sink (K.told link.new) client.new) e) }
     ensures ready { OnOk result (filter.now.is_ready ≡ true) }
-    ensures fault { IfErr result (λ f. (o : Outside) (pieces : List (List ℕ)) (source sink : Option (List ℕ))
+    ensures fault { IfErr result (λ f. (o : Outside) (pieces : List (List ℕ))
+        (source sink : Option (List ℕ))
         (read_failed write_failed : Bool) →
-        IsAtEnd source → SoFar o (concat pieces) feed.now.rest filter.now (around sink (K.told link.old) client.old) →
-        StopsAt o pieces source (around sink (K.told link.new) client.new) read_failed write_failed f) }
+        IsAtEnd source → SoFar o (concat pieces) feed.now.rest filter.now
+        (around sink (K.told link.old) client.old) →
+        StopsAt o pieces source (around sink (K.told link.new) client.new) read_failed write_failed
+        f) }
 {
     match feed.finish() {
         Ok(()) => {}
@@ -409,7 +430,7 @@ fn finish<R: Log, K: Link>(
     // The last chance of what waits: no run after this one knows of it.
     let left = client.drain(rt, link);
     warn_left(rt, left);
-    Ok(Ended {
+    Ok(RunEnd {
         answers: filter.answers,
         left,
     })
@@ -425,7 +446,7 @@ fn read_all<R: Log, S: Source, W: Sink, K: Link>(
     output: &mut W,
     link: &mut K,
     client: &mut Client,
-) -> Result<Ended, FilterFault>
+) -> Result<RunEnd, FilterFault>
     requires empty { feed.old.rest ≡ [] }
     requires tracker { TracksAt filter.old.tracker [] }
     requires ready { filter.old.is_ready ≡ false }
@@ -440,7 +461,8 @@ fn read_all<R: Log, S: Source, W: Sink, K: Link>(
     ensures fault { IfErr result (λ f. (pieces : List (List ℕ))
         × Supplies (supply (S.remaining input.old) (S.reads input.old))
         (supply (S.remaining input.new) (S.reads input.new)) pieces
-        × StopsAt (around (W.contents output.old) (K.told link.old) client.old) pieces (S.remaining input.new)
+        × StopsAt (around (W.contents output.old) (K.told link.old) client.old) pieces
+        (S.remaining input.new)
         (around (W.contents output.new) (K.told link.new) client.new) (S.has_failed input.new)
         (W.has_failed output.new) f) }
     // A device that failed is always told.
@@ -457,7 +479,7 @@ fn read_all<R: Log, S: Source, W: Sink, K: Link>(
     for _read in 0..READS {
         let count = match input.read(&mut piece) {
             Ok(count) => count,
-            Err(Failed) => return Err(FilterFault::Read),
+            Err(DeviceFault) => return Err(FilterFault::Read),
         };
         if count == 0 {
             match finish(rt, feed, filter, link, client) {
@@ -477,15 +499,15 @@ fn read_all<R: Log, S: Source, W: Sink, K: Link>(
     Err(FilterFault::Read)
 }
 
-/// Reads what smtpd writes, answers each of its requests, and asks the quota server through `client`
-/// before a recipient is let through.
+/// Reads what smtpd writes, answers each of its requests, and asks the quota server through
+/// `client` before a recipient is let through.
 ///
-/// Lines are those of smtpd-filters(7), protocol 0.7. At `config|ready` the registration is written.
-/// Reads take at most 4,096 bytes, and every whole line is handled, its answer written and flushed,
-/// before the next read. At the end of the input what waits is sent once more. After
-/// 1,099,511,627,776 reads it answers `Read`. `Memory` comes where a read's bytes found no room, or at
-/// a line that asks for memory: `config|ready`, a request, a closing, or a report of a login or of a
-/// transaction that begins.
+/// Lines are those of smtpd-filters(7), protocol 0.7. At `config|ready` the registration is
+/// written. Reads take at most 4,096 bytes, and every whole line is handled, its answer written and
+/// flushed, before the next read. At the end of the input what waits is sent once more. After
+/// 1,099,511,627,776 reads it answers `Read`. `Memory` comes where a read's bytes found no room, or
+/// at a line that asks for memory: `config|ready`, a request, a closing, or a report of a login or
+/// of a transaction that begins.
 pub fn run_filter<R: Log, S: Source, W: Sink, K: Link>(
     rt: &R,
     alloc: Global,
@@ -493,7 +515,7 @@ pub fn run_filter<R: Log, S: Source, W: Sink, K: Link>(
     output: &mut W,
     link: &mut K,
     client: &mut Client,
-) -> Result<Ended, FilterFault>
+) -> Result<RunEnd, FilterFault>
     ensures ok { IfOk result (λ e. (pieces : List (List ℕ))
         × Supplies (supply (S.remaining input.old) (S.reads input.old))
         (supply (S.remaining input.new) (S.reads input.new)) pieces
@@ -503,7 +525,8 @@ pub fn run_filter<R: Log, S: Source, W: Sink, K: Link>(
     ensures fault { IfErr result (λ f. (pieces : List (List ℕ))
         × Supplies (supply (S.remaining input.old) (S.reads input.old))
         (supply (S.remaining input.new) (S.reads input.new)) pieces
-        × StopsAt (around (W.contents output.old) (K.told link.old) client.old) pieces (S.remaining input.new)
+        × StopsAt (around (W.contents output.old) (K.told link.old) client.old) pieces
+        (S.remaining input.new)
         (around (W.contents output.new) (K.told link.new) client.new) (S.has_failed input.new)
         (W.has_failed output.new) f) }
     // A device that failed is always told.

@@ -14,7 +14,7 @@ use std::alloc::{AllocError, Global};
 
 /// What a client knows of a live transaction.
 #[derive(Debug, Drop)]
-pub struct Held {
+pub struct HeldTransaction {
     /// Whose it is.
     pub login: Login,
     /// The moment of its beginning: seconds since 1970-01-01T00:00:00Z.
@@ -23,9 +23,9 @@ pub struct Held {
     pub granted: u32,
 }
 
-/// What came of asking for a recipient.
+/// What is answered of a recipient.
 #[derive(Clone, Copy, Debug, PartialEq, Eq)]
-pub enum Asked {
+pub enum RecipientAnswer {
     /// It may go through.
     Granted,
     /// The login's limit of the day is reached.
@@ -34,22 +34,22 @@ pub enum Asked {
     Unavailable,
 }
 
-/// What came of asking for a recipient, and whether it took too long.
+/// What is answered of a recipient, and whether asking took too long.
 #[derive(Clone, Copy, Debug, PartialEq, Eq)]
-pub struct Asking {
-    pub asked: Asked,
+pub struct TimedAnswer {
+    pub asked: RecipientAnswer,
     /// The server was asked, no try decided, and one of them ran out of time.
     pub timed_out: bool,
 }
 
 /// The answer to an ask, by what was decided about it.
-pub fn answer_to(verdict: Option<Verdict>) -> Asked
+pub fn answer_to(verdict: Option<Verdict>) -> RecipientAnswer
     ensures { (decided : Option Reply) → IsVerdict decided verdict → result ≡ answer_by decided }
 {
     match verdict {
-        Some(Verdict::Granted) => Asked::Granted,
-        Some(Verdict::Full { .. }) => Asked::Full,
-        _ => Asked::Unavailable,
+        Some(Verdict::Granted) => RecipientAnswer::Granted,
+        Some(Verdict::Full { .. }) => RecipientAnswer::Full,
+        _ => RecipientAnswer::Unavailable,
     }
 }
 
@@ -69,7 +69,8 @@ pub fn reserve_request(
     requires txn { IsOrdinal txn }
     requires moment { IsMoment moment }
     requires login { IsLogin login.now }
-    ensures request { IfOk result (λ q. q ≡ reserve_of (record { host = host.now; run = run }) number txn moment login.now) }
+    ensures request { IfOk result (λ q. q ≡ reserve_of (record { host = host.now; run = run })
+        number txn moment login.now) }
     ensures in_range { IfOk result IsRequest }
 {
     Ok(Request::Reserve {
@@ -86,7 +87,7 @@ pub fn reserve_request(
 }
 
 /// The request that closes a held transaction, by its number and a copy of its login.
-fn close_by(id: Id, txn: u32, end: CloseEnd, known: &Held, login: Login) -> Request
+fn close_by(id: Id, txn: u32, end: CloseEnd, known: &HeldTransaction, login: Login) -> Request
     ensures { let h = known.now in result ≡ (if is_commit end && nat_le 1 h.granted
         then Settle id txn h.moment login h.granted else Release id txn h.moment login) }
 {
@@ -117,13 +118,14 @@ pub fn closing_request(
     number: u32,
     txn: u32,
     end: CloseEnd,
-    known: &Held,
+    known: &HeldTransaction,
 ) -> Result<Request, AllocError>
     requires host { IsHost host.now }
     requires run { IsRun run }
     requires number { 1 ≤ number }
     requires held { IsHeld txn known.now }
-    ensures request { IfOk result (λ q. q ≡ closing_of (record { host = host.now; run = run }) number txn end known.now) }
+    ensures request { IfOk result (λ q. q ≡ closing_of (record { host = host.now; run = run })
+        number txn end known.now) }
     ensures in_range { IfOk result IsRequest }
 {
     let id = Id {

@@ -1,9 +1,11 @@
-//! What the filter holds back for a while, so that a server that is gone, or a login whose limit is reached, isn't
-//! asked again and again.
+//! What the filter holds back for a while, so that a server that is gone, or a login whose limit is
+//! reached, isn't asked again and again.
 ghost use Rattle.std.specs.Prelude.{◌≡◌, ◌≤◌, length, is_some, OnOk, OnErr, Option, None, Some};
 ghost use Rattle.std.specs.Option.{option_copied};
-ghost use Rattle.mq_client.specs.Holding.{nothing_held, still, still_by, is_over as is_over_lem, still_paused as still_paused_lem};
-ghost use Rattle.mq_client.specs.Holding.{is_full as is_full_lem, held_back as held_back_lem, noted, with_full};
+ghost use Rattle.mq_client.specs.Holding.{nothing_held, still, still_by, is_over as is_over_lem};
+ghost use Rattle.mq_client.specs.Holding.{still_paused as still_paused_lem};
+ghost use Rattle.mq_client.specs.Holding.{is_full as is_full_lem, held_back as held_back_lem};
+ghost use Rattle.mq_client.specs.Holding.{noted, with_full};
 
 use crate::spans::Spans;
 use mq_line::Decision;
@@ -83,7 +85,8 @@ impl Holdup {
         }
     }
 
-    /// A line comes, of this second where it has one: what was held back long enough is held back no longer.
+    /// A line comes, of this second where it has one: what was held back long enough is held back
+    /// no longer.
     pub fn pass(&mut self, seconds: Option<u64>)
         ensures { self.new ≡ (self.old.0, still_by self.old.0 seconds self.old.1) }
     {
@@ -132,8 +135,9 @@ impl Holdup {
         }
     }
 
-    /// Notes what came of a request of smtpd in a line of this second: whether it ran out of time, and the login
-    /// that was answered by the limit. An `Err` says that there was no memory for the login.
+    /// Notes what came of a request of smtpd in a line of this second: whether it ran out of time,
+    /// and the login that was answered by the limit. An `Err` says that there was no memory for the
+    /// login.
     pub fn note_answer(
         &mut self,
         seconds: u64,

@@ -2,17 +2,17 @@
 
 use crate::moves::Moves;
 use crate::pauses::Pauses;
-use crate::reached::Reached;
-use crate::tries::{Framed, report};
+use crate::reached::LoggedLimits;
+use crate::tries::{FramedRequest, report};
 use crate::verdict::Verdict;
-use crate::warnings::{Refused, Unanswered, is_refusal};
+use crate::warnings::{RefusedRequest, UnansweredRequest, is_refusal};
 use log::{Level, Log};
 use std::alloc::Global;
 
 /// What the log has of a client's requests, so that what lasts or comes again is warned of once.
 #[derive(Drop)]
 pub struct Journal {
-    reached: Reached,
+    reached: LoggedLimits,
     moves: Moves,
     pauses: Pauses,
 }
@@ -21,29 +21,30 @@ impl Journal {
     /// The log has nothing so far.
     pub fn new(alloc: Global) -> Journal {
         Journal {
-            reached: Reached::new(alloc),
+            reached: LoggedLimits::new(alloc),
             moves: Moves::new(),
             pauses: Pauses::new(),
         }
     }
 
     /// Reports what a reply decided about a request, where the log has a line for it.
-    pub fn note_decided<R: Log>(&mut self, rt: &R, framed: &Framed, verdict: Verdict) {
+    pub fn note_decided<R: Log>(&mut self, rt: &R, framed: &FramedRequest, verdict: Verdict) {
         self.pauses.end(rt);
         self.moves.see(&framed.request);
         self.reached.report(rt, framed, verdict);
         if is_refusal(verdict) {
             let level = self.moves.level(&framed.request, verdict);
-            report(rt, level, &Refused { framed, verdict });
+            report(rt, level, &RefusedRequest { framed, verdict });
         }
     }
 
-    /// Reports a request that no reply decided in so many tries: by a warning where the server answered, since the link
-    /// logs it else. One that was tried no time is held back, and has no line.
+    /// Reports a request that no reply decided in so many tries: by a warning where the server
+    /// answered, since the link logs it else. One that was tried no time is held back, and has no
+    /// line.
     pub fn note_undecided<R: Log>(
         &mut self,
         rt: &R,
-        framed: &Framed,
+        framed: &FramedRequest,
         tries: u32,
         is_answered: bool,
     ) {
@@ -55,7 +56,7 @@ impl Journal {
         } else {
             Level::Info
         };
-        let unanswered = Unanswered {
+        let unanswered = UnansweredRequest {
             framed,
             tries,
             is_answered,
@@ -63,7 +64,8 @@ impl Journal {
         report(rt, level, &unanswered);
     }
 
-    /// Reports that a pause of so many seconds begins, where a try ran out of time and there are pauses.
+    /// Reports that a pause of so many seconds begins, where a try ran out of time and there are
+    /// pauses.
     pub fn note_pause<R: Log>(&mut self, rt: &R, timed_out: bool, seconds: u64) {
         if timed_out && seconds > 0 {
             self.pauses.begin(rt, seconds);

@@ -1,16 +1,17 @@
-//! The client of the quota server: numbered requests, each sent again unchanged until a reply decides it, and the
-//! filter's loop, which asks before a recipient is let through.
+//! The client of the quota server: numbered requests, each sent again unchanged until a reply
+//! decides it, and the filter's loop, which asks before a recipient is let through.
 //!
-//! A [`Client`] is one run's: `reserve` asks for a recipient, `close` ends a transaction, `drain` sends what waits.
-//! [`run_filter`] reads smtpd's lines and answers them by it. From `mq_remote/src/subcommands/filter.rt`:
+//! A [`Client`] is one run's: `reserve` asks for a recipient, `close` ends a transaction, `drain`
+//! sends what waits. [`run_filter`] reads smtpd's lines and answers them by it. From
+//! `mq_remote/src/subcommands/filter.rt`:
 //!
 //!     match run_filter(log, rt.alloc(), &mut input, &mut output, link, client) {
 //!         Ok(_) => Ok(0),
 //!
-//! It stands on `mq_line`, `mq_track`, `mq_request`, `mq_stream`, `mq_frame` and `mq_link`: it knows lines, sessions,
-//! requests and any link, and nothing of a ledger or of TCP. Begin with `specs/Past.antt`, what a client did and what
-//! stands after it, then `client.rt`, `tries.rt`, where a request is sent again, and `filter.rt`. docs/CLIENT.md has
-//! the rules.
+//! It stands on `mq_line`, `mq_track`, `mq_request`, `mq_stream`, `mq_frame` and `mq_link`: it
+//! knows lines, sessions, requests and any link, and nothing of a ledger or of TCP. Begin with
+//! `specs/Past.antt`, what a client did and what stands after it, then `client.rt`, `tries.rt`,
+//! where a request is sent again, and `filter.rt`. docs/CLIENT.md has the rules.
 #![tactic(auto)]
 
 mod answer;
@@ -35,8 +36,8 @@ mod warnings;
 
 pub use client::Client;
 pub use fault::FilterFault;
-pub use filter::{Ended, run_filter};
-pub use held::{Asked, Asking, Held};
+pub use filter::{RunEnd, run_filter};
+pub use held::{HeldTransaction, RecipientAnswer, TimedAnswer};
 pub use laws::{
     closed_is_not_asked_for, few_at_a_time, in_turn, one_request_for_a_number, one_run, readings,
     settles_are_of_what_was_let, when_pauses_begin, without_spans,

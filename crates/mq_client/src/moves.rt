@@ -1,11 +1,13 @@
-//! Which refused settles may come of a move of the server's address, so that the log has one warning for each move.
+//! Which refused settles may come of a move of the server's address, so that the log has one
+//! warning for each move.
 
 use crate::verdict::Verdict;
 use log::Level;
 use mq_request::Request;
 
-/// A server that the address moved to doesn't know the transactions that were open, and refuses to settle them. smtpd's
-/// transactions are numbered as they begin: once one is warned of, those begun before that warning are of the same move.
+/// A server that the address moved to doesn't know the transactions that were open, and refuses to
+/// settle them. smtpd's transactions are numbered as they begin: once one is warned of, those begun
+/// before that warning are of the same move.
 #[derive(Drop)]
 pub struct Moves {
     /// The newest transaction that was asked for.

@@ -2,8 +2,9 @@
 
 use log::{Log, info, warn};
 
-/// What the log has of the pauses since the server last answered: one warning where the first begins, and one where an
-/// answer comes again. Further pauses of the same outage are logged at level `info`.
+/// What the log has of the pauses since the server last answered: one warning where the first
+/// begins, and one where an answer comes again. Further pauses of the same outage are logged at
+/// level `info`.
 #[derive(Drop)]
 pub struct Pauses {
     is_logged: bool,

@@ -1,8 +1,10 @@
-//! Of which logins the log has that the limit of a day is reached, so that it has one warning for each.
-ghost use Rattle.std.specs.Prelude.{◌≡◌, ◌<◌, ◌≤◌, ◌++◌, ◌∷◌, [], not, length, true, false, OnOk, OnErr};
+//! Of which logins the log has that the limit of a day is reached, so that it has one warning for
+//! each.
+ghost use Rattle.std.specs.Prelude.{◌≡◌, ◌<◌, ◌≤◌, ◌++◌, ◌∷◌, [], not, length, true, false, OnOk};
+ghost use Rattle.std.specs.Prelude.{OnErr};
 ghost use Rattle.mq_client.specs.Reached.{is_noted as is_noted_lem, Notes};
 
-use crate::tries::{Framed, report};
+use crate::tries::{FramedRequest, report};
 use crate::verdict::Verdict;
 use crate::warnings::LimitReached;
 use log::{Level, Log};
@@ -17,14 +19,14 @@ const SECONDS_OF_A_DAY: u64 = 86_400;
 
 /// A login with a day on which its limit was reached.
 #[derive(Drop)]
-pub struct Noted {
+pub struct LoggedLimit {
     /// The UTC day, counted from 1970-01-01.
     pub day: u64,
     pub login: Login,
 }
 
 /// Whether a login is noted for a day.
-fn is_noted(day: u64, login: &[u8], noted: &[Noted]) -> bool
+fn is_noted(day: u64, login: &[u8], noted: &[LoggedLimit]) -> bool
     ensures { result ≡ is_noted_lem day login.now noted.now }
 {
     noted
@@ -34,33 +36,34 @@ fn is_noted(day: u64, login: &[u8], noted: &[Noted]) -> bool
 
 /// The logins whose limit of a day was logged: 2,000 at most, and then they are forgotten.
 #[derive(Drop)]
-pub struct Reached {
+pub struct LoggedLimits {
     alloc: Global,
-    noted: Vec<Noted>,
+    noted: Vec<LoggedLimit>,
     ghost few: { length noted.items ≤ 2000 },
 }
 
-impl Model for Reached {
+impl Model for LoggedLimits {
     ghost use Rattle.std.specs.Prelude.{List};
-    ghost use Rattle.mq_client.specs.declared.reached.Noted.{Noted};
+    ghost use Rattle.mq_client.specs.declared.reached.LoggedLimit.{LoggedLimit};
 
-    ghost Value = { List Noted };
+    ghost Value = { List LoggedLimit };
 
     ghost view = { λ reached. reached.noted.items };
 }
 
-impl Reached {
+impl LoggedLimits {
     /// None so far.
-    pub fn new(alloc: Global) -> Reached
+    pub fn new(alloc: Global) -> LoggedLimits
         ensures { result ≡ [] }
     {
-        Reached {
+        LoggedLimits {
             alloc,
             noted: Vec::new(alloc),
         }
     }
 
-    /// Whether this login wasn't noted for this day before; it is from now on, if memory is left for it.
+    /// Whether this login wasn't noted for this day before; it is from now on, if memory is left
+    /// for it.
     pub fn is_first(&mut self, day: u64, login: &[u8]) -> bool
         ensures first { result ≡ not (is_noted_lem day login.now self.old) }
         ensures again { result ≡ false → self.new ≡ self.old }
@@ -80,17 +83,18 @@ impl Reached {
     /// Notes a login for a day. An `Err` changes nothing.
     fn note(&mut self, day: u64, login: &[u8]) -> Result<(), AllocError>
         requires { length self.old < 2000 }
-        ensures noted { OnOk result (self.new ≡ self.old ++ record { day = day; login = login.now } ∷ []) }
+        ensures noted { OnOk result (self.new ≡ self.old ++ record { day = day; login = login.now }
+            ∷ []) }
         ensures err { OnErr result (self.new ≡ self.old) }
     {
         let login = Login::from_slice(self.alloc, login)?;
-        self.noted.push(Noted { day, login })?;
+        self.noted.push(LoggedLimit { day, login })?;
         Ok(())
     }
 
-    /// Reports where the server refused a recipient by the limit: the first of a login on a day by a warning. The day is
-    /// that of its transaction in UTC, since the server's isn't known here.
-    pub fn report<R: Log>(&mut self, rt: &R, reserve: &Framed, verdict: Verdict) {
+    /// Reports where the server refused a recipient by the limit: the first of a login on a day by
+    /// a warning. The day is that of its transaction in UTC, since the server's isn't known here.
+    pub fn report<R: Log>(&mut self, rt: &R, reserve: &FramedRequest, verdict: Verdict) {
         if let Verdict::Full { used, cap } = verdict {
             let level = self.level(&reserve.request);
             report(rt, level, &LimitReached { reserve, used, cap });

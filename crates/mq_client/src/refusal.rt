@@ -1,11 +1,14 @@
 //! Why the filter refuses a recipient by itself, and of which of these causes it has warned.
-ghost use Rattle.std.specs.Prelude.{◌≤◌, length};
+ghost use Rattle.std.specs.Prelude.{◌≡◌, ◌≤◌, [], length, true, false};
+ghost use Rattle.std.specs.List.{Contains};
+ghost use Rattle.mq_client.specs.Warned.{Remembers};
 
-use crate::session::Session;
-use mq_request::Escaped;
+use crate::session::SessionName;
+use mq_request::EscapedText;
 use std::alloc::Global;
 use std::collections::VecDeque;
 use std::fmt;
+use std::marker::Model;
 
 /// The most bytes of a login that a warning shows.
 const LONGEST: usize = 255;
@@ -49,15 +52,15 @@ impl fmt::Display for Cause {
 /// A recipient of a session that is refused.
 #[derive(Clone, Copy)]
 pub struct RefusedRecipient<'a> {
-    pub session: Session,
+    pub session: SessionName,
     pub login: &'a [u8],
     pub cause: Cause,
 }
 
 impl fmt::Display for RefusedRecipient<'_> {
     fn fmt<W: fmt::Write>(&self, f: &mut fmt::Formatter<W>) -> fmt::Result {
-        let session = Escaped(self.session.name());
-        let login = Escaped(shortened(self.login));
+        let session = EscapedText(self.session.name());
+        let login = EscapedText(shortened(self.login));
         let cause = self.cause;
         write!(
             f,
@@ -73,30 +76,51 @@ fn shortened(login: &[u8]) -> &[u8] {
 
 /// A warning that was given.
 #[derive(Clone, Copy, PartialEq, Eq, Drop)]
-struct Given {
-    session: Session,
-    cause: Cause,
+pub struct GivenWarning {
+    pub session: SessionName,
+    pub cause: Cause,
 }
 
-/// The latest warnings, so that each cause is warned of once in a session. Sessions whose names begin with the same 16
-/// bytes count as one, and after 64 other warnings a session is warned of again.
+/// The latest warnings, so that each cause is warned of once in a session. Sessions whose names
+/// begin with the same 16 bytes count as one, and after 64 other warnings a session is warned of
+/// again.
 #[derive(Drop)]
-pub struct Warned {
-    given: VecDeque<Given>,
+pub struct GivenWarnings {
+    given: VecDeque<GivenWarning>,
     ghost few: { length given.items ≤ 64 },
 }
 
-impl Warned {
+impl Model for GivenWarnings {
+    ghost use Rattle.std.specs.Prelude.{List};
+    ghost use Rattle.mq_client.specs.declared.refusal.GivenWarning.{GivenWarning};
+
+    ghost Value = { List GivenWarning };
+
+    ghost view = { λ warnings. warnings.given.items };
+}
+
+impl GivenWarnings {
     /// None was given so far.
-    pub fn new(alloc: Global) -> Warned {
-        Warned {
+    pub fn new(alloc: Global) -> GivenWarnings
+        ensures { result ≡ [] }
+    {
+        GivenWarnings {
             given: VecDeque::new(alloc),
         }
     }
 
-    /// Whether this is the first warning of the session for this cause; it is remembered, unless memory runs out.
-    pub fn is_first(&mut self, session: Session, cause: Cause) -> bool {
-        let warning = Given { session, cause };
+    /// Whether this is the first warning of the session for this cause; it is remembered, unless
+    /// memory runs out.
+    pub fn is_first(&mut self, session: SessionName, cause: Cause) -> bool
+        ensures first { result ≡ true
+            → Contains self.old (record { session = session; cause = cause }) → ⊥ }
+        ensures known { result ≡ false
+            → Contains self.old (record { session = session; cause = cause }) }
+        ensures again { result ≡ false → self.new ≡ self.old }
+        ensures given { result ≡ true
+            → Remembers self.old self.new (record { session = session; cause = cause }) }
+    {
+        let warning = GivenWarning { session, cause };
         if self.given.contains(&warning) {
             return false;
         }

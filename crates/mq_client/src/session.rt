@@ -1,6 +1,6 @@
 //! The session that a line of the log names.
 
-use mq_request::Escaped;
+use mq_request::EscapedText;
 use std::fmt;
 
 /// How many bytes of a session's name are kept. smtpd gives each a name of 16.
@@ -8,21 +8,21 @@ const NAME: usize = 16;
 
 /// The first bytes of a session's name, with bytes of 0 after a shorter one; or none.
 #[derive(Clone, Copy, PartialEq, Eq, Drop)]
-pub struct Session([u8; NAME]);
+pub struct SessionName([u8; NAME]);
 
-impl Session {
+impl SessionName {
     /// No session.
-    pub fn none() -> Session {
-        Session([0; NAME])
+    pub fn none() -> SessionName {
+        SessionName([0; NAME])
     }
 
     /// The session with this name, of which the first 16 bytes are kept.
-    pub fn of(name: &[u8]) -> Session {
+    pub fn of(name: &[u8]) -> SessionName {
         let mut kept = [0; NAME];
         for (place, byte) in kept.iter_mut().zip(name) {
             *place = *byte;
         }
-        Session(kept)
+        SessionName(kept)
     }
 
     /// The bytes before the first 0.
@@ -36,12 +36,12 @@ impl Session {
 }
 
 /// With a comma before it, where there is one.
-impl fmt::Display for Session {
+impl fmt::Display for SessionName {
     fn fmt<W: fmt::Write>(&self, f: &mut fmt::Formatter<W>) -> fmt::Result {
         let name = self.name();
         if name.is_empty() {
             return Ok(());
         }
-        write!(f, ", session {}", Escaped(name))
+        write!(f, ", session {}", EscapedText(name))
     }
 }

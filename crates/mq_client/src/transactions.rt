@@ -1,13 +1,15 @@
 //! The transactions that a client holds, and when a recipient is asked for.
-ghost use Rattle.std.specs.Prelude.{◌≡◌, ◌<◌, ◌^◌, [], ℕ, List, length, is_some, Option, Some, None};
+ghost use Rattle.std.specs.Prelude.{◌≡◌, ◌<◌, ◌^◌, [], ℕ, List, length, is_some, Option, Some};
+ghost use Rattle.std.specs.Prelude.{None};
 ghost use Rattle.std.specs.Prelude.{IfOk, OnOk, OnErr, IfSome, if◌then◌else◌, ◌==◌, ◌+◌, true};
 ghost use Rattle.std.specs.Option.{option_copied};
-ghost use Rattle.mq_client.specs.Past.{find, is_other as is_other_lem, refuses as refuses_lem, let_through};
+ghost use Rattle.mq_client.specs.Past.{find, is_other as is_other_lem, refuses as refuses_lem};
+ghost use Rattle.mq_client.specs.Past.{let_through};
 ghost use Rattle.mq_client.specs.Past.{opened as opened_lem};
 ghost use Rattle.mq_client.specs.Causes.{cause_by};
-ghost use Rattle.mq_client.specs.declared.held.Held.{Held as AnyHeld};
+ghost use Rattle.mq_client.specs.declared.held.HeldTransaction.{HeldTransaction as AnyHeldTransaction};
 
-use crate::held::{Asked, Held};
+use crate::held::{HeldTransaction, RecipientAnswer};
 use crate::refusal::Cause;
 use mq_request::Login;
 use std::alloc::{AllocError, Global};
@@ -24,30 +26,30 @@ const RECIPIENTS: u32 = 1000;
 #[derive(Drop)]
 pub struct Transactions {
     alloc: Global,
-    records: BTreeMap<u32, Held>,
+    records: BTreeMap<u32, HeldTransaction>,
 }
 
 impl Model for Transactions {
     ghost use Rattle.std.specs.Prelude.{List, ℕ};
-    ghost use Rattle.mq_client.specs.declared.held.Held.{Held as AnyHeld};
+    ghost use Rattle.mq_client.specs.declared.held.HeldTransaction.{HeldTransaction as AnyHeldTransaction};
 
-    ghost Value = { List (ℕ × AnyHeld) };
+    ghost Value = { List (ℕ × AnyHeldTransaction) };
 
     ghost view = { λ held. held.records.entries };
 }
 
 /// Whether a transaction is held with another login or moment.
-fn is_other(known: &Held, moment: u64, login: &[u8]) -> bool
+fn is_other(known: &HeldTransaction, moment: u64, login: &[u8]) -> bool
     ensures { result ≡ is_other_lem known.now moment login.now }
 {
     known.login.as_slice() != login || known.moment != moment
 }
 
 /// What is known of a transaction at its first request.
-fn opened(alloc: Global, moment: u64, login: &[u8]) -> Result<Held, AllocError>
+fn opened(alloc: Global, moment: u64, login: &[u8]) -> Result<HeldTransaction, AllocError>
     ensures { IfOk result (λ held. held ≡ opened_lem moment login.now None) }
 {
-    Ok(Held {
+    Ok(HeldTransaction {
         login: Login::from_slice(alloc, login)?,
         moment,
         granted: 0,
@@ -73,15 +75,15 @@ impl Transactions {
     }
 
     /// What is known of a transaction, where it is held.
-    pub fn get(&self, txn: u32) -> Option<&Held>
+    pub fn get(&self, txn: u32) -> Option<&HeldTransaction>
         ensures { option_copied result ≡ find self.now txn }
     {
         self.records.get(&txn)
     }
 
-    /// Why a recipient isn't asked for: its transaction is held with another login or moment, or has
-    /// let its last one through; or it isn't held and no place is left; or a number would be lacking for
-    /// this request or for the closing of a held transaction.
+    /// Why a recipient isn't asked for: its transaction is held with another login or moment, or
+    /// has let its last one through; or it isn't held and no place is left; or a number would be
+    /// lacking for this request or for the closing of a held transaction.
     pub fn refusal(
         &self,
         numbers: u32,
@@ -91,13 +93,16 @@ impl Transactions {
         login: &[u8],
     ) -> Option<Cause>
         requires { waiting < 2 ^ 32 }
-        ensures refuses { is_some result ≡ refuses_lem (find self.now txn) (length self.now) numbers waiting moment
+        ensures refuses { is_some result ≡ refuses_lem (find self.now txn)
+            (length self.now) numbers waiting moment
             login.now }
-        ensures cause { result ≡ cause_by (find self.now txn) (length self.now) numbers waiting moment login.now }
+        ensures cause { result ≡ cause_by (find self.now txn)
+            (length self.now) numbers waiting moment login.now }
     {
         let live = self.records.len();
         let unused = (u32::MAX - numbers) as usize;
-        // A number is kept for the closing of each live transaction, and of this one where it is new.
+        // A number is kept for the closing of each live transaction, and of this one where it is
+        // new.
         match self.records.get(&txn) {
             Some(known) => {
                 if is_other(known, moment, login) {
@@ -139,13 +144,13 @@ impl Transactions {
     }
 
     /// Counts a recipient that was let through.
-    pub fn count(&mut self, txn: u32, answer: Asked)
+    pub fn count(&mut self, txn: u32, answer: RecipientAnswer)
         requires { IfSome (find self.old txn) (λ h. h.granted < 1000) }
-        ensures find { (h : AnyHeld) → find self.old txn ≡ Some h → (t : ℕ) →
+        ensures find { (h : AnyHeldTransaction) → find self.old txn ≡ Some h → (t : ℕ) →
             find self.new t ≡ (if txn == t then Some (let_through answer h) else find self.old t) }
         ensures len { length self.new ≡ length self.old }
     {
-        if answer != Asked::Granted {
+        if answer != RecipientAnswer::Granted {
             return;
         }
         if let Some(known) = self.records.get_mut(&txn) {

@@ -1,19 +1,21 @@
 //! One request, sent up to so many times, and a queue of requests, sent from its front.
-ghost use Rattle.std.specs.Prelude.{◌≡◌, ◌<◌, ◌≤◌, ◌∷◌, ◌||◌, [], List, Option, None, false, length, IfOk};
+ghost use Rattle.std.specs.Prelude.{◌≡◌, ◌<◌, ◌≤◌, ◌∷◌, ◌||◌, [], List, Option, None, false};
+ghost use Rattle.std.specs.Prelude.{length, IfOk};
 ghost use Rattle.mq_request.specs.Range.{IsRequest};
 ghost use Rattle.std.specs.List.{AllByRecursion};
 ghost use Rattle.mq_link.specs.Link.{Tells};
-ghost use Rattle.mq_client.specs.Exchanges.{Exchange, IsTry, AreTries, IsSent, Sends, told_of, told_all};
+ghost use Rattle.mq_client.specs.Exchanges.{Exchange, IsTry, AreTries, IsSent, Sends, told_of};
+ghost use Rattle.mq_client.specs.Exchanges.{told_all};
 ghost use Rattle.mq_frame.specs.Spelling.{request_frame};
 ghost use Rattle.mq_client.specs.Exchanges.{ran_out, has_timed_out as has_timed_out_lem};
-ghost use Rattle.mq_link.specs.declared.link.Outcome.TheVariants.{Faulted};
+ghost use Rattle.mq_link.specs.declared.link.ExchangeOutcome.TheVariants.{Faulted};
 ghost use Rattle.mq_client.specs.Tried.{ComesOf, verdict_of, is_decided as is_decided_lem, is_late};
 ghost use Rattle.mq_request.specs.declared.message.Reply.{Reply};
-ghost use Rattle.mq_client.specs.declared.tries.Framed.{Framed as AnyFramed};
+ghost use Rattle.mq_client.specs.declared.tries.FramedRequest.{FramedRequest as AnyFramedRequest};
 ghost use Rattle.mq_client.specs.Framed.{IsFramed, requests_of};
 
 use crate::journal::Journal;
-use crate::session::Session;
+use crate::session::SessionName;
 use crate::verdict::{Verdict, is_other_reply, verdict_in};
 use log::{Level, Log, log};
 use mq_frame::encode_request;
@@ -23,12 +25,13 @@ use std::alloc::{AllocError, Global};
 use std::collections::VecDeque;
 use std::fmt::Display;
 
-/// A request with its frame, so that sending it asks for no memory, and with smtpd's session, for the log.
+/// A request with its frame, so that sending it asks for no memory, and with smtpd's session, for
+/// the log.
 #[derive(Drop)]
-pub struct Framed {
+pub struct FramedRequest {
     pub request: Request,
     pub frame: Vec<u8>,
-    pub session: Session,
+    pub session: SessionName,
 }
 
 /// The frame of a request.
@@ -41,18 +44,19 @@ fn frame_of(alloc: Global, request: &Request) -> Result<Vec<u8>, AllocError>
     Ok(frame)
 }
 
-impl Framed {
-    /// The request with its frame, of no session yet. An `Err` says that there was no memory for the frame.
-    pub fn new(alloc: Global, request: Request) -> Result<Framed, AllocError>
+impl FramedRequest {
+    /// The request with its frame, of no session yet. An `Err` says that there was no memory for
+    /// the frame.
+    pub fn new(alloc: Global, request: Request) -> Result<FramedRequest, AllocError>
         requires { IsRequest request }
         ensures request { IfOk result (λ framed. framed.request ≡ request) }
         ensures frame { IfOk result IsFramed }
     {
         match frame_of(alloc, &request) {
-            Ok(frame) => Ok(Framed {
+            Ok(frame) => Ok(FramedRequest {
                 request,
                 frame,
-                session: Session::none(),
+                session: SessionName::none(),
             }),
             Err(refused) => Err(refused),
         }
@@ -66,7 +70,7 @@ pub fn report<R: Log, T: Display>(rt: &R, level: Level, text: &T) {
 
 /// What came of a request's tries.
 #[derive(Clone, Copy)]
-pub enum Tried {
+pub enum TriesOutcome {
     /// A reply decides it.
     Decided(Verdict),
     /// No reply decides it, and no try ran out of time.
@@ -75,13 +79,13 @@ pub enum Tried {
     TimedOut,
 }
 
-impl Tried {
+impl TriesOutcome {
     /// What the reply decides, where one does.
     pub fn verdict(self) -> Option<Verdict>
         ensures { result ≡ verdict_of self }
     {
         match self {
-            Tried::Decided(verdict) => Some(verdict),
+            TriesOutcome::Decided(verdict) => Some(verdict),
             _ => None,
         }
     }
@@ -90,55 +94,56 @@ impl Tried {
     fn is_decided(self) -> bool
         ensures { result ≡ is_decided_lem self }
     {
-        matches!(self, Tried::Decided(_))
+        matches!(self, TriesOutcome::Decided(_))
     }
 
     /// Whether no reply decides it, and a try ran out of time.
     pub fn has_timed_out(self) -> bool
         ensures { result ≡ is_late self }
     {
-        matches!(self, Tried::TimedOut)
+        matches!(self, TriesOutcome::TimedOut)
     }
 }
 
 /// What comes of tries that decide nothing.
-fn undecided(timed_out: bool) -> Tried
+fn undecided(timed_out: bool) -> TriesOutcome
     ensures verdict { verdict_of result ≡ None }
     ensures late { is_late result ≡ timed_out }
 {
     if timed_out {
-        Tried::TimedOut
+        TriesOutcome::TimedOut
     } else {
-        Tried::Undecided
+        TriesOutcome::Undecided
     }
 }
 
 /// What comes of a reply that decides so, or of one that decides nothing.
-fn answered(verdict: Option<Verdict>) -> Tried
+fn answered(verdict: Option<Verdict>) -> TriesOutcome
     ensures verdict { verdict_of result ≡ verdict }
     ensures late { is_late result ≡ false }
 {
     match verdict {
-        Some(verdict) => Tried::Decided(verdict),
-        None => Tried::Undecided,
+        Some(verdict) => TriesOutcome::Decided(verdict),
+        None => TriesOutcome::Undecided,
     }
 }
 
 /// What comes of an exchange that brings no reply.
-fn faulted(fault: LinkFault) -> Tried
+fn faulted(fault: LinkFault) -> TriesOutcome
     ensures verdict { verdict_of result ≡ None }
     ensures late { is_late result ≡ ran_out (Faulted fault) }
 {
     match fault {
-        LinkFault::TimedOut => Tried::TimedOut,
-        LinkFault::Down | LinkFault::Memory => Tried::Undecided,
+        LinkFault::TimedOut => TriesOutcome::TimedOut,
+        LinkFault::Down | LinkFault::Memory => TriesOutcome::Undecided,
     }
 }
 
 /// One exchange of a framed request, and what comes of it.
-fn try_once<L: Link>(link: &mut L, framed: &Framed, body: &mut Vec<u8>) -> Tried
+fn try_once<L: Link>(link: &mut L, framed: &FramedRequest, body: &mut Vec<u8>) -> TriesOutcome
     requires { IsFramed framed.now }
-    ensures { (x : Exchange) × (decided : Option Reply) × Tells (L.told link.old) (L.told link.new) (told_of x ∷ [])
+    ensures { (x : Exchange) × (decided : Option Reply)
+        × Tells (L.told link.old) (L.told link.new) (told_of x ∷ [])
         × IsTry framed.now.request x decided × ComesOf decided (x ∷ []) result }
 {
     match link.exchange(framed.frame.as_slice(), body) {
@@ -148,10 +153,10 @@ fn try_once<L: Link>(link: &mut L, framed: &Framed, body: &mut Vec<u8>) -> Tried
 }
 
 /// Whether a try ran out of time, with one more.
-fn with_try(timed_out: bool, tried: Tried) -> bool
+fn with_try(timed_out: bool, tried: TriesOutcome) -> bool
     ensures { result ≡ (is_late tried || timed_out) }
 {
-    matches!(tried, Tried::TimedOut) || timed_out
+    matches!(tried, TriesOutcome::TimedOut) || timed_out
 }
 
 /// Exchanges a framed request until a reply decides it, up to so many times.
@@ -159,10 +164,10 @@ pub fn try_all<R: Log, L: Link>(
     rt: &R,
     alloc: Global,
     link: &mut L,
-    framed: &Framed,
+    framed: &FramedRequest,
     tries: u32,
     journal: &mut Journal,
-) -> Tried
+) -> TriesOutcome
     requires { IsFramed framed.now }
     ensures { (group : List Exchange) × (decided : Option Reply)
         × Tells (L.told link.old) (L.told link.new) (told_all group)
@@ -173,7 +178,7 @@ pub fn try_all<R: Log, L: Link>(
     let mut timed_out = false;
     for _attempt in 0..tries {
         let tried = try_once(link, framed, &mut body);
-        if let Tried::Decided(verdict) = tried {
+        if let TriesOutcome::Decided(verdict) = tried {
             journal.note_decided(rt, framed, verdict);
             return tried;
         }
@@ -189,10 +194,10 @@ fn send<R: Log, L: Link>(
     rt: &R,
     alloc: Global,
     link: &mut L,
-    closing: &Framed,
+    closing: &FramedRequest,
     tries: u32,
     journal: &mut Journal,
-) -> Tried
+) -> TriesOutcome
     requires { IsFramed closing.now }
     ensures { (group : List Exchange) × Tells (L.told link.old) (L.told link.new) (told_all group)
         × IsSent tries closing.now.request group (is_decided_lem result)
@@ -202,25 +207,27 @@ fn send<R: Log, L: Link>(
 }
 
 /// Takes the first request away.
-fn drop_front(outbox: &mut VecDeque<Framed>)
+fn drop_front(outbox: &mut VecDeque<FramedRequest>)
     requires { 0 < length outbox.old.items }
-    ensures { (x : AnyFramed) × (outbox.old.items ≡ x ∷ outbox.new.items) }
+    ensures { (x : AnyFramedRequest) × (outbox.old.items ≡ x ∷ outbox.new.items) }
 {
     // (it is decided, and nobody asks for it again)
     let _ = outbox.pop_front();
 }
 
-/// Sends a queue from its front, until a request stays undecided, and answers whether a try of that one ran out of time.
+/// Sends a queue from its front, until a request stays undecided, and answers whether a try of that
+/// one ran out of time.
 pub fn send_all<R: Log, L: Link>(
     rt: &R,
     alloc: Global,
     link: &mut L,
-    outbox: &mut VecDeque<Framed>,
+    outbox: &mut VecDeque<FramedRequest>,
     tries: u32,
     journal: &mut Journal,
 ) -> bool
     requires { AllByRecursion IsFramed outbox.old.items }
-    ensures step { (group : List Exchange) × Tells (L.told link.old) (L.told link.new) (told_all group)
+    ensures step { (group : List Exchange) × Tells (L.told link.old) (L.told link.new)
+        (told_all group)
         × Sends tries (requests_of outbox.old.items) group (requests_of outbox.new.items)
         × (result ≡ has_timed_out_lem group) }
     ensures framed { AllByRecursion IsFramed outbox.new.items }

@@ -7,7 +7,7 @@ ghost use Rattle.mq_request.specs.Same.{same_id};
 ghost use Rattle.mq_client.specs.Exchanges.{answers_reserve, answers_closing, IsDecision};
 ghost use Rattle.mq_client.specs.Verdict.{IsVerdict, deciding, is_answer as is_answer_lem};
 ghost use Rattle.mq_frame.specs.Spelling.{SpellsReply};
-ghost use Rattle.mq_link.specs.declared.link.Outcome.TheVariants.{Answered};
+ghost use Rattle.mq_link.specs.declared.link.ExchangeOutcome.TheVariants.{Answered};
 
 use mq_frame::{IdParts, ReplyParts, read_reply};
 use mq_request::{Id, Request};
@@ -38,7 +38,8 @@ fn is_id(id: &Id, parts: IdParts<'_>) -> bool
 
 /// What a reply says to the reserve with this id, where it is an answer to it.
 fn reserve_verdict(id: &Id, reply: ReplyParts<'_>) -> Option<Verdict>
-    ensures { IsVerdict (if answers_reserve id.now (shown_reply reply.entry) then Some (shown_reply reply.entry)
+    ensures { IsVerdict (if answers_reserve id.now (shown_reply reply.entry) then Some
+        (shown_reply reply.entry)
         else None) result }
 {
     let (other, verdict) = match reply {
@@ -59,7 +60,8 @@ fn reserve_verdict(id: &Id, reply: ReplyParts<'_>) -> Option<Verdict>
 
 /// What a reply says to the settle or release with this id, where it is an answer to it.
 fn closing_verdict(id: &Id, reply: ReplyParts<'_>) -> Option<Verdict>
-    ensures { IsVerdict (if answers_closing id.now (shown_reply reply.entry) then Some (shown_reply reply.entry)
+    ensures { IsVerdict (if answers_closing id.now (shown_reply reply.entry) then Some
+        (shown_reply reply.entry)
         else None) result }
 {
     let (other, verdict) = match reply {
@@ -111,7 +113,8 @@ pub fn is_other_reply(body: &[u8]) -> bool
 
 /// What the body of a reply decides about a request, where it spells a reply that decides it.
 pub fn verdict_in(request: &Request, body: &[u8]) -> Option<Verdict>
-    ensures { (decided : Option Reply) × IsDecision request.now (Answered body.now) decided × IsVerdict decided result }
+    ensures { (decided : Option Reply) × IsDecision request.now (Answered body.now) decided
+        × IsVerdict decided result }
 {
     match read_reply(body) {
         Some(reply) => verdict_of(request, reply),

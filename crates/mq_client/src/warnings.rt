@@ -2,25 +2,25 @@
 ghost use Rattle.std.specs.Prelude.{◌≡◌};
 ghost use Rattle.mq_client.specs.Verdict.{is_refusal as is_refusal_lem};
 
-use crate::named::Named;
-use crate::tries::Framed;
+use crate::named::NamedRequest;
+use crate::tries::FramedRequest;
 use crate::verdict::Verdict;
 use mq_request::Request;
 use std::fmt;
 
 /// A request that no reply decided in so many tries. A closing then waits.
 #[derive(Clone, Copy)]
-pub struct Unanswered<'a> {
-    pub framed: &'a Framed,
+pub struct UnansweredRequest<'a> {
+    pub framed: &'a FramedRequest,
     /// How many times the request was sent, 1 to 10.
     pub tries: u32,
     /// A reply came that answers another request.
     pub is_answered: bool,
 }
 
-impl fmt::Display for Unanswered<'_> {
+impl fmt::Display for UnansweredRequest<'_> {
     fn fmt<W: fmt::Write>(&self, f: &mut fmt::Formatter<W>) -> fmt::Result {
-        let named = Named(self.framed);
+        let named = NamedRequest(self.framed);
         let tries = self.tries;
         let other = if self.is_answered {
             ", but a reply of another kind or number"
@@ -38,7 +38,7 @@ impl fmt::Display for Unanswered<'_> {
 /// A recipient that the login's limit doesn't allow.
 #[derive(Clone, Copy)]
 pub struct LimitReached<'a> {
-    pub reserve: &'a Framed,
+    pub reserve: &'a FramedRequest,
     /// Recipients of the login on that day, 0 to 1,000,000.
     pub used: u32,
     /// The login's limit on that day, 0 to 1,000,000.
@@ -47,7 +47,7 @@ pub struct LimitReached<'a> {
 
 impl fmt::Display for LimitReached<'_> {
     fn fmt<W: fmt::Write>(&self, f: &mut fmt::Formatter<W>) -> fmt::Result {
-        let named = Named(self.reserve);
+        let named = NamedRequest(self.reserve);
         let used = self.used;
         let cap = self.cap;
         write!(f, "{named}: refused by the limit, {used} used of {cap}")
@@ -67,10 +67,10 @@ pub fn is_refusal(verdict: Verdict) -> bool
 /// Writes that the server holds less of a transaction than a request settles.
 fn write_too_many<W: fmt::Write>(
     f: &mut fmt::Formatter<W>,
-    framed: &Framed,
+    framed: &FramedRequest,
     held: u32,
 ) -> fmt::Result {
-    let named = Named(framed);
+    let named = NamedRequest(framed);
     write!(
         f,
         "{named}: the transaction holds {held} only, the server's address may have moved"
@@ -79,12 +79,12 @@ fn write_too_many<W: fmt::Write>(
 
 /// A request that the server refused for another cause than the limit.
 #[derive(Clone, Copy)]
-pub struct Refused<'a> {
-    pub framed: &'a Framed,
+pub struct RefusedRequest<'a> {
+    pub framed: &'a FramedRequest,
     pub verdict: Verdict,
 }
 
-impl fmt::Display for Refused<'_> {
+impl fmt::Display for RefusedRequest<'_> {
     fn fmt<W: fmt::Write>(&self, f: &mut fmt::Formatter<W>) -> fmt::Result {
         let why = match self.verdict {
             Verdict::Closed => "the transaction was closed before",
@@ -94,6 +94,6 @@ impl fmt::Display for Refused<'_> {
             Verdict::Old => "the run is retired",
             _ => return Ok(()),
         };
-        write!(f, "{}: {why}", Named(self.framed))
+        write!(f, "{}: {why}", NamedRequest(self.framed))
     }
 }

@@ -1,20 +1,5 @@
 -- The room that grows with each refusal, and the line that is told.
-use Rattle.std.proofs.Common.{◌≡◌, ◌+◌, ◌*◌, ℕ, zero, suc, List, [], Option, Result, Ok, Err, min, refl, sym, ap, subst, inr, ◌∙◌, arith}
-use Rattle.std.specs.Prelude.{IfOk, MatchResult}
-use Rattle.std.specs.Io.KnownBytes.{Keeps}
-use Rattle.mq_lemmas.proofs.Streams.{appends_kept}
-use Rattle.mq_command.specs.Allowing.{SetsBoth, room}
-use Rattle.mq_command.specs.Later.{ClearsLater, later_status}
-use Rattle.mq_command.specs.Orders.{PrintsLine}
-use Rattle.mq_command.specs.Stopping.{GivesLimit, LooksLater, at_least}
-use Rattle.mq_command.specs.Usage.{AsksUsed}
-use Rattle.mq_command.specs.declared.allow.Setter.{Setter}
-use Rattle.mq_command.specs.declared.later.Later.{Later}
-use Rattle.mq_command.specs.declared.order.OrderFault.{OrderFault}
-use Rattle.mq_command.specs.declared.stop.StopOrder.{StopOrder}
-use Rattle.mq_command.specs.declared.stop.Stopped.{Stopped}
-use Rattle.mq_command.specs.declared.usage.DayUsage.{DayUsage}
-use Rattle.mq_link.specs.declared.link.Told.{Told}
+use Rattle.mq_command.proofs.Words.{AsksUsed, ClearsLater, DayUsage, Err, GivesLimit, IfOk, Keeps, Later, List, LooksLater, MatchResult, Ok, Option, OrderFault, PrintsLine, ReportedExchange, Result, SetsBoth, Setter, StopOrder, StoppedLogin, [], ap, appends_kept, arith, at_least, inr, later_status, min, refl, room, subst, suc, sym, zero, ℕ, ◌*◌, ◌+◌, ◌∙◌, ◌≡◌}
 
 pub room_more : (refused grown : ℕ) → grown ≡ room refused → min (grown * 2 + 8) 1000000 ≡ room (refused + 1)
 room_more refused grown is =
@@ -28,7 +13,7 @@ line_told bytes_of (Ok line) text old new status is printed = subst (λ t. Print
 line_told bytes_of (Err error) text old new status is (same, kept) = inr (same, ([], text, refl, appends_kept old new kept))
 
 -- what is used was answered, and then both limits were sent
-pub limit_given : (setter : Setter) (day limit most : ℕ) (usage : DayUsage) (old asked new : Option (List Told)) (ended : Result ℕ OrderFault)
+pub limit_given : (setter : Setter) (day limit most : ℕ) (usage : DayUsage) (old asked new : Option (List ReportedExchange)) (ended : Result ℕ OrderFault)
     → AsksUsed setter.login day old asked (Ok usage) → most ≡ at_least limit usage.used → SetsBoth setter day most limit usage.used asked new ended
     → GivesLimit setter day limit old new ended
 limit_given setter day limit most usage old asked new (Ok cap) answered is sent =
@@ -37,13 +22,13 @@ limit_given setter day limit most usage old asked new (Err fault) answered is se
     inr (usage, asked, answered, subst (λ m. SetsBoth setter day m limit usage.used asked new (Err fault)) is sent)
 
 -- nothing more was asked where what was printed isn't whole
-pub not_later : (setter : Setter) (order : StopOrder) (stopped : Stopped) (first : ℕ) (told : Option (List Told)) → (first ≡ 0 → ⊥)
+pub not_later : (setter : Setter) (order : StopOrder) (stopped : StoppedLogin) (first : ℕ) (told : Option (List ReportedExchange)) → (first ≡ 0 → ⊥)
     → LooksLater setter order (Ok stopped) first first told told
 not_later setter order stopped zero told never = absurd (never refl)
 not_later setter order stopped (suc first) told never = (refl, refl)
 
 -- and limits of later days were looked for where it is
-pub looked_later : (setter : Setter) (order : StopOrder) (stopped : Stopped) (first status : ℕ) (old new : Option (List Told)) (found : Result (Option Later) OrderFault)
+pub looked_later : (setter : Setter) (order : StopOrder) (stopped : StoppedLogin) (first status : ℕ) (old new : Option (List ReportedExchange)) (found : Result (Option Later) OrderFault)
     → first ≡ 0 → status ≡ later_status found → ClearsLater setter order.day stopped.later order.is_all old new found
     → LooksLater setter order (Ok stopped) first status old new
 looked_later setter order stopped first status old new found whole is looks =

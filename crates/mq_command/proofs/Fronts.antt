@@ -1,12 +1,5 @@
 -- What is written in several steps.
-use Rattle.std.proofs.Common.{◌≡◌, ◌<◌, ◌+◌, ℕ, List, [], ◌∷◌, ◌++◌, Option, None, Some, length, take, drop, get_or, sym, ap, ◌∙◌, append_assoc, append-nil, take-append-drop}
-use Rattle.std.proofs.lemmas.List.{drop_more, take_more}
-use Rattle.std.specs.Io.KnownBytes.{Appends, Keeps}
-use Rattle.std.proofs.KnownBytes.{Appends-trans}
-use Rattle.std.specs.List.{flat_map}
-use Rattle.std.proofs.lemmas.List.Concat.{flat_map-append}
-use Rattle.mq_stream.specs.Flow.{AppendsFront}
-use Rattle.mq_stream.proofs.Fronts.{front_first, front_later}
+use Rattle.mq_command.proofs.Words.{Appends, Appends-trans, AppendsFront, Keeps, List, Option, [], ap, append-nil, append_assoc, appends_kept, drop, drop_more, flat_map, flat_map-append, front_first, front_later, get_or, length, sym, take, take-append-drop, take_more, ℕ, ◌++◌, ◌+◌, ◌<◌, ◌∙◌, ◌∷◌, ◌≡◌}
 
 -- all of it
 pub front_whole : (old new : Option (List ℕ)) (bytes : List ℕ) → Appends old new bytes → AppendsFront old new bytes
@@ -32,8 +25,5 @@ one_more_item f old mid new xs i x below here before now =
     rw whole (Appends-trans old mid new (flat_map f (take i xs)) (f x) before now)
 
 -- a flush keeps what was written
-pub appends_kept : (old mid new : Option (List ℕ)) (bytes : List ℕ) → Appends old mid bytes → Keeps mid new → Appends old new bytes
-appends_kept None mid new bytes a k = tt
-appends_kept (Some old) None new bytes a k = absurd a
-appends_kept (Some old) (Some mid) None bytes a k = absurd k
-appends_kept (Some old) (Some mid) (Some new) bytes a k = k ∙ a
+pub appends_flushed : (old mid new : Option (List ℕ)) (bytes : List ℕ) → Appends old mid bytes → Keeps mid new → Appends old new bytes
+appends_flushed old mid new bytes a k = rw append-nil at (Appends-trans old mid new bytes [] a (appends_kept mid new k))

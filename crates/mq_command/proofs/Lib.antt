@@ -1,10 +1,8 @@
-pub mod Alike
 pub mod AllowSteps
 pub mod AnswerSteps
 pub mod AskSteps
-pub mod CheckSteps
-pub mod CollectSteps
 pub mod Fronts
 pub mod OrderSteps
 pub mod PageSteps
 pub mod PrintedSteps
+pub mod Words

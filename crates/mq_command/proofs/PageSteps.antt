@@ -1,70 +1,18 @@
 -- One page more of a report.
-use Rattle.std.proofs.Common.{◌≡◌, ℕ, suc, ◌+◌, ◌-◌, ◌<◌, List, [], ◌∷◌, ◌++◌, length, get_or, Option, Result, Ok, Err, refl, sym, ap, subst, ◌∙◌, arith, inr}
-use Rattle.std.specs.Io.KnownBytes.{Appends}
-use Rattle.std.specs.Result.{IsErrAnd}
-use Rattle.std.proofs.KnownBytes.{Appends-trans, Appends-nil}
-use Rattle.std.proofs.lemmas.List.Concat.{flat_map-append}
-use Rattle.mq_request.specs.Range.{IsAfter}
-use Rattle.mq_request.specs.declared.usage.UsageRow.{UsageRow}
-use Rattle.mq_stream.proofs.Fronts.{front_later}
-use Rattle.mq_link.specs.declared.link.Told.{Told}
-use Rattle.mq_stream.specs.Flow.{AppendsFront}
-use Rattle.mq_command.specs.Report.{row_line, report_lines, last_login, IsPage, AreFullPages, no_page, page, PrintsFront, ReportsAll, output_fault}
-use Rattle.mq_command.specs.declared.output.OutputFault.{OutputFault}
+use Rattle.mq_command.proofs.Words.{Appends, Appends-trans, AppendsFront, AreFullPages, AsksPage, CollectsAll, Err, IsAfter, IsErrAnd, IsLogin, IsPage, IsPageInRange, List, Ok, Option, OutputFault, PrintsFront, ReportFault, ReportedExchange, ReportsAll, Result, UsageRow, [], ap, arith, flat_map-append, front_later, get_or, inl, inr, last_login, length, no_page, output_fault, page, refl, report_lines, row_line, subst, suc, sym, ℕ, ◌++◌, ◌+◌, ◌-◌, ◌<◌, ◌∙◌, ◌∷◌, ◌≡◌, ◌≤◌}
 use Rattle.mq_command.specs.declared.output.OutputFault.TheVariants as outputs
-use Rattle.mq_command.specs.declared.report.ReportFault.{ReportFault}
+use Rattle.mq_command.specs.declared.report.ReportFault.TheVariants as fault
 
--- so many full pages were accepted and printed, and the next begins after this login
-pub record ArePrinted (day : ℕ) (start told : Option (List Told)) (old new : Option (List ℕ)) (count : ℕ) (after : List ℕ) : Type 0 where
-  pub rows : List UsageRow
+-- so many full pages were accepted, which have these rows, and the next begins after this login
+pub record AreHeld (day : ℕ) (start told : Option (List ReportedExchange)) (count : ℕ) (after : List ℕ) (rows : List UsageRow) : Type 0 where
   pub pages : AreFullPages day start count after told rows
-  pub printed : Appends old new (report_lines rows)
   pub in_range : IsAfter after
 
-lines_append : (rows more : List UsageRow) → report_lines (rows ++ more) ≡ report_lines rows ++ report_lines more
-lines_append rows more = flat_map-append row_line rows more
-
-pub printed_none : (day : ℕ) (told : Option (List Told)) (held : Option (List ℕ)) (after : List ℕ) → after ≡ [] → ArePrinted day told told held held 0 after
-printed_none day told held after none = record {
-  rows = [];
+pub held_none : (day : ℕ) (told : Option (List ReportedExchange)) (after : List ℕ) → after ≡ [] → AreHeld day told told 0 after []
+held_none day told after none = record {
   pages = subst (λ l. AreFullPages day told 0 l told []) (sym none) no_page;
-  printed = Appends-nil held;
   in_range = record { from = omega arith; to = omega (arith, ap length none) };
 }
-
-pub printed_more : (day : ℕ) (start told told' : Option (List Told)) (old mid new : Option (List ℕ)) (count : ℕ) (after next : List ℕ) (more : List UsageRow)
-    → ArePrinted day start told old mid count after → IsPage day after told told' more → Appends mid new (report_lines more) → length more ≡ 100 → next ≡ last_login after more → IsAfter next → ArePrinted day start told' old new (count + 1) next
-printed_more day start told told' old mid new count after next more printed accepted whole full same in_range = record {
-  rows = printed.rows ++ more;
-  pages = subst (λ l. AreFullPages day start (count + 1) l told' (printed.rows ++ more)) (sym same) (page count after told told' printed.rows more printed.pages accepted full);
-  printed = rw (lines_append printed.rows more) (Appends-trans old mid new (report_lines printed.rows) (report_lines more) printed.printed whole);
-  in_range = in_range;
-}
-
--- a page that wasn't printed whole
-prints_front : (day : ℕ) (start told told' : Option (List Told)) (old mid new : Option (List ℕ)) (count : ℕ) (after : List ℕ) (more : List UsageRow)
-    → (so_far : ArePrinted day start told old mid count after) → IsPage day after told told' more → AppendsFront mid new (report_lines more) → PrintsFront day told' old new after told so_far.rows
-prints_front day start told told' old mid new count after more so_far accepted front =
-    (more, accepted, rw (lines_append so_far.rows more) (front_later old mid new (report_lines so_far.rows) (report_lines more) so_far.printed front))
-
-pub stopped : (day : ℕ) (start told told' : Option (List Told)) (old mid new : Option (List ℕ)) (count : ℕ) (after : List ℕ) (more : List UsageRow) (fault : OutputFault)
-    → ArePrinted day start told old mid count after → count < 100000 → IsPage day after told told' more → AppendsFront mid new (report_lines more) → ReportsAll day start told' old new (Err (output_fault fault))
-stopped day start told told' old mid new count after more outputs.Write so_far few accepted front =
-    (count, after, told, so_far.rows, few, so_far.pages, prints_front day start told told' old mid new count after more so_far accepted front)
-stopped day start told told' old mid new count after more outputs.Memory so_far few accepted front =
-    (count, after, told, so_far.rows, few, so_far.pages, inr (prints_front day start told told' old mid new count after more so_far accepted front))
-
--- the same, with the fault as it is passed on
-pub stopped_by : (day : ℕ) (start told told' : Option (List Told)) (old mid new : Option (List ℕ)) (count : ℕ) (after : List ℕ) (more : List UsageRow) (fault : OutputFault) (r : Result (Unit {0}) ReportFault)
-    → IsErrAnd r (λ given. given ≡ output_fault fault) → ArePrinted day start told old mid count after → count < 100000 → IsPage day after told told' more → AppendsFront mid new (report_lines more) → ReportsAll day start told' old new r
-stopped_by day start told told' old mid new count after more fault (Ok x) e so_far few accepted front = absurd e
-stopped_by day start told told' old mid new count after more fault (Err given) e so_far few accepted front =
-    subst (λ f. ReportsAll day start told' old new (Err f)) (sym e) (stopped day start told told' old mid new count after more fault so_far few accepted front)
-
-pub done : (day : ℕ) (start told told' : Option (List Told)) (old mid new : Option (List ℕ)) (count : ℕ) (after : List ℕ) (more : List UsageRow)
-    → ArePrinted day start told old mid count after → count < 100000 → IsPage day after told told' more → Appends mid new (report_lines more) → length more < 100 → ReportsAll day start told' old new (Ok tt)
-done day start told told' old mid new count after more so_far few accepted whole short =
-    (count, after, told, so_far.rows, few, so_far.pages, (more, accepted, short, rw (lines_append so_far.rows more) (Appends-trans old mid new (report_lines so_far.rows) (report_lines more) so_far.printed whole)))
 
 -- the login of the last row
 last_step : {X : Type 0} (x y : X) (xs : List X) (d : X) → get_or (x ∷ y ∷ xs) (length (x ∷ y ∷ xs) - 1) d ≡ get_or (y ∷ xs) (length (y ∷ xs) - 1) d
@@ -72,8 +20,50 @@ last_step x y xs d =
     let place : length (x ∷ y ∷ xs) - 1 ≡ suc (length (y ∷ xs) - 1) = omega arith in
     ap (λ k. get_or (x ∷ y ∷ xs) k d) place
 
-pub last_of : (after : List ℕ) (rows : List UsageRow) (d : UsageRow) → 0 < length rows → last_login after rows ≡ (get_or rows (length rows - 1) d).login
+last_of : (after : List ℕ) (rows : List UsageRow) (d : UsageRow) → 0 < length rows → last_login after rows ≡ (get_or rows (length rows - 1) d).login
 last_of after [] d h = absurd (omega (arith, h))
 last_of after (row ∷ []) d h = refl
 last_of after (row ∷ next ∷ rows) d h =
     last_of row.login (next ∷ rows) d (omega arith) ∙ sym (ap {A = UsageRow} (λ r. r.login) (last_step row next rows d))
+
+-- a full page more, as the slice of its rows has it; the next begins after the login of its last row
+pub held_more : (day : ℕ) (start told told' : Option (List ReportedExchange)) (count : ℕ) (after next : List ℕ) (rows more slice : List UsageRow) (row : UsageRow)
+    → AreHeld day start told count after rows → IsPage day after told told' more → IsPageInRange more → slice ≡ more → 100 ≤ length slice → row ≡ get_or slice (length slice - 1) row → next ≡ row.login
+    → AreHeld day start told' (count + 1) next (rows ++ more)
+held_more day start told told' count after next rows more slice row held accepted in_range is long place same =
+    let long' : 100 ≤ length more = omega (arith, long, ap length is) in
+    let full : length more ≡ 100 = omega (arith, long', in_range.size.to) in
+    let place' : row ≡ get_or more (length more - 1) row = place ∙ ap (λ l. get_or l (length l - 1) row) is in
+    let each = in_range.each (length more - 1) row (omega (arith, long')) in
+    let login : IsLogin row.login = subst (λ (r : UsageRow). IsLogin r.login) (sym place') each.login in
+    let last : next ≡ last_login after more = same ∙ ap {A = UsageRow} (λ r. r.login) place' ∙ sym (last_of after more row (omega (arith, long'))) in
+    record {
+      pages = subst (λ l. AreFullPages day start (count + 1) l told' (rows ++ more)) (sym last) (page count after told told' rows more held.pages accepted full);
+      in_range = record { from = omega arith; to = omega (arith, ap length same, login.to) };
+    }
+
+-- a page that didn't come
+pub not_collected : (day : ℕ) (start told told' : Option (List ReportedExchange)) (count : ℕ) (after : List ℕ) (rows : List UsageRow) (given : ReportFault)
+    → AreHeld day start told count after rows → count < 100000 → AsksPage day after told told' (Err given) → CollectsAll day start told' (Err given)
+not_collected day start told told' count after rows (fault.Unanswered cause) held few asked = (count, after, told, rows, few, held.pages, asked)
+not_collected day start told told' count after rows fault.BadPage held few asked = (count, after, told, rows, few, held.pages, asked)
+not_collected day start told told' count after rows fault.Memory held few asked = (count, after, told, rows, few, held.pages, inl asked)
+not_collected day start told told' count after rows given held few asked = absurd asked
+
+-- a page that came after those that are held and printed
+module _ (day : ℕ) (start told told' : Option (List ReportedExchange)) (old mid new : Option (List ℕ)) (count : ℕ) (after : List ℕ) (rows more : List UsageRow)
+    (held : AreHeld day start told count after rows) (printed : Appends old mid (report_lines rows)) (few : count < 100000) (accepted : IsPage day after told told' more) where
+  front : AppendsFront mid new (report_lines more) → PrintsFront day told' old new after told rows
+  front written = (more, accepted, rw (flat_map-append row_line rows more) (front_later old mid new (report_lines rows) (report_lines more) printed written))
+
+  pub whole : Appends mid new (report_lines more) → Appends old new (report_lines (rows ++ more))
+  whole written = rw (flat_map-append row_line rows more) (Appends-trans old mid new (report_lines rows) (report_lines more) printed written)
+
+  pub stopped : (given : OutputFault) → AppendsFront mid new (report_lines more) → ReportsAll day start told' old new (Err (output_fault given))
+  stopped outputs.Write written = (count, after, told, rows, few, held.pages, front written)
+  stopped outputs.Memory written = (count, after, told, rows, few, held.pages, inr (front written))
+
+  -- the same, with the fault as it is passed on
+  pub stopped_by : (given : OutputFault) (r : Result (Unit {0}) ReportFault) → IsErrAnd r (λ fault. fault ≡ output_fault given) → AppendsFront mid new (report_lines more) → ReportsAll day start told' old new r
+  stopped_by given (Ok done) e written = absurd e
+  stopped_by given (Err fault) e written = subst (λ f. ReportsAll day start told' old new (Err f)) (sym e) (stopped given written)

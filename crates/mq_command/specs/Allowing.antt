@@ -10,7 +10,7 @@ use Rattle.mq_command.specs.Orders.{OrdersFresh}
 use Rattle.mq_command.specs.declared.allow.Setter.{Setter}
 use Rattle.mq_command.specs.declared.order.OrderFault.{OrderFault}
 use Rattle.mq_command.specs.declared.order.OrderFault.TheVariants.{Over}
-use Rattle.mq_link.specs.declared.link.Told.{Told}
+use Rattle.mq_link.specs.declared.link.ReportedExchange.{ReportedExchange}
 
 -- host, run and login are in range, so that a limit can carry them
 pub record IsSetter (setter : Setter) : Type 0 where
@@ -33,16 +33,16 @@ abbrev pub allowed : ℕ → ℕ → ℕ → ℕ → ℕ
 allowed most used more room = min (used + more + room) most
 
 -- so many limits of a day were sent, each of what was used then, and refused since more is used on that day by now
-pub data AreRefused (setter : Setter) (day most more first : ℕ) (start : Option (List Told))
-    : ℕ → ℕ → Option (List Told) → Type 0 where
+pub data AreRefused (setter : Setter) (day most more first : ℕ) (start : Option (List ReportedExchange))
+    : ℕ → ℕ → Option (List ReportedExchange) → Type 0 where
   no_limit : AreRefused setter day most more first start 0 first start
-  limit : (refused used now : ℕ) (mid new : Option (List Told))
+  limit : (refused used now : ℕ) (mid new : Option (List ReportedExchange))
       → AreRefused setter day most more first start refused used mid
       → OrdersFresh (limit_of setter (refused + 1) day (allowed most used more (room refused))) mid new (Err (Over day now))
       → AreRefused setter day most more first start (refused + 1) now new
 
 -- What sending the limit of a day leads to: the limit, where it is set.
-abbrev pub SetsTo : Setter → ℕ → ℕ → ℕ → Option (List Told) → Option (List Told) → Result ℕ OrderFault → Type 0
+abbrev pub SetsTo : Setter → ℕ → ℕ → ℕ → Option (List ReportedExchange) → Option (List ReportedExchange) → Result ℕ OrderFault → Type 0
 SetsTo setter number day cap old new (Ok set) = OrdersFresh (limit_of setter number day cap) old new (Ok tt) × (set ≡ cap)
 SetsTo setter number day cap old new (Err fault) = OrdersFresh (limit_of setter number day cap) old new (Err fault)
 
@@ -53,21 +53,21 @@ IsOver day _ = ⊥
 
 -- What setting the limit of a day to what is used and so many more leads to, with none above the most. It is sent again
 -- while more is used on that day, 18 times in all; where more is used on another day, that ends it.
-abbrev pub SetsAbove : Setter → ℕ → ℕ → ℕ → ℕ → Option (List Told) → Option (List Told) → Result ℕ OrderFault → Type 0
+abbrev pub SetsAbove : Setter → ℕ → ℕ → ℕ → ℕ → Option (List ReportedExchange) → Option (List ReportedExchange) → Result ℕ OrderFault → Type 0
 SetsAbove setter day most more first old new ended =
-    (refused used : ℕ) × (mid : Option (List Told)) × (refused < 18)
+    (refused used : ℕ) × (mid : Option (List ReportedExchange)) × (refused < 18)
     × AreRefused setter day most more first old refused used mid
     × SetsTo setter (refused + 1) day (allowed most used more (room refused)) mid new ended
     × (IsOver day ended → refused ≡ 17)
 
 -- What setting the limits of a day and of each later day leads to: the limit of the day, where both are set.
-abbrev pub SetsBoth : Setter → ℕ → ℕ → ℕ → ℕ → Option (List Told) → Option (List Told) → Result ℕ OrderFault → Type 0
+abbrev pub SetsBoth : Setter → ℕ → ℕ → ℕ → ℕ → Option (List ReportedExchange) → Option (List ReportedExchange) → Result ℕ OrderFault → Type 0
 SetsBoth setter day most more used old new (Ok cap) =
-    (set : Option (List Told)) × SetsAbove setter day most more used old set (Ok cap)
+    (set : Option (List ReportedExchange)) × SetsAbove setter day most more used old set (Ok cap)
     × OrdersFresh (limit_of setter 19 (day + 1) more) set new (Ok tt)
 SetsBoth setter day most more used old new (Err fault) =
     SetsAbove setter day most more used old new (Err fault)
-    ⊎ ((cap : ℕ) × (set : Option (List Told)) × SetsAbove setter day most more used old set (Ok cap)
+    ⊎ ((cap : ℕ) × (set : Option (List ReportedExchange)) × SetsAbove setter day most more used old set (Ok cap)
     × OrdersFresh (limit_of setter 19 (day + 1) more) set new (Err fault))
 
 -- a line of how much a login used, or may use, on a day

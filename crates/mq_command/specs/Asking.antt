@@ -11,7 +11,7 @@ use Rattle.mq_request.specs.declared.message.Reply.TheVariants as says
 use Rattle.mq_command.specs.declared.ask.AskFault.{AskFault}
 use Rattle.mq_command.specs.declared.ask.AskFault.TheVariants.{Unavailable, Memory}
 use Rattle.mq_link.specs.Link.{Brings, Tells}
-use Rattle.mq_link.specs.declared.link.Told.{Told}
+use Rattle.mq_link.specs.declared.link.ReportedExchange.{ReportedExchange}
 
 -- whether a reply answers a release, a limit, a retire, a usage or a list
 abbrev pub fits : Request → Reply → Bool
@@ -32,17 +32,17 @@ fits (asks.List day after) (says.List day' rows) = true
 fits _ _ = false
 
 -- the exchange sent it
-abbrev pub Sends : Request → Told → Type 0
+abbrev pub Sends : Request → ReportedExchange → Type 0
 Sends request exchange = exchange.frame ≡ request_frame request
 
 -- the exchange brought no reply that answers the request
-abbrev pub IsMissed : Request → Told → Type 0
+abbrev pub IsMissed : Request → ReportedExchange → Type 0
 IsMissed request exchange = (reply : Reply) → Brings exchange.outcome reply → fits request reply ≡ false
 
 -- The request was sent up to three times; the last exchange brought a reply that answers it, and none before it did.
-pub record IsAnswered (request : Request) (reply : Reply) (old new : Option (List Told)) : Type 0 where
-  pub before : List Told
-  pub last : Told
+pub record IsAnswered (request : Request) (reply : Reply) (old new : Option (List ReportedExchange)) : Type 0 where
+  pub before : List ReportedExchange
+  pub last : ReportedExchange
   pub told : Tells old new (before ++ last ∷ [])
   pub few : length before < 3
   pub sent : All (Sends request) (before ++ last ∷ [])
@@ -51,8 +51,8 @@ pub record IsAnswered (request : Request) (reply : Reply) (old new : Option (Lis
   pub answers : fits request reply ≡ true
 
 -- The request was sent so often, and no exchange brought a reply that answers it.
-pub record IsUnanswered (request : Request) (count : ℕ) (old new : Option (List Told)) : Type 0 where
-  pub group : List Told
+pub record IsUnanswered (request : Request) (count : ℕ) (old new : Option (List ReportedExchange)) : Type 0 where
+  pub group : List ReportedExchange
   pub told : Tells old new group
   pub counted : length group ≡ count
   pub sent : All (Sends request) group
@@ -60,9 +60,9 @@ pub record IsUnanswered (request : Request) (count : ℕ) (old new : Option (Lis
 
 -- The request was sent up to three times; no exchange before the last brought a reply that answers it. The last one
 -- brought a reply that couldn't be decoded since memory ran out.
-pub record IsUndecoded (request : Request) (old new : Option (List Told)) : Type 0 where
-  pub before : List Told
-  pub last : Told
+pub record IsUndecoded (request : Request) (old new : Option (List ReportedExchange)) : Type 0 where
+  pub before : List ReportedExchange
+  pub last : ReportedExchange
   pub told : Tells old new (before ++ last ∷ [])
   pub few : length before < 3
   pub sent : All (Sends request) (before ++ last ∷ [])
@@ -72,7 +72,7 @@ pub record IsUndecoded (request : Request) (old new : Option (List Told)) : Type
 
 -- What asking leads to: the first reply that answers, or the fault after three exchanges without one. That memory ran out
 -- ends it before any exchange, or at a reply that came.
-abbrev pub Asks : Request → Option (List Told) → Option (List Told) → Result Reply AskFault → Type 0
+abbrev pub Asks : Request → Option (List ReportedExchange) → Option (List ReportedExchange) → Result Reply AskFault → Type 0
 Asks request old new (Ok reply) = IsAnswered request reply old new
 Asks request old new (Err Unavailable) = IsUnanswered request 3 old new
 Asks request old new (Err Memory) = (new ≡ old) ⊎ IsUndecoded request old new

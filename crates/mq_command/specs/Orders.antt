@@ -13,7 +13,7 @@ use Rattle.mq_command.specs.Asking.{Asks, IsAnswered}
 use Rattle.mq_stream.specs.Flow.{AppendsFront}
 use Rattle.mq_command.specs.declared.order.OrderFault.{OrderFault}
 use Rattle.mq_command.specs.declared.order.OrderFault.TheVariants.{Over, OtherLimit, OtherRequest, Retired, Unanswered}
-use Rattle.mq_link.specs.declared.link.Told.{Told}
+use Rattle.mq_link.specs.declared.link.ReportedExchange.{ReportedExchange}
 
 -- a limit whose fields are in range
 abbrev pub IsLimit : Request → Type 0
@@ -65,7 +65,7 @@ Says request reply (Err Retired) = (id : Id) × (reply ≡ says.Old id)
 Says request reply (Err (Unanswered fault)) = ⊥
 
 -- What sending an order leads to: what the reply says that answers it, or why there is none.
-abbrev pub Orders : Request → Option (List Told) → Option (List Told) → Result (Unit {0}) OrderFault → Type 0
+abbrev pub Orders : Request → Option (List ReportedExchange) → Option (List ReportedExchange) → Result (Unit {0}) OrderFault → Type 0
 Orders request told told' (Err (Unanswered fault)) = Asks request told told' (Err fault)
 Orders request told told' ended = (reply : Reply) × IsAnswered request reply told told' × Says request reply ended
 
@@ -94,17 +94,17 @@ ahead zero = 0
 ahead (suc taken) = ahead taken * 2 + 1
 
 -- a limit was sent under so many numbers that were used with other requests
-pub data AreTaken (request : Request) (start : Option (List Told)) : ℕ → Option (List Told) → Type 0 where
+pub data AreTaken (request : Request) (start : Option (List ReportedExchange)) : ℕ → Option (List ReportedExchange) → Type 0 where
   no_number : AreTaken request start 0 start
-  number : (count : ℕ) (mid new : Option (List Told)) (sent : Result (Unit {0}) OrderFault)
+  number : (count : ℕ) (mid new : Option (List ReportedExchange)) (sent : Result (Unit {0}) OrderFault)
       → AreTaken request start count mid → Orders (later (ahead count) request) mid new sent → is_taken sent ≡ true
       → AreTaken request start (count + 1) new
 
 -- What sending a limit under the first number that isn't used leads to, of 16 in all: there is none where all are used,
 -- or where there is no further run. A retire has no other number: its run says which runs are given up.
-pub record OrdersFresh (request : Request) (old new : Option (List Told)) (sent : Result (Unit {0}) OrderFault) : Type 0 where
+pub record OrdersFresh (request : Request) (old new : Option (List ReportedExchange)) (sent : Result (Unit {0}) OrderFault) : Type 0 where
   pub count : ℕ
-  pub mid : Option (List Told)
+  pub mid : Option (List ReportedExchange)
   pub few : count < 16
   pub taken : AreTaken request old count mid
   pub last : Orders (later (ahead count) request) mid new sent

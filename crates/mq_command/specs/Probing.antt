@@ -15,23 +15,23 @@ use Rattle.mq_command.specs.declared.ask.AskFault.{AskFault}
 use Rattle.mq_command.specs.declared.ask.AskFault.TheVariants.{Unavailable, Memory}
 use Rattle.mq_command.specs.declared.probe.HostFault.{HostFault}
 use Rattle.mq_command.specs.declared.probe.HostFault.TheVariants.{Retired, Unanswered}
-use Rattle.mq_link.specs.declared.link.Told.{Told}
+use Rattle.mq_link.specs.declared.link.ReportedExchange.{ReportedExchange}
 
 -- What asking once leads to: a reply that answers came, or none did. Memory may be refused before the exchange, or for
 -- the reply that came.
-abbrev pub AsksOnce : Request → Option (List Told) → Option (List Told) → Result Reply AskFault → Type 0
+abbrev pub AsksOnce : Request → Option (List ReportedExchange) → Option (List ReportedExchange) → Result Reply AskFault → Type 0
 AsksOnce request old new (Ok reply) =
-    (one : Told) × Tells old new (one ∷ []) × Sends request one × Brings one.outcome reply × (fits request reply ≡ true)
-AsksOnce request old new (Err Unavailable) = (one : Told) × Tells old new (one ∷ []) × Sends request one × IsMissed request one
+    (one : ReportedExchange) × Tells old new (one ∷ []) × Sends request one × Brings one.outcome reply × (fits request reply ≡ true)
+AsksOnce request old new (Err Unavailable) = (one : ReportedExchange) × Tells old new (one ∷ []) × Sends request one × IsMissed request one
 AsksOnce request old new (Err Memory) =
-    (new ≡ old) ⊎ ((one : Told) × (reply : Reply) × Tells old new (one ∷ []) × Sends request one × Brings one.outcome reply)
+    (new ≡ old) ⊎ ((one : ReportedExchange) × (reply : Reply) × Tells old new (one ∷ []) × Sends request one × Brings one.outcome reply)
 
 -- what is asked: what login `-` used on day 0, which is nothing
 abbrev pub probed : Request
 probed = asks.Usage (45 ∷ []) 0
 
 -- What asking whether the server answers leads to: it does where a reply to the question comes.
-abbrev pub Probes : Option (List Told) → Option (List Told) → Result (Unit {0}) AskFault → Type 0
+abbrev pub Probes : Option (List ReportedExchange) → Option (List ReportedExchange) → Result (Unit {0}) AskFault → Type 0
 Probes old new (Ok _) = (reply : Reply) × AsksOnce probed old new (Ok reply)
 Probes old new (Err fault) = AsksOnce probed old new (Err fault)
 
@@ -51,7 +51,7 @@ host_verdict (says.Old id) = Err (Retired id.run)
 host_verdict _ = Ok tt
 
 -- What asking about a host leads to: what the reply says that answers, or why there is none.
-abbrev pub AsksHost : List ℕ → ℕ → Option (List Told) → Option (List Told) → Result (Unit {0}) HostFault → Type 0
+abbrev pub AsksHost : List ℕ → ℕ → Option (List ReportedExchange) → Option (List ReportedExchange) → Result (Unit {0}) HostFault → Type 0
 AsksHost host now old new ended =
     ((reply : Reply) × AsksOnce (host_question host now) old new (Ok reply) × (ended ≡ host_verdict reply))
     ⊎ ((fault : AskFault) × AsksOnce (host_question host now) old new (Err fault) × (ended ≡ Err (Unanswered fault)))
@@ -75,7 +75,7 @@ PrintsAnswer server old new (Err fault) status = (status ≡ 1) × Keeps old new
 
 -- What a check of settings that are right leads to: their line, then whether the server takes their host's requests; where
 -- the line can't be printed the server isn't asked.
-abbrev pub Checks : List ℕ → List ℕ → ℕ → Option (List Told) → Option (List Told) → Option (List ℕ) → Option (List ℕ) → ℕ → Type 0
+abbrev pub Checks : List ℕ → List ℕ → ℕ → Option (List ReportedExchange) → Option (List ReportedExchange) → Option (List ℕ) → Option (List ℕ) → ℕ → Type 0
 Checks server host now told told' old new status =
     ((status ≡ 1) × (told' ≡ told) × AppendsFront old new settings_line)
     ⊎ ((mid : Option (List ℕ)) × (ended : Result (Unit {0}) HostFault) × Appends old mid settings_line

@@ -12,7 +12,7 @@ use Rattle.mq_request.specs.declared.message.Request.TheVariants as asks
 use Rattle.mq_request.specs.declared.message.Reply.{Reply}
 use Rattle.mq_request.specs.declared.message.Reply.TheVariants as says
 use Rattle.mq_request.specs.declared.usage.UsageRow.{UsageRow}
-use Rattle.mq_link.specs.declared.link.Told.{Told}
+use Rattle.mq_link.specs.declared.link.ReportedExchange.{ReportedExchange}
 use Rattle.mq_command.specs.Asking.{Asks, IsAnswered}
 use Rattle.mq_stream.specs.Flow.{AppendsFront}
 use Rattle.mq_command.specs.declared.output.OutputFault.{OutputFault}
@@ -43,12 +43,12 @@ last_login after [] = after
 last_login after (row ∷ rows) = last_login row.login rows
 
 -- The server was asked for the page of that day after a login, and answered with these rows of that day, ascending.
-pub record IsPage (day : ℕ) (after : List ℕ) (old new : Option (List Told)) (rows : List UsageRow) : Type 0 where
+pub record IsPage (day : ℕ) (after : List ℕ) (old new : Option (List ReportedExchange)) (rows : List UsageRow) : Type 0 where
   pub answered : IsAnswered (asks.List day after) (says.List day rows) old new
   pub ascending : IsAscendingAbove after rows
 
 -- The server was asked for that page, and answered with one of another day, or one that doesn't ascend from there.
-pub record IsBadPage (day : ℕ) (after : List ℕ) (old new : Option (List Told)) : Type 0 where
+pub record IsBadPage (day : ℕ) (after : List ℕ) (old new : Option (List ReportedExchange)) : Type 0 where
   pub other : ℕ
   pub rows : List UsageRow
   pub answered : IsAnswered (asks.List day after) (says.List other rows) old new
@@ -68,7 +68,7 @@ TakesPage day after reply (Err BadPage) =
 TakesPage day after reply (Err _) = ⊥
 
 -- What asking for a page leads to.
-abbrev pub AsksPage : ℕ → List ℕ → Option (List Told) → Option (List Told) → Result (List UsageRow) ReportFault → Type 0
+abbrev pub AsksPage : ℕ → List ℕ → Option (List ReportedExchange) → Option (List ReportedExchange) → Result (List UsageRow) ReportFault → Type 0
 AsksPage day after old new (Ok rows) = IsPage day after old new rows
 AsksPage day after old new (Err (Unanswered fault)) = Asks (asks.List day after) old new (Err fault)
 AsksPage day after old new (Err BadPage) = IsBadPage day after old new
@@ -81,28 +81,28 @@ output_fault outputs.Write = Write
 output_fault outputs.Memory = Memory
 
 -- so many full pages that were accepted, each after the one before; the last ends at this login
-pub data AreFullPages (day : ℕ) (start : Option (List Told)) : ℕ → List ℕ → Option (List Told) → List UsageRow
+pub data AreFullPages (day : ℕ) (start : Option (List ReportedExchange)) : ℕ → List ℕ → Option (List ReportedExchange) → List UsageRow
     → Type 0 where
   no_page : AreFullPages day start 0 [] start []
-  page : (count : ℕ) (after : List ℕ) (mid new : Option (List Told)) (rows more : List UsageRow)
+  page : (count : ℕ) (after : List ℕ) (mid new : Option (List ReportedExchange)) (rows more : List UsageRow)
       → AreFullPages day start count after mid rows → IsPage day after mid new more → length more ≡ 100
       → AreFullPages day start (count + 1) (last_login after more) new (rows ++ more)
 
 -- full pages were accepted, fewer than 100,000 of them, and this is known of what follows them
-abbrev pub AfterPages : ℕ → Option (List Told) → (List ℕ → Option (List Told) → List UsageRow → Type 0) → Type 0
+abbrev pub AfterPages : ℕ → Option (List ReportedExchange) → (List ℕ → Option (List ReportedExchange) → List UsageRow → Type 0) → Type 0
 AfterPages day start Next =
-    (count : ℕ) × (after : List ℕ) × (mid : Option (List Told)) × (rows : List UsageRow) × (count < 100000)
+    (count : ℕ) × (after : List ℕ) × (mid : Option (List ReportedExchange)) × (rows : List UsageRow) × (count < 100000)
     × AreFullPages day start count after mid rows × Next after mid rows
 
 -- one page more was accepted, and a prefix of the lines of all pages is printed
-abbrev pub PrintsFront : ℕ → Option (List Told) → Option (List ℕ) → Option (List ℕ) → List ℕ → Option (List Told)
+abbrev pub PrintsFront : ℕ → Option (List ReportedExchange) → Option (List ℕ) → Option (List ℕ) → List ℕ → Option (List ReportedExchange)
     → List UsageRow → Type 0
 PrintsFront day told old new after mid rows =
     (more : List UsageRow) × IsPage day after mid told more × AppendsFront old new (report_lines (rows ++ more))
 
 -- The report of all logins: a line for each row of the pages, of which the last alone has fewer than 100 rows. Where it
 -- isn't done, the lines of the pages that were accepted; a prefix of them where the output or memory fails.
-abbrev pub ReportsAll : ℕ → Option (List Told) → Option (List Told) → Option (List ℕ) → Option (List ℕ)
+abbrev pub ReportsAll : ℕ → Option (List ReportedExchange) → Option (List ReportedExchange) → Option (List ℕ) → Option (List ℕ)
     → Result (Unit {0}) ReportFault → Type 0
 ReportsAll day told told' old new (Ok _) =
     AfterPages day told (λ after mid rows. (more : List UsageRow) × IsPage day after mid told' more
@@ -121,7 +121,7 @@ ReportsAll day told told' old new (Err Memory) =
     ⊎ PrintsFront day told' old new after mid rows)
 
 -- the server answered what a login used on that day
-pub record IsUsage (day : ℕ) (login : List ℕ) (old new : Option (List Told)) (row : UsageRow) : Type 0 where
+pub record IsUsage (day : ℕ) (login : List ℕ) (old new : Option (List ReportedExchange)) (row : UsageRow) : Type 0 where
   pub answered : IsAnswered (asks.Usage login day) (says.Usage login day row.settled row.reserved row.cap) old new
   pub of_login : row.login ≡ login
 
@@ -135,7 +135,7 @@ abbrev pub HasRow : Reply → UsageRow → Type 0
 HasRow reply row = (day : ℕ) × (reply ≡ says.Usage row.login day row.settled row.reserved row.cap)
 
 -- What asking for a login's usage leads to.
-abbrev pub AsksUsage : ℕ → List ℕ → Option (List Told) → Option (List Told) → Result UsageRow ReportFault → Type 0
+abbrev pub AsksUsage : ℕ → List ℕ → Option (List ReportedExchange) → Option (List ReportedExchange) → Result UsageRow ReportFault → Type 0
 AsksUsage day login old new (Ok row) = IsUsage day login old new row
 AsksUsage day login old new (Err (Unanswered fault)) = Asks (asks.Usage login day) old new (Err fault)
 AsksUsage day login old new (Err Memory) = new ≡ old
@@ -150,7 +150,7 @@ PrintsRow row old new (Err _) = ⊥
 
 -- The report of one login: its line. Where it isn't done, nothing; a prefix of the line where the output or memory
 -- fails.
-abbrev pub ReportsOne : ℕ → List ℕ → Option (List Told) → Option (List Told) → Option (List ℕ) → Option (List ℕ)
+abbrev pub ReportsOne : ℕ → List ℕ → Option (List ReportedExchange) → Option (List ReportedExchange) → Option (List ℕ) → Option (List ℕ)
     → Result (Unit {0}) ReportFault → Type 0
 ReportsOne day login told told' old new (Ok _) =
     (row : UsageRow) × IsUsage day login told told' row × Appends old new (row_line row)
@@ -164,7 +164,7 @@ ReportsOne day login told told' old new (Err Memory) =
 ReportsOne day login told told' old new (Err _) = ⊥
 
 -- the report of a login, or without one that of all
-abbrev pub Reports : ℕ → Option (List ℕ) → Option (List Told) → Option (List Told) → Option (List ℕ) → Option (List ℕ)
+abbrev pub Reports : ℕ → Option (List ℕ) → Option (List ReportedExchange) → Option (List ReportedExchange) → Option (List ℕ) → Option (List ℕ)
     → Result (Unit {0}) ReportFault → Type 0
 Reports day (Some login) = ReportsOne day login
 Reports day None = ReportsAll day

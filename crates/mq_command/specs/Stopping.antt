@@ -9,19 +9,19 @@ use Rattle.mq_command.specs.Orders.{Prints}
 use Rattle.mq_command.specs.Usage.{AsksUsed, ByUsage, FailsToAsk, LooksBack}
 use Rattle.mq_command.specs.declared.allow.AllowFault.{AllowFault}
 use Rattle.mq_command.specs.declared.allow.AllowFault.TheVariants.{Order, Idle, NotStopped, NoFormer}
-use Rattle.mq_command.specs.declared.allow.Restored.{Restored}
+use Rattle.mq_command.specs.declared.allow.RestoredLimit.{RestoredLimit}
 use Rattle.mq_command.specs.declared.allow.Setter.{Setter}
 use Rattle.mq_command.specs.declared.ask.AskFault.{AskFault}
-use Rattle.mq_command.specs.declared.hold.Held.{Held}
+use Rattle.mq_command.specs.declared.hold.HeldLimit.{HeldLimit}
 use Rattle.mq_command.specs.declared.hold.LaterUse.{LaterUse}
 use Rattle.mq_command.specs.declared.later.Later.{Later}
-use Rattle.mq_command.specs.declared.look_back.Sought.TheVariants.{Use, Limit}
+use Rattle.mq_command.specs.declared.look_back.SoughtDay.TheVariants.{Use, Limit}
 use Rattle.mq_command.specs.declared.order.OrderFault.{OrderFault}
 use Rattle.mq_command.specs.declared.order.OrderFault.TheVariants.{Unanswered}
 use Rattle.mq_command.specs.declared.stop.StopOrder.{StopOrder}
-use Rattle.mq_command.specs.declared.stop.Stopped.{Stopped}
+use Rattle.mq_command.specs.declared.stop.StoppedLogin.{StoppedLogin}
 use Rattle.mq_command.specs.declared.usage.DayUsage.{DayUsage}
-use Rattle.mq_link.specs.declared.link.Told.{Told}
+use Rattle.mq_link.specs.declared.link.ReportedExchange.{ReportedExchange}
 
 -- a question about the login wasn't answered
 abbrev pub unanswered : AskFault → AllowFault
@@ -29,14 +29,14 @@ unanswered fault = Order (Unanswered fault)
 
 -- What asking whether a login sent something lately leads to: it did where it used something on the day or one of the two
 -- before, and didn't where nothing is found or no answer comes.
-abbrev pub HasSent : List ℕ → ℕ → Option (List Told) → Option (List Told) → Bool → Type 0
+abbrev pub HasSent : List ℕ → ℕ → Option (List ReportedExchange) → Option (List ReportedExchange) → Bool → Type 0
 HasSent login day old new true = (found : ℕ) × LooksBack Use login day 3 old new (Ok (Some found))
 HasSent login day old new false =
     LooksBack Use login day 3 old new (Ok None) ⊎ ((cause : AskFault) × LooksBack Use login day 3 old new (Err cause))
 
 -- What checking that a login is meant leads to: nothing where that is clear, else it used something on the day or one of the
 -- two before.
-abbrev pub ChecksUse : List ℕ → ℕ → Bool → Option (List Told) → Option (List Told) → Result (Unit {0}) AllowFault → Type 0
+abbrev pub ChecksUse : List ℕ → ℕ → Bool → Option (List ReportedExchange) → Option (List ReportedExchange) → Result (Unit {0}) AllowFault → Type 0
 ChecksUse login day true old new (Ok _) = new ≡ old
 ChecksUse login day true old new (Err _) = ⊥
 ChecksUse login day false old new (Ok _) = (found : ℕ) × LooksBack Use login day 3 old new (Ok (Some found))
@@ -50,28 +50,28 @@ abbrev pub is_clear : Bool → DayUsage → Bool
 is_clear meant usage = meant || not (usage.used == 0)
 
 -- What letting a login that used so much on a day have nothing more, there and on each later day, leads to.
-abbrev pub HoldsAll : Setter → ℕ → DayUsage → Option (List Told) → Option (List Told) → Result Stopped OrderFault → Type 0
+abbrev pub HoldsAll : Setter → ℕ → DayUsage → Option (List ReportedExchange) → Option (List ReportedExchange) → Result StoppedLogin OrderFault → Type 0
 HoldsAll setter day usage old new (Ok stopped) =
     (stopped.former ≡ usage.cap)
-    × ((mid : Option (List Told)) × Holds setter 1 day usage old mid (Ok stopped.held) × HoldsLater setter day mid new (Ok stopped.later))
+    × ((mid : Option (List ReportedExchange)) × Holds setter 1 day usage old mid (Ok stopped.held) × HoldsLater setter day mid new (Ok stopped.later))
 HoldsAll setter day usage old new (Err fault) =
     Holds setter 1 day usage old new (Err fault)
-    ⊎ ((held : Held) × (mid : Option (List Told)) × Holds setter 1 day usage old mid (Ok held) × HoldsLater setter day mid new (Err fault))
+    ⊎ ((held : HeldLimit) × (mid : Option (List ReportedExchange)) × Holds setter 1 day usage old mid (Ok held) × HoldsLater setter day mid new (Err fault))
 
 -- What stopping a login leads to: it has nothing more, where it is meant, and no limit of the day above the one that it had.
-abbrev pub Stops : Setter → ℕ → Bool → Option (List Told) → Option (List Told) → Result Stopped AllowFault → Type 0
+abbrev pub Stops : Setter → ℕ → Bool → Option (List ReportedExchange) → Option (List ReportedExchange) → Result StoppedLogin AllowFault → Type 0
 Stops setter day meant old new (Ok stopped) =
-    ByUsage setter day old (λ usage asked. (clear : Option (List Told))
+    ByUsage setter day old (λ usage asked. (clear : Option (List ReportedExchange))
     × ChecksUse setter.login day (is_clear meant usage) asked clear (Ok tt) × HoldsAll setter day usage clear new (Ok stopped))
 Stops setter day meant old new (Err fault) =
     ((cause : OrderFault) × FailsToAsk setter day old new cause × (fault ≡ Order cause))
     ⊎ (ByUsage setter day old (λ usage asked. ChecksUse setter.login day (is_clear meant usage) asked new (Err fault))
-    ⊎ ByUsage setter day old (λ usage asked. (clear : Option (List Told)) × (cause : OrderFault)
+    ⊎ ByUsage setter day old (λ usage asked. (clear : Option (List ReportedExchange)) × (cause : OrderFault)
     × ChecksUse setter.login day (is_clear meant usage) asked clear (Ok tt)
     × HoldsAll setter day usage clear new (Err cause) × (fault ≡ Order cause)))
 
 -- What letting a login have so many more leads to, up to the most that a limit may be.
-abbrev pub GivesMore : Setter → ℕ → ℕ → Option (List Told) → Option (List Told) → Result ℕ OrderFault → Type 0
+abbrev pub GivesMore : Setter → ℕ → ℕ → Option (List ReportedExchange) → Option (List ReportedExchange) → Result ℕ OrderFault → Type 0
 GivesMore setter day more old new (Ok cap) =
     ByUsage setter day old (λ usage asked. SetsBoth setter day 1000000 more usage.used asked new (Ok cap))
 GivesMore setter day more old new (Err fault) =
@@ -83,7 +83,7 @@ abbrev pub at_least : ℕ → ℕ → ℕ
 at_least limit used = min (max limit used) 1000000
 
 -- What giving a login a limit leads to: no limit of the day is above it, unless more is used.
-abbrev pub GivesLimit : Setter → ℕ → ℕ → Option (List Told) → Option (List Told) → Result ℕ OrderFault → Type 0
+abbrev pub GivesLimit : Setter → ℕ → ℕ → Option (List ReportedExchange) → Option (List ReportedExchange) → Result ℕ OrderFault → Type 0
 GivesLimit setter day limit old new (Ok cap) =
     ByUsage setter day old (λ usage asked. SetsBoth setter day (at_least limit usage.used) limit usage.used asked new (Ok cap))
 GivesLimit setter day limit old new (Err fault) =
@@ -91,42 +91,42 @@ GivesLimit setter day limit old new (Err fault) =
     ⊎ ByUsage setter day old (λ usage asked. SetsBoth setter day (at_least limit usage.used) limit usage.used asked new (Err fault))
 
 -- the limit of the next day is 0, as was asked and answered
-abbrev pub IsStopped : List ℕ → ℕ → Option (List Told) → Option (List Told) → Type 0
+abbrev pub IsStopped : List ℕ → ℕ → Option (List ReportedExchange) → Option (List ReportedExchange) → Type 0
 IsStopped login day old new = (next : DayUsage) × AsksUsed login (day + 1) old new (Ok next) × (next.cap ≡ 0)
 
 -- the latest day is this one, from a day back, whose limit isn't 0, and the day after it is the first of a login that is stopped
-abbrev pub IsLatest : List ℕ → ℕ → ℕ → Option (List Told) → Option (List Told) → Type 0
+abbrev pub IsLatest : List ℕ → ℕ → ℕ → Option (List ReportedExchange) → Option (List ReportedExchange) → Type 0
 IsLatest login day latest old new =
-    (asked : Option (List Told)) × IsStopped login day old asked × LooksBack Limit login day 400 asked new (Ok (Some latest))
+    (asked : Option (List ReportedExchange)) × IsStopped login day old asked × LooksBack Limit login day 400 asked new (Ok (Some latest))
 
 -- What looking for the limit that a login had before it was stopped leads to: that of the day before the latest whose limit
 -- isn't 0.
-abbrev pub FindsFormer : List ℕ → ℕ → Option (List Told) → Option (List Told) → Result ℕ AllowFault → Type 0
+abbrev pub FindsFormer : List ℕ → ℕ → Option (List ReportedExchange) → Option (List ReportedExchange) → Result ℕ AllowFault → Type 0
 FindsFormer login day old new (Ok limit) =
-    (latest : ℕ) × (mid : Option (List Told)) × (usage : DayUsage) × (0 < latest) × IsLatest login day latest old mid
+    (latest : ℕ) × (mid : Option (List ReportedExchange)) × (usage : DayUsage) × (0 < latest) × IsLatest login day latest old mid
     × AsksUsed login (latest - 1) mid new (Ok usage) × (usage.cap ≡ limit) × (0 < limit)
 FindsFormer login day old new (Err (NotStopped other)) =
     (other ≡ day) × ((next : DayUsage) × AsksUsed login (day + 1) old new (Ok next) × (0 < next.cap))
 FindsFormer login day old new (Err NoFormer) =
-    ((asked : Option (List Told)) × IsStopped login day old asked × LooksBack Limit login day 400 asked new (Ok None))
+    ((asked : Option (List ReportedExchange)) × IsStopped login day old asked × LooksBack Limit login day 400 asked new (Ok None))
     ⊎ (IsLatest login day 0 old new
-    ⊎ ((latest : ℕ) × (mid : Option (List Told)) × (usage : DayUsage) × (0 < latest) × IsLatest login day latest old mid
+    ⊎ ((latest : ℕ) × (mid : Option (List ReportedExchange)) × (usage : DayUsage) × (0 < latest) × IsLatest login day latest old mid
     × AsksUsed login (latest - 1) mid new (Ok usage) × (usage.cap ≡ 0)))
 FindsFormer login day old new (Err (Order (Unanswered cause))) =
     AsksUsed login (day + 1) old new (Err cause)
-    ⊎ (((asked : Option (List Told)) × IsStopped login day old asked × LooksBack Limit login day 400 asked new (Err cause))
-    ⊎ ((latest : ℕ) × (mid : Option (List Told)) × (0 < latest) × IsLatest login day latest old mid
+    ⊎ (((asked : Option (List ReportedExchange)) × IsStopped login day old asked × LooksBack Limit login day 400 asked new (Err cause))
+    ⊎ ((latest : ℕ) × (mid : Option (List ReportedExchange)) × (0 < latest) × IsLatest login day latest old mid
     × AsksUsed login (latest - 1) mid new (Err cause)))
 FindsFormer login day old new (Err _) = ⊥
 
 -- What `resume` without a number leads to: the limit that the login had before it was stopped.
-abbrev pub Restores : Setter → ℕ → Option (List Told) → Option (List Told) → Result Restored AllowFault → Type 0
+abbrev pub Restores : Setter → ℕ → Option (List ReportedExchange) → Option (List ReportedExchange) → Result RestoredLimit AllowFault → Type 0
 Restores setter day old new (Ok restored) =
-    (asked : Option (List Told)) × FindsFormer setter.login day old asked (Ok restored.limit)
+    (asked : Option (List ReportedExchange)) × FindsFormer setter.login day old asked (Ok restored.limit)
     × GivesLimit setter day restored.limit asked new (Ok restored.cap)
 Restores setter day old new (Err fault) =
     FindsFormer setter.login day old new (Err fault)
-    ⊎ ((limit : ℕ) × (asked : Option (List Told)) × (cause : OrderFault) × FindsFormer setter.login day old asked (Ok limit)
+    ⊎ ((limit : ℕ) × (asked : Option (List ReportedExchange)) × (cause : OrderFault) × FindsFormer setter.login day old asked (Ok limit)
     × GivesLimit setter day limit asked new (Err cause) × (fault ≡ Order cause))
 
 -- what it did on the day, or may do
@@ -140,16 +140,16 @@ later_line day later =
     if later.last == day then [] else codes "limit after: " ++ decimal later.most ++ codes " up to day " ++ decimal later.last ++ 10 ∷ []
 
 -- the limit that it had on the day, and what it may have on later days
-abbrev pub former_lines : Stopped → ℕ → List ℕ
+abbrev pub former_lines : StoppedLogin → ℕ → List ℕ
 former_lines stopped day = codes "limit before: " ++ decimal stopped.former ++ 10 ∷ later_line day stopped.later
 
 -- what `stop` prints where it is done
-abbrev pub stopped_lines : List ℕ → Stopped → ℕ → List ℕ
+abbrev pub stopped_lines : List ℕ → StoppedLogin → ℕ → List ℕ
 stopped_lines login stopped day =
     day_line (codes "stopped: ") login (verb stopped.held.is_more) stopped.held.cap day ++ former_lines stopped day
 
 -- limits of later days were looked for where the login is stopped and that was printed, and nothing more was asked where not
-abbrev pub LooksLater : Setter → StopOrder → Result Stopped AllowFault → ℕ → ℕ → Option (List Told) → Option (List Told) → Type 0
+abbrev pub LooksLater : Setter → StopOrder → Result StoppedLogin AllowFault → ℕ → ℕ → Option (List ReportedExchange) → Option (List ReportedExchange) → Type 0
 LooksLater setter order (Ok stopped) zero status old new =
     (found : Result (Option Later) OrderFault) × (status ≡ later_status found)
     × ClearsLater setter order.day stopped.later order.is_all old new found
@@ -157,15 +157,15 @@ LooksLater setter order (Ok stopped) (suc first) status old new = (status ≡ su
 LooksLater setter order (Err fault) first status old new = (status ≡ first) × (new ≡ old)
 
 -- What `stop` leads to at a server: the login is stopped, that is printed, and limits of later days are looked for.
-abbrev pub RunsStop : Setter → StopOrder → ℕ → Option (List Told) → Option (List Told) → Option (List ℕ) → Option (List ℕ) → Type 0
+abbrev pub RunsStop : Setter → StopOrder → ℕ → Option (List ReportedExchange) → Option (List ReportedExchange) → Option (List ℕ) → Option (List ℕ) → Type 0
 RunsStop setter order status old new output output' =
-    (ended : Result Stopped AllowFault) × (first : ℕ) × (mid : Option (List Told))
+    (ended : Result StoppedLogin AllowFault) × (first : ℕ) × (mid : Option (List ReportedExchange))
     × Stops setter order.day order.is_meant old mid ended
     × Prints (λ stopped. stopped_lines setter.login stopped order.day) output output' ended first
     × LooksLater setter order ended first status mid new
 
 -- what `resume` prints where it gave a limit back
-abbrev pub restored_lines : List ℕ → Restored → ℕ → List ℕ
+abbrev pub restored_lines : List ℕ → RestoredLimit → ℕ → List ℕ
 restored_lines login restored day =
     day_line (codes "resumed: ") login (codes " may use ") restored.cap day
     ++ codes "limit after: " ++ decimal restored.limit ++ 10 ∷ []

@@ -5,7 +5,7 @@ use Rattle.std.specs.Ordering.{is_lt, nat_cmp}
 use Rattle.std.specs.List.Sorted.{IsPermutation, IsSortedBy, IsStableBy}
 use Rattle.mq_request.specs.declared.message.Request.TheVariants as asks
 use Rattle.mq_request.specs.declared.usage.UsageRow.{UsageRow}
-use Rattle.mq_link.specs.declared.link.Told.{Told}
+use Rattle.mq_link.specs.declared.link.ReportedExchange.{ReportedExchange}
 use Rattle.mq_stream.specs.Flow.{AppendsFront}
 use Rattle.mq_command.specs.Asking.{Asks}
 use Rattle.mq_command.specs.Report.{AfterPages, AreFullPages, IsBadPage, IsPage, report_lines}
@@ -30,7 +30,7 @@ pub record IsTop (count : ℕ) (rows top : List UsageRow) : Type 0 where
   pub first : top ≡ take count sorted
 
 -- What asking for the rows of all logins of the day leads to: those of its pages, of which the last alone has fewer than 100.
-abbrev pub CollectsAll : ℕ → Option (List Told) → Option (List Told) → Result (List UsageRow) ReportFault → Type 0
+abbrev pub CollectsAll : ℕ → Option (List ReportedExchange) → Option (List ReportedExchange) → Result (List UsageRow) ReportFault → Type 0
 CollectsAll day told told' (Ok all) =
     AfterPages day told (λ after mid rows. (more : List UsageRow) × IsPage day after mid told' more × (length more < 100)
     × (all ≡ rows ++ more))
@@ -53,7 +53,7 @@ PrintsTop count rows old new (Err Memory) =
 PrintsTop count rows old new (Err _) = ⊥
 
 -- The report of those that used most of all logins of the day. Nothing is printed where not all rows came.
-abbrev pub ReportsTop : ℕ → ℕ → Option (List Told) → Option (List Told) → Option (List ℕ) → Option (List ℕ)
+abbrev pub ReportsTop : ℕ → ℕ → Option (List ReportedExchange) → Option (List ReportedExchange) → Option (List ℕ) → Option (List ℕ)
     → Result (Unit {0}) ReportFault → Type 0
 ReportsTop day count told told' old new (Ok done) =
     (rows : List UsageRow) × CollectsAll day told told' (Ok rows) × PrintsTop count rows old new (Ok done)

@@ -1,15 +1,18 @@
-//! `resume`: how many recipients a login may have, today and on each later day; and the limits that `stop` sets, too.
+//! `resume`: how many recipients a login may have, today and on each later day; and the limits that
+//! `stop` sets, too.
 ghost use Rattle.std.specs.Prelude.{◌≡◌, ◌+◌, ℕ, IfOk, string_bytes, Result as AnyResult};
 ghost use Rattle.mq_request.specs.Range.{IsAmount, IsDay, IsLogin, IsWithin};
-ghost use Rattle.mq_command.specs.Allowing.{IsSetter, SetsAbove, SetsBoth, allowed, day_line, limit_of, resumed_line};
-ghost use Rattle.mq_command.specs.Stopping.{FindsFormer, GivesLimit, GivesMore, Restores, restored_lines};
+ghost use Rattle.mq_command.specs.Allowing.{IsSetter, SetsAbove, SetsBoth, allowed, day_line};
+ghost use Rattle.mq_command.specs.Allowing.{limit_of, resumed_line};
+ghost use Rattle.mq_command.specs.Stopping.{FindsFormer, GivesLimit, GivesMore, Restores};
+ghost use Rattle.mq_command.specs.Stopping.{restored_lines};
 ghost use Rattle.mq_command.specs.Orders.{OrdersFresh, Prints};
 ghost use Rattle.mq_command.specs.declared.allow.AllowFault.{AllowFault as AnyAllowFault};
-ghost use Rattle.mq_command.specs.declared.allow.Restored.{Restored as AnyRestored};
+ghost use Rattle.mq_command.specs.declared.allow.RestoredLimit.{RestoredLimit as AnyRestoredLimit};
 ghost use Rattle.mq_command.specs.declared.order.OrderFault.{OrderFault as AnyOrderFault};
 
 use crate::ask::AskFault;
-use crate::look_back::{Sought, look_back};
+use crate::look_back::{SoughtDay, look_back};
 use crate::order::{OrderFault, order_fresh};
 use crate::printed::login_text;
 use crate::telling::{say, tell_line};
@@ -21,8 +24,9 @@ use std::alloc::{AllocError, Global};
 use std::io::Write;
 use thiserror::Error;
 
-/// How often the limit of a day is sent where the login uses more meanwhile. The last is the most that a limit may be, or
-/// the one that the login had, if it is to have nothing more; no login uses more than its limit.
+/// How often the limit of a day is sent where the login uses more meanwhile. The last is the most
+/// that a limit may be, or the one that the login had, if it is to have nothing more; no login uses
+/// more than its limit.
 pub(crate) const LIMITS: u32 = 18;
 
 /// How many days back a limit is sought that the login had before it was stopped.
@@ -90,7 +94,8 @@ pub(crate) fn set_limit<L: Link>(
     requires number { IsWithin 1 3000 number }
     requires day { IsDay day }
     requires cap { IsAmount cap }
-    ensures { OrdersFresh (limit_of setter.now number day cap) (L.told link.old) (L.told link.new) result }
+    ensures { OrdersFresh (limit_of setter.now number day cap) (L.told link.old)
+        (L.told link.new) result }
 {
     match limit_of(alloc, setter, number, day, cap) {
         Ok(mut request) => order_fresh(alloc, link, &mut request),
@@ -98,8 +103,8 @@ pub(crate) fn set_limit<L: Link>(
     }
 }
 
-/// The limit of a day on which so much is used: so many more, and room for what is used meanwhile, but never above the
-/// most.
+/// The limit of a day on which so much is used: so many more, and room for what is used meanwhile,
+/// but never above the most.
 pub(crate) fn allowed(most: u32, used: u32, more: u32, room: u32) -> u32
     requires { IsAmount most }
     ensures { result ≡ allowed most used more room }
@@ -107,9 +112,10 @@ pub(crate) fn allowed(most: u32, used: u32, more: u32, room: u32) -> u32
     used.saturating_add(more).saturating_add(room).min(most)
 }
 
-/// Sets the limit of a day to what is used and so many more, but never above the most. Where more is used on that day
-/// meanwhile it is sent again with what is used then, and with room for what is used meanwhile, which grows to twice as much
-/// each time. More that is used on a later day is no reason to add room on this one: then it ends, as a limit does.
+/// Sets the limit of a day to what is used and so many more, but never above the most. Where more
+/// is used on that day meanwhile it is sent again with what is used then, and with room for what is
+/// used meanwhile, which grows to twice as much each time. More that is used on a later day is no
+/// reason to add room on this one: then it ends, as a limit does.
 fn set_above<L: Link>(
     alloc: Global,
     link: &mut L,
@@ -146,8 +152,8 @@ fn set_above<L: Link>(
     }
 }
 
-/// Sets the limit of a day to what is used and so many more, but never above the most, and then that of each later day to so
-/// many. The result is the day's limit.
+/// Sets the limit of a day to what is used and so many more, but never above the most, and then
+/// that of each later day to so many. The result is the day's limit.
 fn set_both<L: Link>(
     alloc: Global,
     link: &mut L,
@@ -173,8 +179,9 @@ fn set_both<L: Link>(
     }
 }
 
-/// The limit that a login had before it was stopped: that of the day before the latest one, from this day back, whose limit
-/// isn't 0. A login isn't stopped where the limit of the next day isn't 0.
+/// The limit that a login had before it was stopped: that of the day before the latest one, from
+/// this day back, whose limit isn't 0. A login isn't stopped where the limit of the next day isn't
+/// 0.
 fn former<L: Link>(alloc: Global, link: &mut L, login: &Login, day: u32) -> Result<u32, AllowFault>
     requires login { IsLogin login.now }
     requires day { IsDay (day + 1) }
@@ -189,7 +196,7 @@ fn former<L: Link>(alloc: Global, link: &mut L, login: &Login, day: u32) -> Resu
         }
         Err(fault) => return Err(AllowFault::Order(OrderFault::Unanswered(fault))),
     }
-    let latest = match look_back(alloc, link, Sought::Limit, login, day, FORMER_DAYS) {
+    let latest = match look_back(alloc, link, SoughtDay::Limit, login, day, FORMER_DAYS) {
         Ok(Some(latest)) => latest,
         Ok(None) => return Err(AllowFault::NoFormer),
         Err(fault) => return Err(AllowFault::Order(OrderFault::Unanswered(fault))),
@@ -208,7 +215,8 @@ fn former<L: Link>(alloc: Global, link: &mut L, login: &Login, day: u32) -> Resu
     }
 }
 
-/// Lets a login have so many recipients more on a day, and so many on each later day. The result is the day's limit.
+/// Lets a login have so many recipients more on a day, and so many on each later day. The result is
+/// the day's limit.
 fn give_more<L: Link>(
     alloc: Global,
     link: &mut L,
@@ -227,7 +235,8 @@ fn give_more<L: Link>(
     }
 }
 
-/// Gives a login a limit on a day and on each later day, and on the day at least what it used. The result is the day's limit.
+/// Gives a login a limit on a day and on each later day, and on the day at least what it used. The
+/// result is the day's limit.
 fn give_limit<L: Link>(
     alloc: Global,
     link: &mut L,
@@ -258,7 +267,8 @@ pub(crate) fn line_of(
     cap: u32,
     day: u32,
 ) -> Result<String, AllocError>
-    ensures { IfOk result (λ line. string_bytes line ≡ day_line begin.now login.now middle.now cap day) }
+    ensures { IfOk result (λ line. string_bytes line ≡ day_line begin.now login.now middle.now cap
+        day) }
 {
     let mut line = String::from_str(alloc, begin)?;
     line.push_str(login_text(alloc, login.as_slice())?.as_str())?;
@@ -270,8 +280,9 @@ pub(crate) fn line_of(
     Ok(line)
 }
 
-/// Lets a login have so many recipients more on a day, and so many on each later day, and prints on `output` how many it
-/// may have on that day, or says on `errors` why not both limits are set. The result is the exit status, 0 or 1.
+/// Lets a login have so many recipients more on a day, and so many on each later day, and prints on
+/// `output` how many it may have on that day, or says on `errors` why not both limits are set. The
+/// result is the exit status, 0 or 1.
 ///
 /// `day` is a day number, 0 to 376,199, and `more` is 0 to 1,000,000.
 pub fn run_resume<L: Link, W: Write, E: Write>(
@@ -288,7 +299,8 @@ pub fn run_resume<L: Link, W: Write, E: Write>(
     requires more { IsAmount more }
     ensures resumes { (ended : AnyResult ℕ AnyOrderFault)
         × GivesMore setter.now day more (L.told link.old) (L.told link.new) ended
-        × Prints (λ cap. resumed_line setter.now.login cap day) (W.contents output.old) (W.contents output.new) ended
+        × Prints (λ cap. resumed_line setter.now.login cap day) (W.contents output.old)
+        (W.contents output.new) ended
         result }
     ensures quiet { result ≡ 0 → errors.new ≡ errors.old }
 {
@@ -303,7 +315,7 @@ pub fn run_resume<L: Link, W: Write, E: Write>(
 
 /// What giving a login its limit back came to.
 #[derive(Clone, Copy, Debug)]
-struct Restored {
+struct RestoredLimit {
     /// The limit of the day.
     cap: u32,
     /// The limit of each later day.
@@ -316,7 +328,7 @@ fn restore<L: Link>(
     link: &mut L,
     setter: &Setter,
     day: u32,
-) -> Result<Restored, AllowFault>
+) -> Result<RestoredLimit, AllowFault>
     requires setter { IsSetter setter.now }
     requires day { IsDay (day + 1) }
     ensures { Restores setter.now day (L.told link.old) (L.told link.new) result }
@@ -326,16 +338,17 @@ fn restore<L: Link>(
         Err(fault) => return Err(fault),
     };
     match give_limit(alloc, link, setter, day, limit) {
-        Ok(cap) => Ok(Restored { cap, limit }),
+        Ok(cap) => Ok(RestoredLimit { cap, limit }),
         Err(fault) => Err(AllowFault::Order(fault)),
     }
 }
 
-/// The lines that say that a login has its limit back: how much it may use on the day, and its limit from then on.
+/// The lines that say that a login has its limit back: how much it may use on the day, and its
+/// limit from then on.
 fn restored_text(
     alloc: Global,
     login: &Login,
-    restored: Restored,
+    restored: RestoredLimit,
     day: u32,
 ) -> Result<String, AllocError>
     ensures { IfOk result (λ lines. string_bytes lines ≡ restored_lines login.now restored day) }
@@ -347,12 +360,12 @@ fn restored_text(
     Ok(lines)
 }
 
-/// Gives a login the limit back, on a day and each later day, that it had before it was stopped, and prints on `output` how
-/// many recipients it may have on that day and which limit it has then, or says on `errors` why not both limits are set. The
-/// result is the exit status, 0 or 1.
+/// Gives a login the limit back, on a day and each later day, that it had before it was stopped,
+/// and prints on `output` how many recipients it may have on that day and which limit it has then,
+/// or says on `errors` why not both limits are set. The result is the exit status, 0 or 1.
 ///
-/// The limit is that of the day before the latest one, of the given day and the 399 before, whose limit isn't 0. `day` is a
-/// day number, 0 to 376,199.
+/// The limit is that of the day before the latest one, of the given day and the 399 before, whose
+/// limit isn't 0. `day` is a day number, 0 to 376,199.
 pub fn run_restore<L: Link, W: Write, E: Write>(
     alloc: Global,
     link: &mut L,
@@ -363,7 +376,7 @@ pub fn run_restore<L: Link, W: Write, E: Write>(
 ) -> u8
     requires setter { IsSetter setter.now }
     requires day { IsDay (day + 1) }
-    ensures restores { (ended : AnyResult AnyRestored AnyAllowFault)
+    ensures restores { (ended : AnyResult AnyRestoredLimit AnyAllowFault)
         × Restores setter.now day (L.told link.old) (L.told link.new) ended
         × Prints (λ restored. restored_lines setter.now.login restored day) (W.contents output.old)
         (W.contents output.new) ended result }

@@ -7,7 +7,7 @@ ghost use Rattle.mq_request.specs.declared.message.Reply.{Reply as AnyReply};
 ghost use Rattle.mq_command.specs.Asking.{fits, Asks, IsMissed, Sends};
 ghost use Rattle.mq_link.specs.Link.{Brings, Tells};
 ghost use Rattle.mq_command.specs.declared.ask.AskFault.TheVariants.{Memory as NoMemory};
-ghost use Rattle.mq_link.specs.declared.link.Told.{Told};
+ghost use Rattle.mq_link.specs.declared.link.ReportedExchange.{ReportedExchange};
 
 use mq_frame::{DecodeFault, decode_reply, encode_request};
 use mq_link::Link;
@@ -77,7 +77,8 @@ pub(crate) fn try_once<L: Link>(
     body: &mut Vec<u8>,
 ) -> Result<Option<Reply>, AllocError>
     requires { frame.now ≡ request_frame request.now }
-    ensures { (one : Told) × Sends request.now one × Tells (L.told link.old) (L.told link.new) (one ∷ [])
+    ensures { (one : ReportedExchange) × Sends request.now one
+        × Tells (L.told link.old) (L.told link.new) (one ∷ [])
         × MatchResult result (λ answer. MatchOption answer (IsMissed request.now one)
         (λ reply. Brings one.outcome reply × (fits request.now reply ≡ true)))
         (λ fault. (reply : AnyReply) × Brings one.outcome reply) }

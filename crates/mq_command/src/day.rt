@@ -19,8 +19,9 @@ fn day_text(alloc: Global, day: u32) -> Result<String, AllocError>
     Ok(line)
 }
 
-/// Prints the ledger day of a moment on `output`, or says on `errors` why it can't. The result is the exit status,
-/// 0 or 1. `moment` is 86,400 to 32,503,680,000 seconds since 1970-01-01T00:00:00Z.
+/// Prints the ledger day of a moment on `output`, or says on `errors` why it can't. The result is
+/// the exit status, 0 or 1. `moment` is 86,400 to 32,503,680,000 seconds since
+/// 1970-01-01T00:00:00Z.
 pub fn run_day<W: Write, E: Write>(
     alloc: Global,
     zone: &Zone,
@@ -29,7 +30,8 @@ pub fn run_day<W: Write, E: Write>(
     errors: &mut E,
 ) -> u8
     requires { IsMoment moment }
-    ensures prints { PrintsLine (decimal (day_of zone.now moment) ++ 10 ∷ []) (W.contents output.old)
+    ensures prints { PrintsLine (decimal (day_of zone.now moment) ++ 10 ∷ [])
+        (W.contents output.old)
         (W.contents output.new) result }
     ensures quiet { result ≡ 0 → errors.new ≡ errors.old }
 {

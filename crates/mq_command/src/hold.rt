@@ -1,11 +1,13 @@
-//! The limits of a login that is stopped: on each day what it used there or later, and 0 from then on.
+//! The limits of a login that is stopped: on each day what it used there or later, and 0 from then
+//! on.
 ghost use Rattle.std.specs.Prelude.{◌≡◌, ◌≤◌, ◌<◌, ◌+◌, IfOk, IfSome};
 ghost use Rattle.mq_request.specs.Range.{IsAmount, IsDay, IsWithin};
 ghost use Rattle.mq_request.specs.declared.bounds.TheConstants.{LAST_DAY};
 ghost use Rattle.mq_command.specs.Allowing.{IsSetter};
-ghost use Rattle.mq_command.specs.Holding.{Holds, HoldsDay, HoldsLater, HoldsNext, after_refusal, held_cap, outcome};
+ghost use Rattle.mq_command.specs.Holding.{Holds, HoldsDay, HoldsLater, HoldsNext, after_refusal};
+ghost use Rattle.mq_command.specs.Holding.{held_cap, outcome};
 ghost use Rattle.mq_command.specs.declared.hold.AfterRefusal.TheVariants.{Again, Stays};
-ghost use Rattle.mq_command.specs.declared.hold.Held.{Held as AnyHeld};
+ghost use Rattle.mq_command.specs.declared.hold.HeldLimit.{HeldLimit as AnyHeldLimit};
 ghost use Rattle.mq_command.specs.declared.hold.Holding.{Holding as AnyHolding};
 
 use crate::allow::{LIMITS, Setter, allowed, set_limit};
@@ -18,8 +20,8 @@ use std::alloc::Global;
 /// On how many days after the one on which it is stopped a login may have used something.
 const LATER_DAYS: u32 = 100;
 
-/// How many numbers of the run belong to each day on which a login used something: 18 for its limit, and the 19th for that of
-/// the next day.
+/// How many numbers of the run belong to each day on which a login used something: 18 for its
+/// limit, and the 19th for that of the next day.
 const NUMBERS_OF_DAY: u32 = 20;
 
 /// What is known of a day whose limit is sent.
@@ -35,7 +37,7 @@ struct Holding {
 
 /// The limit of a day of a login that is stopped.
 #[derive(Clone, Copy, Debug)]
-pub(crate) struct Held {
+pub(crate) struct HeldLimit {
     /// Recipients a day.
     pub(crate) cap: u32,
     /// The last day that it is right for.
@@ -50,7 +52,7 @@ enum AfterRefusal {
     /// Another limit is sent.
     Again(Holding),
     /// The limit stays that the login has.
-    Stays(Held),
+    Stays(HeldLimit),
     /// The refusal makes no sense.
     Fails,
 }
@@ -73,13 +75,14 @@ fn held_cap(usage: DayUsage, holding: Holding) -> u32
     allowed(usage.cap, holding.used, 0, holding.room)
 }
 
-/// What follows where a limit of a day is refused since so much is used on some day. More that is used on a later day is no
-/// reason to add room. The limit is never above the one that the login has: where that is below what is used later, it stays.
+/// What follows where a limit of a day is refused since so much is used on some day. More that is
+/// used on a later day is no reason to add room. The limit is never above the one that the login
+/// has: where that is below what is used later, it stays.
 fn after_refusal(day: u32, usage: DayUsage, holding: Holding, over: u32, now: u32) -> AfterRefusal
     requires room { holding.room ≤ 1000000 }
     requires most { IsAmount usage.cap }
     ensures is { result ≡ after_refusal day usage holding over now }
-    ensures in_range { (stays : AnyHeld) → result ≡ Stays stays → IsAmount stays.cap }
+    ensures in_range { (stays : AnyHeldLimit) → result ≡ Stays stays → IsAmount stays.cap }
     ensures room { (next : AnyHolding) → result ≡ Again next → next.room ≤ 1000000 }
 {
     if over == day {
@@ -91,7 +94,7 @@ fn after_refusal(day: u32, usage: DayUsage, holding: Holding, over: u32, now: u3
     } else if over < day {
         AfterRefusal::Fails
     } else if usage.cap < now {
-        AfterRefusal::Stays(Held {
+        AfterRefusal::Stays(HeldLimit {
             cap: usage.cap,
             last: over - 1,
             is_more: true,
@@ -106,21 +109,22 @@ fn after_refusal(day: u32, usage: DayUsage, holding: Holding, over: u32, now: u3
 }
 
 /// The limit of a day that is set.
-fn outcome(day: u32, usage: DayUsage, holding: Holding) -> Held
+fn outcome(day: u32, usage: DayUsage, holding: Holding) -> HeldLimit
     requires { IsAmount usage.cap }
     ensures is { result ≡ outcome day usage holding }
     ensures in_range { IsAmount result.cap }
 {
-    Held {
+    HeldLimit {
         cap: held_cap(usage, holding),
         last: holding.last,
         is_more: holding.last != day,
     }
 }
 
-/// Sets the limit of a day to what is used there. Where more is used on that day meanwhile it is sent again with what is used
-/// then, and with room for what is used meanwhile, which grows to twice as much each time. Where more is used on a later day, it
-/// is sent again with that: the server takes no limit below it. The numbers begin with `first`.
+/// Sets the limit of a day to what is used there. Where more is used on that day meanwhile it is
+/// sent again with what is used then, and with room for what is used meanwhile, which grows to
+/// twice as much each time. Where more is used on a later day, it is sent again with that: the
+/// server takes no limit below it. The numbers begin with `first`.
 pub(crate) fn hold<L: Link>(
     alloc: Global,
     link: &mut L,
@@ -128,7 +132,7 @@ pub(crate) fn hold<L: Link>(
     first: u32,
     day: u32,
     usage: DayUsage,
-) -> Result<Held, OrderFault>
+) -> Result<HeldLimit, OrderFault>
     requires setter { IsSetter setter.now }
     requires first { IsWithin 1 2001 first }
     requires day { IsDay day }
@@ -169,7 +173,7 @@ fn hold_day<L: Link>(
     setter: &Setter,
     first: u32,
     day: u32,
-) -> Result<Held, OrderFault>
+) -> Result<HeldLimit, OrderFault>
     requires setter { IsSetter setter.now }
     requires first { IsWithin 1 2001 first }
     requires day { IsDay day }
@@ -182,8 +186,9 @@ fn hold_day<L: Link>(
     }
 }
 
-/// Sets the limit to 0 from the day on that follows the last one on which a login may have something. Where more is used then or
-/// later, that day's limit is set to what is used. The result is none where 0 is set.
+/// Sets the limit to 0 from the day on that follows the last one on which a login may have
+/// something. Where more is used then or later, that day's limit is set to what is used. The result
+/// is none where 0 is set.
 fn hold_next<L: Link>(
     alloc: Global,
     link: &mut L,
@@ -213,8 +218,8 @@ fn hold_next<L: Link>(
     }
 }
 
-/// Lets a login have nothing more on each day after this one: 0, or what it used on such a day, where the server takes nothing
-/// below that.
+/// Lets a login have nothing more on each day after this one: 0, or what it used on such a day,
+/// where the server takes nothing below that.
 pub(crate) fn hold_later<L: Link>(
     alloc: Global,
     link: &mut L,

@@ -48,8 +48,8 @@ fn most_on(later: LaterUse, day: u32) -> u32
     if day <= later.last { later.most } else { 0 }
 }
 
-/// Looks at the limit of a later day. Where it is above what a stopped login may have there, and all are to be lowered, it sets it
-/// to that under this number.
+/// Looks at the limit of a later day. Where it is above what a stopped login may have there, and
+/// all are to be lowered, it sets it to that under this number.
 fn clear_day<L: Link>(
     alloc: Global,
     link: &mut L,
@@ -63,7 +63,8 @@ fn clear_day<L: Link>(
     requires number { IsWithin 1 3000 number }
     requires day { IsDay day }
     requires most { IsAmount most }
-    ensures { ClearsDay setter.now number day most is_all (L.told link.old) (L.told link.new) result }
+    ensures { ClearsDay setter.now number day most is_all (L.told link.old)
+        (L.told link.new) result }
 {
     let usage = match ask_used(alloc, link, &setter.login, day) {
         Ok(usage) => usage,
@@ -84,8 +85,9 @@ fn clear_day<L: Link>(
     }
 }
 
-/// Looks at the days after the next one, and at the last day of all, for limits above what a stopped login may have, and lowers
-/// those of the days, if all are to be. The result is the first that stays in force.
+/// Looks at the days after the next one, and at the last day of all, for limits above what a
+/// stopped login may have, and lowers those of the days, if all are to be. The result is the first
+/// that stays in force.
 fn clear_later<L: Link>(
     alloc: Global,
     link: &mut L,
@@ -130,10 +132,11 @@ fn clear_later<L: Link>(
     )
 }
 
-/// Looks, after a login was stopped on a day, for limits that were set from a day after the next one: each governs from its day
-/// on. It lowers them to what the login may have, if all are to be, and says on `errors` which is the first that stays in force.
-/// It asks for what the login used on up to 399 days after the next one and on the last day of all. The result is the exit
-/// status: 0 where none stays, else 1.
+/// Looks, after a login was stopped on a day, for limits that were set from a day after the next
+/// one: each governs from its day on. It lowers them to what the login may have, if all are to be,
+/// and says on `errors` which is the first that stays in force. It asks for what the login used on
+/// up to 399 days after the next one and on the last day of all. The result is the exit status: 0
+/// where none stays, else 1.
 pub(crate) fn clear_and_say<L: Link, E: Write>(
     alloc: Global,
     link: &mut L,
@@ -146,7 +149,8 @@ pub(crate) fn clear_and_say<L: Link, E: Write>(
     requires setter { IsSetter setter.now }
     requires day { IsDay (day + 1) }
     requires most { IsAmount later.most }
-    ensures looks { (ended : AnyResult (AnyOption AnyLater) AnyOrderFault) × (result ≡ later_status ended)
+    ensures looks { (ended : AnyResult (AnyOption AnyLater) AnyOrderFault)
+        × (result ≡ later_status ended)
         × ClearsLater setter.now day later is_all (L.told link.old) (L.told link.new) ended }
     ensures quiet { result ≡ 0 → errors.new ≡ errors.old }
 {

@@ -11,8 +11,9 @@ use mq_ledger::laws::{
     one_more_floor, one_more_limit, one_more_of_a_transaction, one_more_on_a_day, open_transactions,
 };
 
-/// What is asked about a host leaves each login's use and limits as they were, what each transaction holds and the floor of
-/// each host, where the transaction that is asked about holds nothing. One with no entry holds nothing.
+/// What is asked about a host leaves each login's use and limits as they were, what each
+/// transaction holds and the floor of each host, where the transaction that is asked about holds
+/// nothing. One with no entry holds nothing.
 pub fn asking_about_a_host_changes_nothing()
     ensures { (day : ℕ → ℕ) (default : ℕ) (H : List AnyEntry) (host : List ℕ) (now : ℕ) →
         IsLegal day default H → held H (host_transaction host now) ≡ 0 →

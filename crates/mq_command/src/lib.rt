@@ -1,14 +1,15 @@
 //! What the subcommands of an administrator do, over any link and output.
 //!
-//! [`run_limit`], [`run_retire`] and [`run_report`] ask the server and print what comes of it; the result is the exit
-//! status. From `mq_remote/src/subcommands/report.rt`:
+//! [`run_limit`], [`run_retire`] and [`run_report`] ask the server and print what comes of it; the
+//! result is the exit status. From `mq_remote/src/subcommands/report.rt`:
 //!
-//!     Reported::One(login) => run_report(alloc, link, day, Some(login), output, errors),
+//!     ReportedLogins::One(login) => run_report(alloc, link, day, Some(login), output, errors),
 //!
-//! It stands on `mq_request`, `mq_stream`, `mq_frame`, `mq_ledger` and `mq_link`: it knows requests, any link and the
-//! days of a zone, and neither sockets, files nor the words of a command line. Begin with `ask.rt`, one question, and
-//! `report.rt`; their definitions are `specs/Asking.antt` and `specs/Report.antt`. `printed.rt` reads back a login that
-//! a report printed.
+//! It stands on `mq_request`, `mq_stream`, `mq_frame`, `mq_ledger` and `mq_link`: it knows
+//! requests, any link and the days of a zone, and neither sockets, files nor the words of a command
+//! line. Begin with `ask.rt`, one question, and `report.rt`; their definitions are
+//! `specs/Asking.antt` and `specs/Report.antt`. `printed.rt` reads back a login that a report
+//! printed.
 #![tactic(auto)]
 
 mod allow;

@@ -11,7 +11,7 @@ use std::alloc::Global;
 
 /// Which day is sought.
 #[derive(Clone, Copy, Debug, PartialEq)]
-pub enum Sought {
+pub enum SoughtDay {
     /// One on which the login used something.
     Use,
     /// One on which its limit isn't 0.
@@ -19,21 +19,21 @@ pub enum Sought {
 }
 
 /// Whether a day is one that is sought.
-fn is_sought(sought: Sought, usage: DayUsage) -> bool
+fn is_sought(sought: SoughtDay, usage: DayUsage) -> bool
     ensures { result ≡ is_sought sought usage }
 {
     match sought {
-        Sought::Use => usage.used != 0,
-        Sought::Limit => usage.cap != 0,
+        SoughtDay::Use => usage.used != 0,
+        SoughtDay::Limit => usage.cap != 0,
     }
 }
 
-/// Asks for what a login used on a day and then for the days before it, so many days in all, until one is sought, and
-/// gives that day.
+/// Asks for what a login used on a day and then for the days before it, so many days in all, until
+/// one is sought, and gives that day.
 pub fn look_back<L: Link>(
     alloc: Global,
     link: &mut L,
-    sought: Sought,
+    sought: SoughtDay,
     login: &Login,
     day: u32,
     days: u32,

@@ -1,10 +1,11 @@
 //! What is noted of a login that smtpd doesn't report so.
-ghost use Rattle.std.specs.Prelude.{◌≡◌, ◌≤◌, ◌<◌, ◌++◌, IfOk, List, OnOk, ℕ, map, option_map, string_bytes};
+ghost use Rattle.std.specs.Prelude.{◌≡◌, ◌≤◌, ◌<◌, ◌++◌, IfOk, List, OnOk, ℕ, map, option_map};
+ghost use Rattle.std.specs.Prelude.{string_bytes};
 ghost use Rattle.std.specs.List.{list_all, list_any};
 ghost use Rattle.mq_command.specs.Vis.{capital_text, is_capital, is_reported, low_text, lower};
 ghost use Rattle.mq_command.specs.Vis.{note_of, vis, vis_byte, vis_text};
 
-use mq_request::Escaped;
+use mq_request::EscapedText;
 use std::alloc::{AllocError, Global};
 
 /// Whether smtpd reports a byte of a login as it is; it encodes each other one.
@@ -109,7 +110,7 @@ fn vis_text(alloc: Global, login: &[u8]) -> Result<String, AllocError>
         "smtpd reports this login, in the form of --login-text, as ",
     )?;
     let shown = vis(alloc, login)?;
-    text.push_str(Escaped(shown.as_slice()).to_string(alloc)?.as_str())?;
+    text.push_str(EscapedText(shown.as_slice()).to_string(alloc)?.as_str())?;
     Ok(text)
 }
 
@@ -122,15 +123,17 @@ fn capital_text(alloc: Global, login: &[u8]) -> Result<String, AllocError>
         "the filter one-spelling refuses capitals, and lets only ",
     )?;
     let shown = lowered(alloc, login)?;
-    text.push_str(Escaped(shown.as_slice()).to_string(alloc)?.as_str())?;
+    text.push_str(EscapedText(shown.as_slice()).to_string(alloc)?.as_str())?;
     text.push_str(" send")?;
     Ok(text)
 }
 
-/// What is to be noted of a login that smtpd doesn't report so, if anything is: how it reports one with bytes that it
-/// encodes by vis(3), and which login the example filter `one-spelling` lets send of one with capitals.
+/// What is to be noted of a login that smtpd doesn't report so, if anything is: how it reports one
+/// with bytes that it encodes by vis(3), and which login the example filter `one-spelling` lets
+/// send of one with capitals.
 pub fn note_of(alloc: Global, login: &[u8]) -> Result<Option<String>, AllocError>
-    ensures { IfOk result (λ note. option_map (λ text. string_bytes text) note ≡ note_of login.now) }
+    ensures { IfOk result (λ note. option_map (λ text. string_bytes text) note
+        ≡ note_of login.now) }
 {
     if !are_reported(login) {
         return Ok(Some(vis_text(alloc, login)?));

@@ -1,7 +1,9 @@
-//! `limit` and `retire`: what an administrator orders, a limit of a login or that a host's runs are given up.
+//! `limit` and `retire`: what an administrator orders, a limit of a login or that a host's runs are
+//! given up.
 ghost use Rattle.std.specs.Prelude.{◌≡◌, ◌<◌, ◌+◌, true, false, Result as AnyResult};
 ghost use Rattle.mq_request.specs.declared.bounds.TheConstants.{LAST_RUN};
-ghost use Rattle.mq_command.specs.Orders.{AnswersOrder, IsLimit, IsOrder, IsRetire, Orders, OrdersFresh, Prints, Says, conflict};
+ghost use Rattle.mq_command.specs.Orders.{AnswersOrder, IsLimit, IsOrder, IsRetire, Orders};
+ghost use Rattle.mq_command.specs.Orders.{OrdersFresh, Prints, Says, conflict};
 ghost use Rattle.mq_command.specs.Orders.{is_taken, later, run_of, word};
 ghost use Rattle.mq_command.specs.declared.order.OrderFault.{OrderFault as AnyOrderFault};
 
@@ -104,9 +106,10 @@ fn renumber(request: &mut Request, runs: u64) -> bool
     true
 }
 
-/// Sends a limit under its number and, where that is used with another request, under those of the runs 1, 3, 7 and so
-/// on after it, up to `NUMBERS` in all. So a number is found soon that isn't used, however many limits a millisecond
-/// others send. A retire is never sent so: under a later run it would give up other runs.
+/// Sends a limit under its number and, where that is used with another request, under those of the
+/// runs 1, 3, 7 and so on after it, up to `NUMBERS` in all. So a number is found soon that isn't
+/// used, however many limits a millisecond others send. A retire is never sent so: under a later
+/// run it would give up other runs.
 pub fn order_fresh<L: Link>(
     alloc: Global,
     link: &mut L,
@@ -126,7 +129,8 @@ pub fn order_fresh<L: Link>(
     order(alloc, link, request)
 }
 
-/// Sends an order up to three times, and prints what came of it. The result is the exit status, 0 or 1.
+/// Sends an order up to three times, and prints what came of it. The result is the exit status, 0
+/// or 1.
 fn run_order<L: Link, W: Write, E: Write>(
     alloc: Global,
     link: &mut L,
@@ -137,7 +141,8 @@ fn run_order<L: Link, W: Write, E: Write>(
     requires { IsOrder request.now }
     ensures orders { (sent : AnyResult (Unit {0}) AnyOrderFault)
         × Orders request.now (L.told link.old) (L.told link.new) sent
-        × Prints (λ _. word request.now) (W.contents output.old) (W.contents output.new) sent result }
+        × Prints (λ _. word request.now) (W.contents output.old)
+        (W.contents output.new) sent result }
     ensures quiet { result ≡ 0 → errors.new ≡ errors.old }
 {
     let sent = order(alloc, link, request);
@@ -158,14 +163,16 @@ pub fn run_limit<L: Link, W: Write, E: Write>(
     requires { IsLimit request.now }
     ensures limits { (sent : AnyResult (Unit {0}) AnyOrderFault)
         × Orders request.now (L.told link.old) (L.told link.new) sent
-        × Prints (λ _. word request.now) (W.contents output.old) (W.contents output.new) sent result }
+        × Prints (λ _. word request.now) (W.contents output.old)
+        (W.contents output.new) sent result }
     ensures quiet { result ≡ 0 → errors.new ≡ errors.old }
 {
     run_order(alloc, link, request, output, errors)
 }
 
-/// Sends a retire up to three times and prints `retired` on `output` where the runs of its host below its
-/// own are given up, or says on `errors` why they aren't. The result is the exit status, 0 or 1.
+/// Sends a retire up to three times and prints `retired` on `output` where the runs of its host
+/// below its own are given up, or says on `errors` why they aren't. The result is the exit status,
+/// 0 or 1.
 ///
 /// The request is a retire whose fields are in range.
 pub fn run_retire<L: Link, W: Write, E: Write>(
@@ -178,15 +185,17 @@ pub fn run_retire<L: Link, W: Write, E: Write>(
     requires { IsRetire request.now }
     ensures retires { (sent : AnyResult (Unit {0}) AnyOrderFault)
         × Orders request.now (L.told link.old) (L.told link.new) sent
-        × Prints (λ _. word request.now) (W.contents output.old) (W.contents output.new) sent result }
+        × Prints (λ _. word request.now) (W.contents output.old)
+        (W.contents output.new) sent result }
     ensures quiet { result ≡ 0 → errors.new ≡ errors.old }
 {
     run_order(alloc, link, request, output, errors)
 }
 
-/// Sends a limit up to three times under its number and, where that is used with another request, under those of the
-/// runs 1, 3, 7 and so on after it, up to `NUMBERS` in all. It prints `set` on `output` where it is set, or says on
-/// `errors` why it isn't. The result is the exit status, 0 or 1.
+/// Sends a limit up to three times under its number and, where that is used with another request,
+/// under those of the runs 1, 3, 7 and so on after it, up to `NUMBERS` in all. It prints `set` on
+/// `output` where it is set, or says on `errors` why it isn't. The result is the exit status, 0 or
+/// 1.
 ///
 /// The request is a limit whose fields are in range.
 pub fn run_fresh<L: Link, W: Write, E: Write>(

@@ -29,7 +29,8 @@ impl From<AllocError> for OutputFault {
 
 /// Writes all bytes, or a prefix of them before a write fails.
 pub fn write_whole<W: Write>(output: &mut W, bytes: &[u8]) -> Result<(), OutputFault>
-    ensures whole { OnOk result (Appends (W.contents output.old) (W.contents output.new) bytes.now) }
+    ensures whole { OnOk result (Appends (W.contents output.old)
+        (W.contents output.new) bytes.now) }
     ensures front { AppendsFront (W.contents output.old) (W.contents output.new) bytes.now }
 {
     let mut rest = bytes;

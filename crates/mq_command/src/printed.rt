@@ -1,11 +1,12 @@
 //! How the program prints a login, and reads one that it printed.
-ghost use Rattle.std.specs.Prelude.{◌≡◌, ◌<◌, ◌++◌, ◌/◌, ◌%◌, ℕ, List, false, IfOk, MatchBool, MatchOption, length, string_bytes};
+ghost use Rattle.std.specs.Prelude.{◌≡◌, ◌<◌, ◌++◌, ◌/◌, ◌%◌, ℕ, List, false, IfOk, MatchBool};
+ghost use Rattle.std.specs.Prelude.{MatchOption, length, string_bytes};
 ghost use Rattle.std.specs.List.{All};
 ghost use Rattle.mq_request.specs.Escaped.{byte_text, digit_text, escaped, is_plain};
 ghost use Rattle.mq_command.specs.Printed.{IsLoginText, IsNoText, IsTextOf};
 
 use mq_request::bounds::LOGIN_LIMIT;
-use mq_request::{Escaped, Login};
+use mq_request::{EscapedText, Login};
 use std::alloc::{AllocError, Global};
 
 /// A login as it is printed: visible ASCII but `\` as it is, any other byte as `\x` and two
@@ -13,7 +14,7 @@ use std::alloc::{AllocError, Global};
 pub fn login_text(alloc: Global, login: &[u8]) -> Result<String, AllocError>
     ensures { IfOk result (λ text. string_bytes text ≡ escaped login.now) }
 {
-    Escaped(login).to_string(alloc)
+    EscapedText(login).to_string(alloc)
 }
 
 /// Whether a byte is printed as it is.
@@ -37,7 +38,8 @@ fn digit_value(digit: u8) -> Option<u8>
 
 /// The byte that is printed as `\x` and these digits.
 fn byte_of_digits(high: u8, low: u8) -> Option<u8>
-    ensures { MatchOption result ((byte : ℕ) → byte < 256 → is_plain byte ≡ false → digit_text (byte / 16) ≡ high
+    ensures { MatchOption result ((byte : ℕ) → byte < 256 → is_plain byte ≡ false
+        → digit_text (byte / 16) ≡ high
         → digit_text (byte % 16) ≡ low → ⊥) (λ byte. (byte < 256) × (is_plain byte ≡ false)
         × (digit_text (byte / 16) ≡ high) × (digit_text (byte % 16) ≡ low)) }
 {
@@ -47,7 +49,8 @@ fn byte_of_digits(high: u8, low: u8) -> Option<u8>
 
 /// The first byte that a text stands for, and the text after it.
 fn first_byte(text: &[u8]) -> Option<(u8, &[u8])>
-    ensures { MatchOption result ((byte : ℕ) (rest : List ℕ) → byte < 256 → byte_text byte ++ rest ≡ text.now → ⊥)
+    ensures { MatchOption result ((byte : ℕ) (rest : List ℕ) → byte < 256
+        → byte_text byte ++ rest ≡ text.now → ⊥)
         (λ first. (first.0 < 256) × (byte_text first.0 ++ first.1.now ≡ text.now)) }
 {
     match text {

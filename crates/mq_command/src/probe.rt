@@ -1,8 +1,10 @@
-//! `status` and `filter --check`: whether the quota server answers, and whether it takes a host's requests.
+//! `status` and `filter --check`: whether the quota server answers, and whether it takes a host's
+//! requests.
 ghost use Rattle.std.specs.Prelude.{◌≡◌, IfOk, Result as AnyResult, string_bytes};
 ghost use Rattle.mq_request.specs.Range.{IsHost, IsRequest, IsRun};
 ghost use Rattle.mq_command.specs.Orders.{Prints};
-ghost use Rattle.mq_command.specs.Probing.{AsksHost, AsksOnce, Checks, PrintsAnswer, Probes, answers_line, next_run};
+ghost use Rattle.mq_command.specs.Probing.{AsksHost, AsksOnce, Checks, PrintsAnswer, Probes};
+ghost use Rattle.mq_command.specs.Probing.{answers_line, next_run};
 ghost use Rattle.mq_command.specs.Probing.{host_question, host_verdict, taken_lines};
 ghost use Rattle.mq_command.specs.declared.ask.AskFault.{AskFault as AnyAskFault};
 ghost use Rattle.mq_command.specs.declared.probe.HostFault.{HostFault as AnyHostFault};
@@ -45,7 +47,8 @@ fn ask_once<L: Link>(alloc: Global, link: &mut L, request: &Request) -> Result<R
     }
 }
 
-/// Asks the server once what login `-` used on day 0. It is a few rows to look for, and changes nothing.
+/// Asks the server once what login `-` used on day 0. It is a few rows to look for, and changes
+/// nothing.
 fn probe<L: Link>(alloc: Global, link: &mut L) -> Result<(), AskFault>
     ensures { Probes (L.told link.old) (L.told link.new) result }
 {
@@ -69,9 +72,9 @@ fn next_run(now: u64) -> u64
     ((now + (STEP - 1)) / STEP * STEP).min(LAST_RUN)
 }
 
-/// What a host is asked about at a time: to give back what its last transaction holds, which no filter comes to, and so is
-/// nothing. A run that began before it is retired if this one is. Asked again within ten minutes it is the same request, so
-/// the ledger keeps one answer.
+/// What a host is asked about at a time: to give back what its last transaction holds, which no
+/// filter comes to, and so is nothing. A run that began before it is retired if this one is. Asked
+/// again within ten minutes it is the same request, so the ledger keeps one answer.
 fn host_question(alloc: Global, host: &Host, now: u64) -> Result<Request, AllocError>
     requires host { IsHost host.now }
     requires now { IsRun now }
@@ -137,8 +140,8 @@ fn taken_lines(alloc: Global, server: &str, host: &Host) -> Result<String, Alloc
     Ok(lines)
 }
 
-/// Asks the server once, and prints on `output` that it answers, or says on `errors` why it doesn't. `server` is how it is
-/// named there. The result is the exit status, 0 or 1.
+/// Asks the server once, and prints on `output` that it answers, or says on `errors` why it
+/// doesn't. `server` is how it is named there. The result is the exit status, 0 or 1.
 pub fn run_probe<L: Link, W: Write, E: Write>(
     alloc: Global,
     link: &mut L,
@@ -157,12 +160,14 @@ pub fn run_probe<L: Link, W: Write, E: Write>(
     }
 }
 
-/// Asks the server once whether it takes the requests of a host's filter that starts now, and prints on `output` that it
-/// answers and takes them, or says on `errors` why that isn't known or that the host's runs are retired. `server` is how it is
-/// named there. The result is the exit status, 0 or 1.
+/// Asks the server once whether it takes the requests of a host's filter that starts now, and
+/// prints on `output` that it answers and takes them, or says on `errors` why that isn't known or
+/// that the host's runs are retired. `server` is how it is named there. The result is the exit
+/// status, 0 or 1.
 ///
-/// The server's ledger keeps one answer for each ten minutes in which a host is asked about, and is the same otherwise. `host`
-/// has 1 to 64 bytes, and `now` is milliseconds since 1970, 1 to 281,474,976,710,655.
+/// The server's ledger keeps one answer for each ten minutes in which a host is asked about, and is
+/// the same otherwise. `host` has 1 to 64 bytes, and `now` is milliseconds since 1970, 1 to
+/// 281,474,976,710,655.
 pub fn run_host_probe<L: Link, W: Write, E: Write>(
     alloc: Global,
     link: &mut L,
@@ -176,7 +181,8 @@ pub fn run_host_probe<L: Link, W: Write, E: Write>(
     requires now { IsRun now }
     ensures probes { (ended : AnyResult (Unit {0}) AnyHostFault)
         × AsksHost host.now now (L.told link.old) (L.told link.new) ended
-        × Prints (λ _. taken_lines server.now host.now) (W.contents output.old) (W.contents output.new) ended result }
+        × Prints (λ _. taken_lines server.now host.now) (W.contents output.old)
+        (W.contents output.new) ended result }
     ensures quiet { result ≡ 0 → errors.new ≡ errors.old }
 {
     match ask_host(alloc, link, host, now) {
@@ -185,8 +191,9 @@ pub fn run_host_probe<L: Link, W: Write, E: Write>(
     }
 }
 
-/// Prints on `output` that settings are right, and whether the server that they name takes the requests of their host's filter
-/// if it starts now, as [`run_host_probe`] does. The result is the exit status, 0 or 1.
+/// Prints on `output` that settings are right, and whether the server that they name takes the
+/// requests of their host's filter if it starts now, as [`run_host_probe`] does. The result is the
+/// exit status, 0 or 1.
 pub fn run_check<L: Link, W: Write, E: Write>(
     alloc: Global,
     link: &mut L,
@@ -198,7 +205,8 @@ pub fn run_check<L: Link, W: Write, E: Write>(
 ) -> u8
     requires host { IsHost host.now }
     requires now { IsRun now }
-    ensures checks { Checks server.now host.now now (L.told link.old) (L.told link.new) (W.contents output.old)
+    ensures checks { Checks server.now host.now now (L.told link.old) (L.told link.new)
+        (W.contents output.old)
         (W.contents output.new) result }
     ensures quiet { result ≡ 0 → errors.new ≡ errors.old }
 {

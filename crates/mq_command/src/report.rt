@@ -1,8 +1,10 @@
 //! `report`: prints what logins used on a day.
-ghost use Rattle.std.specs.Prelude.{◌≡◌, ◌++◌, IfOk, IfSome, OnOk, option_map, MatchResult, Ok, Err, Result as AnyResult};
+ghost use Rattle.std.specs.Prelude.{◌≡◌, ◌++◌, IfOk, IfSome, OnOk, option_map, MatchResult, Ok};
+ghost use Rattle.std.specs.Prelude.{Err, Result as AnyResult};
 ghost use Rattle.mq_request.specs.Range.{IsDay, IsAfter, IsLogin, IsPage as IsPageInRange, IsReply};
 ghost use Rattle.mq_command.specs.Asking.{status_of};
-ghost use Rattle.mq_command.specs.Report.{AnswersList, AnswersUsage, AsksPage, AsksUsage, HasRow, output_fault};
+ghost use Rattle.mq_command.specs.Report.{AnswersList, AnswersUsage, AsksPage, AsksUsage, HasRow};
+ghost use Rattle.mq_command.specs.Report.{output_fault};
 ghost use Rattle.mq_command.specs.Report.{PrintsRow, Reports, ReportsAll, ReportsOne, TakesPage};
 ghost use Rattle.mq_command.specs.Orders.{PrintsLine};
 ghost use Rattle.mq_command.specs.Top.{CollectsAll, PrintsTop, ReportsTop, columns_line};
@@ -245,7 +247,8 @@ pub fn run_report<L: Link, W: Write, E: Write>(
     requires day { IsDay day }
     requires login { IfSome login (λ l. IsLogin l.now) }
     ensures reports { (outcome : AnyResult (Unit {0}) AnyReportFault) × (result ≡ status_of outcome)
-        × Reports day (option_map (λ l. l.now) login.entry) (L.told link.old) (L.told link.new) (W.contents output.old)
+        × Reports day (option_map (λ l. l.now) login.entry) (L.told link.old) (L.told link.new)
+        (W.contents output.old)
         (W.contents output.new) outcome }
     ensures quiet { result ≡ 0 → errors.new ≡ errors.old }
 {
@@ -273,7 +276,8 @@ fn append(all: &mut Vec<UsageRow>, rows: UsageRows) -> Result<(), AllocError>
 /// The rows of all logins of the day, page by page until one isn't full.
 fn all_rows<L: Link>(alloc: Global, link: &mut L, day: u32) -> Result<Vec<UsageRow>, ReportFault>
     requires { IsDay day }
-    ensures { MatchResult result (λ rows. CollectsAll day (L.told link.old) (L.told link.new) (Ok rows.items))
+    ensures { MatchResult result (λ rows. CollectsAll day (L.told link.old) (L.told link.new)
+        (Ok rows.items))
         (λ fault. CollectsAll day (L.told link.old) (L.told link.new) (Err fault)) }
 {
     let mut all = Vec::new(alloc);
@@ -327,11 +331,12 @@ fn report_top<L: Link, W: Write>(
     print_top(alloc, rows, count, output)
 }
 
-/// Prints on `output` the lines of the logins that used most on a day, most first and of equal ones the lower login, so many at
-/// most, and says on `errors` why not. The result is the exit status, 0 or 1.
+/// Prints on `output` the lines of the logins that used most on a day, most first and of equal ones
+/// the lower login, so many at most, and says on `errors` why not. The result is the exit status, 0
+/// or 1.
 ///
-/// `day` is a day number, 0 to 376,200. All logins are asked for, page by page, as [`run_report`] does, and nothing is printed
-/// where not all pages come.
+/// `day` is a day number, 0 to 376,200. All logins are asked for, page by page, as [`run_report`]
+/// does, and nothing is printed where not all pages come.
 pub fn run_top<L: Link, W: Write, E: Write>(
     alloc: Global,
     link: &mut L,
@@ -342,16 +347,18 @@ pub fn run_top<L: Link, W: Write, E: Write>(
 ) -> u8
     requires { IsDay day }
     ensures reports { (outcome : AnyResult (Unit {0}) AnyReportFault) × (result ≡ status_of outcome)
-        × ReportsTop day count (L.told link.old) (L.told link.new) (W.contents output.old) (W.contents output.new) outcome }
+        × ReportsTop day count (L.told link.old) (L.told link.new) (W.contents output.old)
+        (W.contents output.new) outcome }
     ensures quiet { result ≡ 0 → errors.new ≡ errors.old }
 {
     tell_report(report_top(alloc, link, day, count, output), errors)
 }
 
-/// Prints on `output` the line above the columns of a report, or says on `errors` why it can't be printed. The result is the exit
-/// status, 0 or 1.
+/// Prints on `output` the line above the columns of a report, or says on `errors` why it can't be
+/// printed. The result is the exit status, 0 or 1.
 pub fn print_columns<W: Write, E: Write>(output: &mut W, errors: &mut E) -> u8
-    ensures prints { PrintsLine columns_line (W.contents output.old) (W.contents output.new) result }
+    ensures prints { PrintsLine columns_line (W.contents output.old)
+        (W.contents output.new) result }
     ensures quiet { result ≡ 0 → errors.new ≡ errors.old }
 {
     tell(Ok(()), "settled reserved  limit login\n", output, errors)

@@ -2,13 +2,14 @@
 ghost use Rattle.std.specs.Prelude.{◌≡◌, ◌+◌, IfOk, string_bytes};
 ghost use Rattle.mq_request.specs.Range.{IsAmount, IsDay, IsLogin};
 ghost use Rattle.mq_command.specs.Allowing.{IsSetter};
-ghost use Rattle.mq_command.specs.Stopping.{ChecksUse, HasSent, HoldsAll, RunsStop, Stops, former_lines, later_line};
+ghost use Rattle.mq_command.specs.Stopping.{ChecksUse, HasSent, HoldsAll, RunsStop, Stops};
+ghost use Rattle.mq_command.specs.Stopping.{former_lines, later_line};
 ghost use Rattle.mq_command.specs.Stopping.{stopped_lines, verb};
 
 use crate::allow::{AllowFault, Setter, line_of};
-use crate::hold::{Held, LaterUse, hold, hold_later};
+use crate::hold::{HeldLimit, LaterUse, hold, hold_later};
 use crate::later::clear_and_say;
-use crate::look_back::{Sought, look_back};
+use crate::look_back::{SoughtDay, look_back};
 use crate::order::OrderFault;
 use crate::telling::{say, tell_line};
 use crate::usage::{DayUsage, ask_used};
@@ -17,7 +18,8 @@ use mq_request::Login;
 use std::alloc::{AllocError, Global};
 use std::io::Write;
 
-/// On how many days, that of a `stop` and those before, a login used nothing that isn't stopped unless it is meant.
+/// On how many days, that of a `stop` and those before, a login used nothing that isn't stopped
+/// unless it is meant.
 const IDLE_DAYS: u32 = 3;
 
 /// How a login is stopped.
@@ -33,31 +35,31 @@ pub struct StopOrder {
 
 /// What stopping a login came to.
 #[derive(Clone, Copy, Debug)]
-struct Stopped {
+struct StoppedLogin {
     /// The limit of the day.
-    held: Held,
+    held: HeldLimit,
     /// The limit of the day before it was stopped.
     former: u32,
     /// What it may have on later days.
     later: LaterUse,
 }
 
-/// Whether the server answers that a login used something on a day or on one of the two before. It isn't so where no answer
-/// comes. Of several servers one that says so is enough for `run_stop` at each: the login is meant. `day` is a day number, 0 to
-/// 376,200.
+/// Whether the server answers that a login used something on a day or on one of the two before. It
+/// isn't so where no answer comes. Of several servers one that says so is enough for `run_stop` at
+/// each: the login is meant. `day` is a day number, 0 to 376,200.
 pub fn has_sent<L: Link>(alloc: Global, link: &mut L, login: &Login, day: u32) -> bool
     requires login { IsLogin login.now }
     requires day { IsDay day }
     ensures { HasSent login.now day (L.told link.old) (L.told link.new) result }
 {
     matches!(
-        look_back(alloc, link, Sought::Use, login, day, IDLE_DAYS),
+        look_back(alloc, link, SoughtDay::Use, login, day, IDLE_DAYS),
         Ok(Some(_))
     )
 }
 
-/// Refuses to stop a login that used nothing on a day, nor on the two before, unless it is clear that it is meant: its name
-/// may be misspelled.
+/// Refuses to stop a login that used nothing on a day, nor on the two before, unless it is clear
+/// that it is meant: its name may be misspelled.
 fn check_use<L: Link>(
     alloc: Global,
     link: &mut L,
@@ -72,21 +74,22 @@ fn check_use<L: Link>(
     if is_clear {
         return Ok(());
     }
-    match look_back(alloc, link, Sought::Use, login, day, IDLE_DAYS) {
+    match look_back(alloc, link, SoughtDay::Use, login, day, IDLE_DAYS) {
         Ok(Some(_day)) => Ok(()),
         Ok(None) => Err(AllowFault::Idle(day)),
         Err(fault) => Err(AllowFault::Order(OrderFault::Unanswered(fault))),
     }
 }
 
-/// Lets a login that used so much on a day have nothing more there, and then nothing more on each later day.
+/// Lets a login that used so much on a day have nothing more there, and then nothing more on each
+/// later day.
 fn hold_all<L: Link>(
     alloc: Global,
     link: &mut L,
     setter: &Setter,
     day: u32,
     usage: DayUsage,
-) -> Result<Stopped, OrderFault>
+) -> Result<StoppedLogin, OrderFault>
     requires setter { IsSetter setter.now }
     requires day { IsDay (day + 1) }
     requires most { IsAmount usage.cap }
@@ -98,7 +101,7 @@ fn hold_all<L: Link>(
         Err(fault) => return Err(fault),
     };
     match hold_later(alloc, link, setter, day) {
-        Ok(later) => Ok(Stopped {
+        Ok(later) => Ok(StoppedLogin {
             held,
             former: usage.cap,
             later,
@@ -107,15 +110,15 @@ fn hold_all<L: Link>(
     }
 }
 
-/// Lets a login have nothing more on a day and on each later day, where it sent something lately or is meant. The limit of
-/// the day is never above the one that it had.
+/// Lets a login have nothing more on a day and on each later day, where it sent something lately or
+/// is meant. The limit of the day is never above the one that it had.
 fn stop<L: Link>(
     alloc: Global,
     link: &mut L,
     setter: &Setter,
     day: u32,
     is_meant: bool,
-) -> Result<Stopped, AllowFault>
+) -> Result<StoppedLogin, AllowFault>
     requires setter { IsSetter setter.now }
     requires day { IsDay (day + 1) }
     ensures stops { Stops setter.now day is_meant (L.told link.old) (L.told link.new) result }
@@ -143,8 +146,8 @@ fn verb(is_more: bool) -> &'static str
     if is_more { " may use " } else { " used " }
 }
 
-/// The line that says how much a login may have on later days, up to the last on which it used something; none where it used
-/// nothing later.
+/// The line that says how much a login may have on later days, up to the last on which it used
+/// something; none where it used nothing later.
 fn later_text(alloc: Global, day: u32, later: LaterUse) -> Result<String, AllocError>
     ensures { IfOk result (λ line. string_bytes line ≡ later_line day later) }
 {
@@ -161,7 +164,7 @@ fn later_text(alloc: Global, day: u32, later: LaterUse) -> Result<String, AllocE
 }
 
 /// The lines that say which limit a login had on the day, and how much it may have on later days.
-fn former_text(alloc: Global, stopped: Stopped, day: u32) -> Result<String, AllocError>
+fn former_text(alloc: Global, stopped: StoppedLogin, day: u32) -> Result<String, AllocError>
     ensures { IfOk result (λ lines. string_bytes lines ≡ former_lines stopped day) }
 {
     let mut lines = String::from_str(alloc, "limit before: ")?;
@@ -171,12 +174,12 @@ fn former_text(alloc: Global, stopped: Stopped, day: u32) -> Result<String, Allo
     Ok(lines)
 }
 
-/// The lines that say that a login is stopped: how much it used on the day, or may use, which limit it had there, and how much
-/// it may have on later days.
+/// The lines that say that a login is stopped: how much it used on the day, or may use, which limit
+/// it had there, and how much it may have on later days.
 fn stopped_text(
     alloc: Global,
     login: &Login,
-    stopped: Stopped,
+    stopped: StoppedLogin,
     day: u32,
 ) -> Result<String, AllocError>
     ensures { IfOk result (λ lines. string_bytes lines ≡ stopped_lines login.now stopped day) }
@@ -187,16 +190,18 @@ fn stopped_text(
     Ok(lines)
 }
 
-/// Lets a login have nothing more on a day and on each later day, and prints on `output` the day's limit and the one that it
-/// had there, or says on `errors` why not each limit is set. The result is the exit status, 0 or 1.
+/// Lets a login have nothing more on a day and on each later day, and prints on `output` the day's
+/// limit and the one that it had there, or says on `errors` why not each limit is set. The result
+/// is the exit status, 0 or 1.
 ///
-/// A login that sent nothing on that day and the two before isn't stopped, unless it is known to be meant. No limit that it sets
-/// is above the one that the login had on that day. The server takes none below what is used on a later day: where the login used
-/// something later, that is its limit up to then, and `output` says so; after that day it is 0.
+/// A login that sent nothing on that day and the two before isn't stopped, unless it is known to be
+/// meant. No limit that it sets is above the one that the login had on that day. The server takes
+/// none below what is used on a later day: where the login used something later, that is its limit
+/// up to then, and `output` says so; after that day it is 0.
 ///
-/// Limits that were set from a day after the next stay in force from that day on. Where the login is stopped they are looked for, a
-/// day at a time, on up to 399 days and on the last day of all. They are lowered, if all are to be, else the first is said on
-/// `errors`, with status 1.
+/// Limits that were set from a day after the next stay in force from that day on. Where the login
+/// is stopped they are looked for, a day at a time, on up to 399 days and on the last day of all.
+/// They are lowered, if all are to be, else the first is said on `errors`, with status 1.
 pub fn run_stop<L: Link, W: Write, E: Write>(
     alloc: Global,
     link: &mut L,
@@ -207,7 +212,8 @@ pub fn run_stop<L: Link, W: Write, E: Write>(
 ) -> u8
     requires setter { IsSetter setter.now }
     requires day { IsDay (order.day + 1) }
-    ensures stops { RunsStop setter.now order result (L.told link.old) (L.told link.new) (W.contents output.old)
+    ensures stops { RunsStop setter.now order result (L.told link.old) (L.told link.new)
+        (W.contents output.old)
         (W.contents output.new) }
     ensures quiet { result ≡ 0 → errors.new ≡ errors.old }
 {

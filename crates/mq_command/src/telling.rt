@@ -17,15 +17,16 @@ pub fn say<E: Write, F: fmt::Display>(errors: &mut E, fault: &F) -> u8
     1
 }
 
-/// Prints the word of an order that was carried out, or says on `errors` why it wasn't. The result is the exit status,
-/// 0 or 1.
+/// Prints the word of an order that was carried out, or says on `errors` why it wasn't. The result
+/// is the exit status, 0 or 1.
 pub fn tell<W: Write, E: Write>(
     sent: Result<(), OrderFault>,
     word: &str,
     output: &mut W,
     errors: &mut E,
 ) -> u8
-    ensures prints { Prints (λ _. word.now) (W.contents output.old) (W.contents output.new) sent result }
+    ensures prints { Prints (λ _. word.now) (W.contents output.old)
+        (W.contents output.new) sent result }
     ensures quiet { result ≡ 0 → errors.new ≡ errors.old }
 {
     match sent {
@@ -45,8 +46,10 @@ pub fn tell_line<W: Write, E: Write>(
     output: &mut W,
     errors: &mut E,
 ) -> u8
-    ensures prints { MatchResult line (λ line. PrintsLine (string_bytes line) (W.contents output.old)
-        (W.contents output.new) result) (λ _. (result ≡ 1) × Keeps (W.contents output.old) (W.contents output.new)) }
+    ensures prints { MatchResult line (λ line. PrintsLine (string_bytes line)
+        (W.contents output.old)
+        (W.contents output.new) result) (λ _. (result ≡ 1)
+        × Keeps (W.contents output.old) (W.contents output.new)) }
     ensures quiet { result ≡ 0 → errors.new ≡ errors.old }
 {
     match line {

@@ -1,7 +1,7 @@
 -- A server goes on where a chore alongside leaves the book and what is told of it.
 use Rattle.std.proofs.Common.{◌≡◌, ℕ, List, [], ◌∷◌, ◌++◌, map, Bool, Option, Result, Err, refl, sym, subst, ap, ◌∙◌}
 use Rattle.mq_request.specs.declared.message.Request.{Request}
-use Rattle.mq_ledger.specs.declared.ledger.Told.{Told}
+use Rattle.mq_ledger.specs.declared.ledger.ReportedCall.{ReportedCall}
 use Rattle.mq_ledger.specs.Answer.{history_of}
 use Rattle.mq_ledger.specs.Day.{day_of}
 use Rattle.mq_ledger.specs.History.{requests}
@@ -13,7 +13,7 @@ use Rattle.mq_server.proofs.Deliveries.{taken}
 use Rattle.mq_connections.specs.Sessions.{GoesOn, GoesOnOrStops, Outside}
 use Rattle.mq_connections.specs.Wires.{Wire}
 
-pub goes_alongside : (old : Outside) (a b : Book) (told told' : Option (List Told)) (wires : ℕ → Wire) (last : ℕ) (held : ℕ → Option State) (failed : Option Request)
+pub goes_alongside : (old : Outside) (a b : Book) (told told' : Option (List ReportedCall)) (wires : ℕ → Wire) (last : ℕ) (held : ℕ → Option State) (failed : Option Request)
     → b.zone ≡ a.zone → b.default ≡ a.default → b.history ≡ a.history → told' ≡ told
     → GoesOn old (record { book = a; told = told; wires = wires }) last held failed
     → GoesOn old (record { book = b; told = told'; wires = wires }) last held failed

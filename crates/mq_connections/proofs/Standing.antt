@@ -12,13 +12,13 @@ use Rattle.mq_lemmas.proofs.Booleans.{false_true}
 use Rattle.mq_lemmas.proofs.Options.{ok_not, none_some, some_is}
 use Rattle.mq_request.specs.declared.message.Request.{Request}
 use Rattle.mq_ledger.specs.declared.entry.Entry.{Entry}
-use Rattle.mq_ledger.specs.declared.ledger.Told.{Told}
+use Rattle.mq_ledger.specs.declared.ledger.ReportedCall.{ReportedCall}
 use Rattle.mq_ledger.specs.Legal.{Book, IsLegalBook}
 use Rattle.mq_ledger.specs.Told.{Tells}
 use Rattle.mq_ledger.proofs.Telling.{Tells-none}
 use Rattle.mq_server.specs.declared.connection.Progress.{Progress}
 use Rattle.mq_server.specs.declared.connection.Progress.TheVariants.{Ended}
-use Rattle.mq_server.specs.declared.connection.Served.{Served}
+use Rattle.mq_server.specs.declared.connection.EndCause.{EndCause}
 use Rattle.mq_server.specs.declared.fault.ServeFault.{ServeFault}
 use Rattle.mq_server.specs.declared.fault.ServeFault.TheVariants.{Memory, Store}
 use Rattle.mq_server.specs.declared.input.TheConstants.{PIECE}
@@ -273,7 +273,7 @@ opened room old new wires last number held now lives counted same opens g =
 -- ---- a turn of one
 
 -- the session of a connection that had a turn
-abbrev turned_session : (number : ℕ) (ps : List Placed) (old mid new : Wire) (b : Book) (history : List Entry) (t u : Option (List Told)) (p : Progress) (c now : State) → (s : Session number ps old mid) → s.state ≡ c → s.lost ≡ []
+abbrev turned_session : (number : ℕ) (ps : List Placed) (old mid new : Wire) (b : Book) (history : List Entry) (t u : Option (List ReportedCall)) (p : Progress) (c now : State) → (s : Session number ps old mid) → s.state ≡ c → s.lost ≡ []
     → (turn : Turns b history t u p mid new c now) → Session number (ps ++ on number turn.exchanges) old new
 turned_session number ps old mid new b history t u p c now s is none turn =
     let P : State → Type 0 = λ x. Lives s.life x in
@@ -305,8 +305,8 @@ pub record TurnOf (new now : Outside) (number : ℕ) (p : Progress) (c after : S
   pub turn : Turns new.book now.book.history new.told now.told p (new.wires number) (now.wires number) c after
   pub others_same : (n : ℕ) → n ≢ number → now.wires n ≡ new.wires n
 
-told_none : (t u : Option (List Told)) (xs : List Exchange) → Tells t u (told_of xs) → Tells t u (told_of xs ++ [])
-told_none t u xs told = let P : List Told → Type 0 = λ q. Tells t u q in subst P (sym (append-nil (told_of xs))) told
+told_none : (t u : Option (List ReportedCall)) (xs : List Exchange) → Tells t u (told_of xs) → Tells t u (told_of xs ++ [])
+told_none t u xs told = let P : List ReportedCall → Type 0 = λ q. Tells t u q in subst P (sym (append-nil (told_of xs))) told
 
 above_held : (n last number : ℕ) → last < n → n ≡ number → number ≤ last → ⊥
 above_held n last number above is within = omega (arith, above, is, within)
@@ -334,7 +334,7 @@ module _ (old new now : Outside) (number last : ℕ) (p : Progress) (c after : S
   served_turn follow failed told =
       let P : List Exchange → Type 0 = λ q. AreAnswered old.book q now.book.history in
       let Q : List Exchange → Type 0 = λ q. Tells old.told now.told (told_of q ++ map failed_call (option_to_list failed)) in
-      let R : List Told → Type 0 = λ q. Tells old.told new.told q in
+      let R : List ReportedCall → Type 0 = λ q. Tells old.told new.told q in
       let same = sym (all_more ps number xs) in
       record {
         placed = qs;
@@ -401,16 +401,16 @@ module _ (old new now : Outside) (number last : ℕ) (p : Progress) (c after : S
 -- ---- what it comes to
 
 -- an end that is the store's, and only such a one, is its fault
-stops_so : {A F : Type 0} (store : F) (r : Result A F) (end : Result Served ServeFault) → OnOk r (end ≢ Err Store) → IfErr r (λ f. (f ≡ store) × (end ≡ Err Store)) → end ≡ Err Store → r ≡ Err store
+stops_so : {A F : Type 0} (store : F) (r : Result A F) (end : Result EndCause ServeFault) → OnOk r (end ≢ Err Store) → IfErr r (λ f. (f ≡ store) × (end ≡ Err Store)) → end ≡ Err Store → r ≡ Err store
 stops_so store (Ok x) end ok err is = absurd (ok is)
 stops_so store (Err f) end ok err is = ap Err err.0
 
-only_so : {A F : Type 0} (store : F) (r : Result A F) (end : Result Served ServeFault) → IfErr r (λ f. (f ≡ store) × (end ≡ Err Store)) → r ≡ Err store → end ≡ Err Store
+only_so : {A F : Type 0} (store : F) (r : Result A F) (end : Result EndCause ServeFault) → IfErr r (λ f. (f ≡ store) × (end ≡ Err Store)) → r ≡ Err store → end ≡ Err Store
 only_so store (Ok x) end err is = absurd (ok_not x store is)
 only_so store (Err f) end err is = err.1
 
 -- a connection has ended, and was closed
-pub closed_turn : {A F : Type 0} (old new now : Outside) (number last : ℕ) (p : Progress) (c after : State) (held still : ℕ → Option State) (store : F) (r : Result A F) (end : Result Served ServeFault) → GoesOn old new last held None → held number ≡ Some c → TurnOf new now number p c after → Follow
+pub closed_turn : {A F : Type 0} (old new now : Outside) (number last : ℕ) (p : Progress) (c after : State) (held still : ℕ → Option State) (store : F) (r : Result A F) (end : Result EndCause ServeFault) → GoesOn old new last held None → held number ≡ Some c → TurnOf new now number p c after → Follow
     → p ≡ Ended end → (p ≡ Ended (Err Store) → after.end ≡ Some (Err Store)) → OnOk r (end ≢ Err Store) → IfErr r (λ f. (f ≡ store) × (end ≡ Err Store)) → ((n : ℕ) → n ≢ number → still n ≡ held n) → still number ≡ None → AreOffered after (now.wires number)
     → GoesOnOrStops old now last still store r
 closed_turn old new now number last p c after held still store r end g here t follow is at_end ok err others gone offered =

@@ -9,13 +9,13 @@ use Rattle.mq_lemmas.proofs.Booleans.{false_true}
 use Rattle.mq_lemmas.proofs.Streams.{appends_kept}
 use Rattle.mq_request.specs.declared.message.Request.{Request}
 use Rattle.mq_ledger.specs.declared.entry.Entry.{Entry}
-use Rattle.mq_ledger.specs.declared.ledger.Told.{Told}
+use Rattle.mq_ledger.specs.declared.ledger.ReportedCall.{ReportedCall}
 use Rattle.mq_ledger.specs.Legal.{Book, IsLegalBook}
 use Rattle.mq_ledger.specs.Told.{Tells}
 use Rattle.mq_ledger.proofs.Telling.{Tells-none, Tells-trans}
 use Rattle.mq_server.specs.declared.connection.Progress.{Progress}
 use Rattle.mq_server.specs.declared.connection.Progress.TheVariants.{Answered, Waits, Ended}
-use Rattle.mq_server.specs.declared.connection.Served.{Served}
+use Rattle.mq_server.specs.declared.connection.EndCause.{EndCause}
 use Rattle.mq_server.specs.declared.fault.ServeFault.TheVariants.{Memory, Store}
 use Rattle.mq_server.specs.declared.fault.ServeFault.{ServeFault}
 use Rattle.mq_server.specs.declared.input.TheConstants.{PIECE}
@@ -35,26 +35,26 @@ some_of r = refl
 abbrev pub Works : Progress → Type 0
 Works p = p ≡ Ended (Err Store) → ⊥
 
-abbrev pub no_calls : (t : Option (List Told)) (was : Option (Result Served ServeFault)) (p : Progress) → Works p → MakesCalls was p t t []
+abbrev pub no_calls : (t : Option (List ReportedCall)) (was : Option (Result EndCause ServeFault)) (p : Progress) → Works p → MakesCalls was p t t []
 no_calls t was p works = record { failed = None; told = Tells-none t; ends = λ some. absurd (false_true some); only = λ not is. absurd (works is) }
 
-abbrev pub calls_as : (t u : Option (List Told)) (was : Option (Result Served ServeFault)) (p q : Progress) (xs : List Exchange) → Works p → Works q → MakesCalls was p t u xs → MakesCalls was q t u xs
+abbrev pub calls_as : (t u : Option (List ReportedCall)) (was : Option (Result EndCause ServeFault)) (p q : Progress) (xs : List Exchange) → Works p → Works q → MakesCalls was p t u xs → MakesCalls was q t u xs
 calls_as t u was p q xs works still calls = record { failed = calls.failed; told = calls.told; ends = λ some. absurd (works (calls.ends some)); only = λ not is. absurd (still is) }
 
 -- where the store worked, the calls are those of the exchanges
-worked : (t u : Option (List Told)) (xs : List Exchange) (failed : Option Request) → (IsSome failed → ⊥) → Tells t u (told_of xs ++ map failed_call (option_to_list failed)) → Tells t u (told_of xs)
-worked t u xs None none told = let P : List Told → Type 0 = λ q. Tells t u q in subst P (append-nil (told_of xs)) told
+worked : (t u : Option (List ReportedCall)) (xs : List Exchange) (failed : Option Request) → (IsSome failed → ⊥) → Tells t u (told_of xs ++ map failed_call (option_to_list failed)) → Tells t u (told_of xs)
+worked t u xs None none told = let P : List ReportedCall → Type 0 = λ q. Tells t u q in subst P (append-nil (told_of xs)) told
 worked t u xs (Some r) none told = absurd (none (some_of r))
 
-pub worked_calls : (t u : Option (List Told)) (was : Option (Result Served ServeFault)) (p : Progress) (xs : List Exchange) → Works p → MakesCalls was p t u xs → Tells t u (told_of xs)
+pub worked_calls : (t u : Option (List ReportedCall)) (was : Option (Result EndCause ServeFault)) (p : Progress) (xs : List Exchange) → Works p → MakesCalls was p t u xs → Tells t u (told_of xs)
 worked_calls t u was p xs works calls = worked t u xs calls.failed (λ some. works (calls.ends some)) calls.told
 
-pub told_on : (t u v : Option (List Told)) (xs ys : List Exchange) (more : List Told) → Tells t u (told_of xs) → Tells u v (told_of ys ++ more) → Tells t v (told_of (xs ++ ys) ++ more)
+pub told_on : (t u v : Option (List ReportedCall)) (xs ys : List Exchange) (more : List ReportedCall) → Tells t u (told_of xs) → Tells u v (told_of ys ++ more) → Tells t v (told_of (xs ++ ys) ++ more)
 told_on t u v xs ys more before after =
-    let P : List Told → Type 0 = λ q. Tells t v q in
-    subst P (sym (append_assoc (told_of xs) (told_of ys) more) ∙ ap (λ (q : List Told). q ++ more) (sym (told_both xs ys))) (Tells-trans t u v (told_of xs) (told_of ys ++ more) before after)
+    let P : List ReportedCall → Type 0 = λ q. Tells t v q in
+    subst P (sym (append_assoc (told_of xs) (told_of ys) more) ∙ ap (λ (q : List ReportedCall). q ++ more) (sym (told_both xs ys))) (Tells-trans t u v (told_of xs) (told_of ys ++ more) before after)
 
-abbrev calls_both : (t u v : Option (List Told)) (was mid : Option (Result Served ServeFault)) (p q : Progress) (xs ys : List Exchange) → Works p → (was ≢ Some (Err Store) → mid ≢ Some (Err Store)) → MakesCalls was p t u xs → MakesCalls mid q u v ys → MakesCalls was q t v (xs ++ ys)
+abbrev calls_both : (t u v : Option (List ReportedCall)) (was mid : Option (Result EndCause ServeFault)) (p q : Progress) (xs ys : List Exchange) → Works p → (was ≢ Some (Err Store) → mid ≢ Some (Err Store)) → MakesCalls was p t u xs → MakesCalls mid q u v ys → MakesCalls was q t v (xs ++ ys)
 calls_both t u v was mid p q xs ys works still first second = record {
   failed = second.failed;
   told = told_on t u v xs ys (map failed_call (option_to_list second.failed)) (worked_calls t u was p xs works first) second.told;
@@ -173,7 +173,7 @@ stands_on None rest read none stands = tt
 stands_on (Some r) rest read none stands = let P : List ℕ → Type 0 = λ q. StandsNext (Some r) q in subst P (sym (append-nil rest) ∙ ap (λ (q : List ℕ). rest ++ q) (sym (none (some_of r)))) stands
 
 -- answers, and then bytes in or out
-pub turned : (b : Book) (history : List Entry) (t u : Option (List Told)) (p : Progress) (old new : Wire) (c d now : State) (xs : List Exchange) (read lost written : List ℕ)
+pub turned : (b : Book) (history : List Entry) (t u : Option (List ReportedCall)) (p : Progress) (old new : Wire) (c d now : State) (xs : List Exchange) (read lost written : List ℕ)
     → AreAnswered b xs history → (calls : MakesCalls c.end p t u xs) → Extends c d xs calls.failed → (IsSome calls.failed → read ≡ []) → length lost ≤ PIECE → (p ≢ Ended (Err Memory) → lost ≡ []) → Consumes old.remaining new.remaining (read ++ lost) → Appends old.contents new.contents written
     → ClosesAtEnd c now old.remaining read → Carries d now read written → Turns b history t u p old new c now
 turned b history t u p old new c d now xs read lost written right calls extends none few whole consumed sent closed carries = record {
@@ -191,7 +191,7 @@ turned b history t u p old new c d now xs read lost written right calls extends 
   lives = λ l here. let (rest, then, stands) = extends l here in (rest ++ read, carries (with_exchanges l xs rest) then, stands_on calls.failed rest read none stands);
 }
 
-pub nothing_done : (b : Book) (t : Option (List Told)) (p : Progress) (wire : Wire) (c : State) → Works p → AreAnswered b [] b.history → Turns b b.history t t p wire wire c c
+pub nothing_done : (b : Book) (t : Option (List ReportedCall)) (p : Progress) (wire : Wire) (c : State) → Works p → AreAnswered b [] b.history → Turns b b.history t t p wire wire c c
 nothing_done b t p wire c works none =
     turned b b.history t t p wire wire c c c [] [] [] [] none (no_calls t c.end p works) (extends_none c) (λ _. refl) none_few (λ _. refl) (Consumes-nil wire.remaining) (Appends-nil wire.contents) (shuts_none c c wire.remaining [] refl) (carries_none c)
 
@@ -202,7 +202,7 @@ Follow = (b k : Book) (xs ys : List Exchange) (history : List Entry) → IsLegal
 all_read : (r s lost : List ℕ) → (r ++ []) ++ (s ++ lost) ≡ (r ++ s) ++ lost
 all_read r s lost = ap (λ (q : List ℕ). q ++ (s ++ lost)) (append-nil r) ∙ sym (append_assoc r s lost)
 
-pub both : Follow → (b k : Book) (history : List Entry) (t u v : Option (List Told)) (p q : Progress) (old mid new : Wire) (c d now : State) → IsLegalBook k → k.zone ≡ b.zone → k.default ≡ b.default
+pub both : Follow → (b k : Book) (history : List Entry) (t u v : Option (List ReportedCall)) (p q : Progress) (old mid new : Wire) (c d now : State) → IsLegalBook k → k.zone ≡ b.zone → k.default ≡ b.default
     → Works p → p ≢ Ended (Err Memory) → (c.end ≢ Some (Err Store) → d.end ≢ Some (Err Store))
     → Turns b k.history t u p old mid c d → Turns k history u v q mid new d now → Turns b history t v q old new c now
 both follow b k history t u v p q old mid new c d now legal zone default works room still first second =
@@ -241,10 +241,10 @@ answered_room e = cc
 pub waits_works : Works Waits
 waits_works e = cc
 
-pub turns_as : (b : Book) (history : List Entry) (t u : Option (List Told)) (p q : Progress) (old new : Wire) (c now : State) → p ≡ q → Turns b history t u p old new c now → Turns b history t u q old new c now
+pub turns_as : (b : Book) (history : List Entry) (t u : Option (List ReportedCall)) (p q : Progress) (old new : Wire) (c now : State) → p ≡ q → Turns b history t u p old new c now → Turns b history t u q old new c now
 turns_as b history t u p q old new c now is turns = let P : Progress → Type 0 = λ x. Turns b history t u x old new c now in subst P is turns
 
-pub calls_is : (t u : Option (List Told)) (was : Option (Result Served ServeFault)) (p q : Progress) (xs : List Exchange) → p ≡ q → MakesCalls was p t u xs → MakesCalls was q t u xs
+pub calls_is : (t u : Option (List ReportedCall)) (was : Option (Result EndCause ServeFault)) (p q : Progress) (xs : List Exchange) → p ≡ q → MakesCalls was p t u xs → MakesCalls was q t u xs
 calls_is t u was p q xs is calls = let P : Progress → Type 0 = λ x. MakesCalls was x t u xs in subst P is calls
 
 -- ---- what a read or a write leaves
@@ -258,7 +258,7 @@ pub comes_none : (c : State) (l : Life) → Lives l c → Lives (with_bytes l []
 comes_none c l here = let P : Life → Type 0 = λ q. Lives q c in subst P (λ i. named l (sym (append-nil l.bytes) i) l.exchanges (sym (append-nil l.rest) i) l.taken) here
 
 -- an end that isn't the store's, by what an answer came to
-pub still_works : (p : Progress) (e : Option (Result Served ServeFault)) → ((r : Result Served ServeFault) → p ≡ Ended r → e ≡ Some r) → (p ≡ Answered → e ≡ None) → (p ≡ Waits → e ≡ None) → Works p → e ≢ Some (Err Store)
+pub still_works : (p : Progress) (e : Option (Result EndCause ServeFault)) → ((r : Result EndCause ServeFault) → p ≡ Ended r → e ≡ Some r) → (p ≡ Answered → e ≡ None) → (p ≡ Waits → e ≡ None) → Works p → e ≢ Some (Err Store)
 still_works Answered e ended answered waits works is = let h = answered refl in cc
 still_works Waits e ended answered waits works is = let h = waits refl in cc
 still_works (Ended r) e ended answered waits works is = let h = ended r refl in works (let same : Ended r ≡ Ended (Err Store) = cc in same)
@@ -298,17 +298,17 @@ pub reads_lost : (a b : Option (List ℕ)) (c now : State) (p : Progress) (bytes
 reads_lost a b c now p bytes few is same still consumed = ([], bytes, few, (λ not. absurd (not is)), consumed, shuts_none c now a [] same, λ l here. comes_none now l (still l here))
 
 -- the calls of a progress by which the store failed alike
-abbrev pub calls_either : (t u : Option (List Told)) (was : Option (Result Served ServeFault)) (p q : Progress) (xs : List Exchange) → (p ≡ Ended (Err Store) → q ≡ Ended (Err Store)) → (q ≡ Ended (Err Store) → p ≡ Ended (Err Store)) → MakesCalls was p t u xs → MakesCalls was q t u xs
+abbrev pub calls_either : (t u : Option (List ReportedCall)) (was : Option (Result EndCause ServeFault)) (p q : Progress) (xs : List Exchange) → (p ≡ Ended (Err Store) → q ≡ Ended (Err Store)) → (q ≡ Ended (Err Store) → p ≡ Ended (Err Store)) → MakesCalls was p t u xs → MakesCalls was q t u xs
 calls_either t u was p q xs to back calls = record { failed = calls.failed; told = calls.told; ends = λ some. to (calls.ends some); only = λ not is. calls.only not (back is) }
 
 -- what an end that was told says of the progress that it is
-pub ended_to : (p q : Progress) (end : Result Served ServeFault) → p ≡ Ended end → (end ≡ Err Store → q ≡ Ended (Err Store)) → p ≡ Ended (Err Store) → q ≡ Ended (Err Store)
+pub ended_to : (p q : Progress) (end : Result EndCause ServeFault) → p ≡ Ended end → (end ≡ Err Store → q ≡ Ended (Err Store)) → p ≡ Ended (Err Store) → q ≡ Ended (Err Store)
 ended_to p q end is store failed = store (ended_same end (Err Store) (sym is ∙ failed))
 
-pub ended_back : (p q : Progress) (end : Result Served ServeFault) → p ≡ Ended end → (q ≡ Ended (Err Store) → end ≡ Err Store) → q ≡ Ended (Err Store) → p ≡ Ended (Err Store)
+pub ended_back : (p q : Progress) (end : Result EndCause ServeFault) → p ≡ Ended end → (q ≡ Ended (Err Store) → end ≡ Err Store) → q ≡ Ended (Err Store) → p ≡ Ended (Err Store)
 ended_back p q end is other failed = is ∙ ap Ended (other failed)
 
-pub ended_some : (a b : Result Served ServeFault) → Some a ≡ Some b → a ≡ b
+pub ended_some : (a b : Result EndCause ServeFault) → Some a ≡ Some b → a ≡ b
 ended_some a b is = cc
 
 -- a write that took none
@@ -379,7 +379,7 @@ taken_both : (l : Life) (r : List ℕ) (xs : List Exchange) (rest w v : List ℕ
 taken_both l r xs rest w v = λ i. named l (l.bytes ++ r) (l.exchanges ++ xs) rest (append_assoc l.taken w v i)
 
 -- a turn, and then its replies are offered
-pub turned_out : (b : Book) (history : List Entry) (t u : Option (List Told)) (p : Progress) (old mid new : Wire) (c d : State) → Turns b history t u p old mid c d → (o : Offers d mid new) → Turns b history t u p old new c o.now
+pub turned_out : (b : Book) (history : List Entry) (t u : Option (List ReportedCall)) (p : Progress) (old mid new : Wire) (c d : State) → Turns b history t u p old mid c d → (o : Offers d mid new) → Turns b history t u p old new c o.now
 turned_out b history t u p old mid new c d turn o =
     let P : Option (List ℕ) → Type 0 = λ w. Consumes old.remaining w (turn.read ++ turn.lost) in
     record {

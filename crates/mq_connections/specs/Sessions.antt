@@ -5,7 +5,7 @@ use Rattle.std.specs.Ordering.{nat_cmp}
 use Rattle.std.specs.BTreeMap.{BTreeMap, get}
 use Rattle.std.specs.Io.KnownBytes.{Appends, Consumes}
 use Rattle.mq_request.specs.declared.message.Request.{Request}
-use Rattle.mq_ledger.specs.declared.ledger.Told.{Told}
+use Rattle.mq_ledger.specs.declared.ledger.ReportedCall.{ReportedCall}
 use Rattle.mq_ledger.specs.Legal.{Book}
 use Rattle.mq_ledger.specs.Told.{Tells}
 use Rattle.mq_server.specs.declared.fault.ServeFault.TheVariants.{Store}
@@ -31,7 +31,7 @@ those_of n ps = all_of (filter (λ p. eqb p.number n) ps)
 -- what a server stands between: a ledger's book and the calls that it reports, and the wires of the connections
 pub record Outside : Type 0 where
   pub book : Book
-  pub told : Option (List Told)
+  pub told : Option (List ReportedCall)
   pub wires : ℕ → Wire
 
 -- A connection's life, whose exchanges are those of its number: its bytes in are what was read from the wire, but for the
@@ -95,6 +95,6 @@ pub record GoesOnOrStops {A E : Type 0} (old new : Outside) (last : ℕ) (connec
 
 -- whatever was served, a server that held those connections over those wires goes on with these over these
 abbrev pub KeepsGoing : (ℕ → Option State) → (ℕ → Wire) → (ℕ → Option State) → (ℕ → Wire) → Type 0
-KeepsGoing was wires now wires' = (old : Outside) (book : Book) (told : Option (List Told)) (last : ℕ) (failed : Option Request) →
+KeepsGoing was wires now wires' = (old : Outside) (book : Book) (told : Option (List ReportedCall)) (last : ℕ) (failed : Option Request) →
     GoesOn old (record { book = book; told = told; wires = wires }) last was failed →
     GoesOn old (record { book = book; told = told; wires = wires' }) last now failed

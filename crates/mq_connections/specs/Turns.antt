@@ -2,7 +2,7 @@
 use Rattle.std.specs.Prelude.{◌≡◌, ◌≢◌, ◌⊎◌, ℕ, ◌≤◌, List, [], ◌++◌, length, true, Option, None, Some, Err}
 use Rattle.std.specs.Io.KnownBytes.{Appends, Consumes}
 use Rattle.mq_ledger.specs.declared.entry.Entry.{Entry}
-use Rattle.mq_ledger.specs.declared.ledger.Told.{Told}
+use Rattle.mq_ledger.specs.declared.ledger.ReportedCall.{ReportedCall}
 use Rattle.mq_ledger.specs.Legal.{Book}
 use Rattle.mq_server.specs.declared.connection.Progress.{Progress}
 use Rattle.mq_server.specs.declared.connection.Progress.TheVariants.{Ended}
@@ -24,7 +24,7 @@ ClosesAtEnd c now remaining read = now.is_closed ≡ true → (c.is_closed ≡ t
 -- Bytes were read from the wire, and those of one read that found no room are lost; requests were answered by the ledger,
 -- which then has this history and reports their calls, and nothing else came to it; and bytes of replies were written.
 -- Each life of the connection goes on by them, and the request at which the store failed stands next in it.
-pub record Turns (b : Book) (history : List Entry) (before after : Option (List Told)) (turn : Progress)
+pub record Turns (b : Book) (history : List Entry) (before after : Option (List ReportedCall)) (turn : Progress)
     (old new : Wire) (c now : State) : Type 0 where
   pub exchanges : List Exchange
   pub answered : AreAnswered b exchanges history

@@ -1,5 +1,6 @@
 //! The next connection, also after errors that pass.
-ghost use Rattle.std.specs.Prelude.{◌≡◌, ◌*◌, ◌-◌, ◌↔◌, ◌⊎◌, min, false, None, Some, true, IfErr, IfOk, IfSome, IsTrue, MatchOption, OnErr};
+ghost use Rattle.std.specs.Prelude.{◌≡◌, ◌*◌, ◌-◌, ◌↔◌, ◌⊎◌, min, false, None, Some, true, IfErr};
+ghost use Rattle.std.specs.Prelude.{IfOk, IfSome, IsTrue, MatchOption, OnErr};
 ghost use Rattle.std.specs.Duration.{as_nanos};
 ghost use Rattle.std.specs.Time.{instant_nanos};
 ghost use Rattle.std.specs.declared.time.Instant.{Instant};
@@ -132,7 +133,8 @@ impl<'a> Acceptor<'a> {
 
     /// How long to wait for the next attempt, where one is due without the system's word.
     pub fn wait_at(&self, now: Instant) -> Option<Duration>
-        ensures none { (result ≡ None) ↔ ((self.now.left ≡ Connections.Count 0) ⊎ (self.now.may_have ≡ false)) }
+        ensures none { (result ≡ None) ↔ ((self.now.left ≡ Connections.Count 0)
+            ⊎ (self.now.may_have ≡ false)) }
         ensures at_once { self.now.resume ≡ None → IfSome result (λ wait. as_nanos wait ≡ 0) }
         ensures pause { (until : Instant) → self.now.resume ≡ Some until →
             IfSome result (λ wait. as_nanos wait ≡ instant_nanos until - instant_nanos now) }
@@ -152,8 +154,8 @@ impl<'a> Acceptor<'a> {
         Ok(wait.is_some_and(|wait| wait.is_zero()))
     }
 
-    /// The next connection, if one is there. An error that passes is logged and waited out, each time for longer; any
-    /// other is logged, and ends the serving.
+    /// The next connection, if one is there. An error that passes is logged and waited out, each
+    /// time for longer; any other is logged, and ends the serving.
     pub fn next<C: Clock, G: Log>(
         &mut self,
         clock: &C,
@@ -163,8 +165,10 @@ impl<'a> Acceptor<'a> {
         ensures counts { IfOk result (λ next. MatchOption next (self.new.left ≡ self.old.left)
             (λ _. self.new.left ≡ one_less self.old.left)) }
         ensures failed { OnErr result (self.new.left ≡ self.old.left) }
-        // After a connection the next attempt is due at once, and the next pause is the first again.
-        ensures again { IfOk result (λ next. IfSome next (λ _. (self.new.resume ≡ None) × (self.new.pause ≡ 10))) }
+        // After a connection the next attempt is due at once, and the next pause is the first
+        // again.
+        ensures again { IfOk result (λ next. IfSome next (λ _. (self.new.resume ≡ None)
+            × (self.new.pause ≡ 10))) }
     {
         // (where the clock can't be read, an attempt is made)
         if self.is_done() || !self.is_due(clock).unwrap_or(true) {

@@ -6,9 +6,11 @@ ghost use Rattle.mq_connections.specs.Sessions.{EndsServing, Outside};
 use crate::fault::RoomFault;
 use mq_server::laws::{a_life_is_served, more_exchanges};
 
-/// Where nothing was served the book is as before, no call was made, and nothing came on any connection.
+/// Where nothing was served the book is as before, no call was made, and nothing came on any
+/// connection.
 pub fn nothing_is_served()
-    ensures { (o : Outside) → IsLegalBook o.book → EndsServing {A = Unit {0}} o o RoomFault.Store (Ok tt) }
+    ensures { (o : Outside) → IsLegalBook o.book → EndsServing {A = Unit {0}} o o RoomFault.Store
+        (Ok tt) }
 {
     a_life_is_served();
     more_exchanges();

@@ -9,17 +9,18 @@ use std::io;
 use std::net::SocketAddr;
 use std::time::{Duration, Instant};
 
-/// Connections that come, each under a number, and their streams, whose `read` and `write` mean what those of std mean.
-/// What a stream doesn't give or take now is an error `WouldBlock`.
+/// Connections that come, each under a number, and their streams, whose `read` and `write` mean
+/// what those of std mean. What a stream doesn't give or take now is an error `WouldBlock`.
 pub trait Network {
-    // The bytes that reads of a connection will give from here on, those that were written to it, and what its peer left
-    // of the last write, where they are known.
+    // The bytes that reads of a connection will give from here on, those that were written to it,
+    // and what its peer left of the last write, where they are known.
     ghost wire: { Self → ℕ → Wire } = { λ _ n. unknown n };
 
     // No further connection comes.
     ghost is_over: { Self → Type 0 };
 
-    /// The next connection, if one has come: it has this number from here on, and `accept` says who its peer is.
+    /// The next connection, if one has come: it has this number from here on, and `accept` says who
+    /// its peer is.
     fn accept(&mut self, number: usize) -> Result<Option<SocketAddr>, RoomFault>
         ensures fault { IfErr result (λ fault. fault ≡ RoomFault.Accept) }
         ensures same { (n : ℕ) → wire self.new n ≡ wire self.old n };
@@ -28,10 +29,12 @@ pub trait Network {
     fn is_done(&self) -> bool
         ensures { IsTrue result → is_over self.now };
 
-    /// How long to wait for the next attempt to accept, where one is due without a report of the system's.
+    /// How long to wait for the next attempt to accept, where one is due without a report of the
+    /// system's.
     fn accepts_in(&self, now: Instant) -> Option<Duration>;
 
-    /// Waits until something comes, at most so long, and adds the numbers of the connections of which something came.
+    /// Waits until something comes, at most so long, and adds the numbers of the connections of
+    /// which something came.
     fn wait(&mut self, wait: Option<Duration>, ready: &mut Vec<usize>) -> io::Result<()>
         ensures same { (n : ℕ) → wire self.new n ≡ wire self.old n };
 
@@ -42,7 +45,8 @@ pub trait Network {
     /// Reads what came on a connection, as far as there is room for it. 0 at the peer's end.
     fn read(&mut self, number: usize, piece: &mut [u8]) -> io::Result<usize>
         ensures bound { ReadsAtMost result piece.new }
-        ensures bytes { ReadConsumes (wire self.old number).remaining (wire self.new number).remaining result piece.new }
+        ensures bytes { ReadConsumes (wire self.old number).remaining
+            (wire self.new number).remaining result piece.new }
         ensures contents { (wire self.new number).contents ≡ (wire self.old number).contents }
         ensures left { (wire self.new number).left ≡ (wire self.old number).left }
         ensures others { (n : ℕ) → n ≢ number → wire self.new n ≡ wire self.old n };
@@ -50,7 +54,8 @@ pub trait Network {
     /// Writes a prefix of the bytes to a connection, and says how many.
     fn write(&mut self, number: usize, bytes: &[u8]) -> io::Result<usize>
         ensures bound { WritesAtMost result bytes.now }
-        ensures bytes { WriteAppends (wire self.old number).contents (wire self.new number).contents result bytes.now }
+        ensures bytes { WriteAppends (wire self.old number).contents
+            (wire self.new number).contents result bytes.now }
         ensures left { Leaves (wire self.new number).left result bytes.now }
         ensures over { is_over self.old → is_over self.new }
         ensures remaining { (wire self.new number).remaining ≡ (wire self.old number).remaining }

@@ -1,5 +1,7 @@
-//! A connection that is open, and its turns: none waits for the peer, so none holds back another connection.
-ghost use Rattle.std.specs.Prelude.{◌≡◌, ◌≢◌, ◌⊎◌, ◌<◌, ◌≤◌, ◌+◌, [], List, ℕ, ◌++◌, length, Err, None, Some, IfOk};
+//! A connection that is open, and its turns: none waits for the peer, so none holds back another
+//! connection.
+ghost use Rattle.std.specs.Prelude.{◌≡◌, ◌≢◌, ◌⊎◌, ◌<◌, ◌≤◌, ◌+◌, [], List, ℕ, ◌++◌, length, Err};
+ghost use Rattle.std.specs.Prelude.{None, Some, IfOk};
 ghost use Rattle.std.specs.Io.KnownBytes.{Appends, Consumes, Keeps};
 ghost use Rattle.mq_ledger.specs.Leaving.{LeavesLedger};
 ghost use Rattle.mq_server.specs.declared.connection.Progress.TheVariants.{Ended};
@@ -12,7 +14,7 @@ use crate::network::Network;
 use mq_ledger::Ledger;
 use mq_link::deadline_after;
 use mq_server::laws::more_exchanges;
-use mq_server::{Connection, PIECE, Progress, ServeFault, Served};
+use mq_server::{Connection, EndCause, PIECE, Progress, ServeFault};
 use mq_watch::Hear;
 use std::alloc::Global;
 use std::io;
@@ -24,11 +26,12 @@ use std::time::{Duration, Instant};
 /// How many timeouts a whole connection has.
 const TIMEOUTS: u32 = 2;
 
-/// The most frames that are answered in one turn: their replies are held until the peer takes them, and a page of a
-/// list has up to 27 kilobytes.
+/// The most frames that are answered in one turn: their replies are held until the peer takes them,
+/// and a page of a list has up to 27 kilobytes.
 const FRAMES: u32 = 8;
 
-/// The most turns of a connection before the others have theirs. In each it reads, answers or writes.
+/// The most turns of a connection before the others have theirs. In each it reads, answers or
+/// writes.
 const TURNS: u32 = 32;
 
 /// A connection that is open.
@@ -43,8 +46,8 @@ pub struct OpenConnection {
 }
 
 impl OpenConnection {
-    /// A connection that was accepted now. `timeout` is how long nothing may come or be taken; the whole has twice as
-    /// long.
+    /// A connection that was accepted now. `timeout` is how long nothing may come or be taken; the
+    /// whole has twice as long.
     pub fn new(
         clock: &impl Clock,
         alloc: Global,
@@ -73,9 +76,10 @@ impl OpenConnection {
         }
     }
 
-    /// Writes of the replies that wait what the peer takes now. Where none wait, answers the next whole frames and,
-    /// where none is there, reads. `Waits` where the peer has to send or to take something first, and an end once the
-    /// replies before it are taken; where the store failed, nothing more is waited for.
+    /// Writes of the replies that wait what the peer takes now. Where none wait, answers the next
+    /// whole frames and, where none is there, reads. `Waits` where the peer has to send or to take
+    /// something first, and an end once the replies before it are taken; where the store failed,
+    /// nothing more is waited for.
     pub fn take_turn<N: Network, C: Clock, L: Ledger>(
         &mut self,
         clock: &C,
@@ -87,15 +91,19 @@ impl OpenConnection {
     ) -> Progress
         // Of any ledger, sound or not.
         ensures others { (n : ℕ) → n ≢ number → N.wire network.new n ≡ N.wire network.old n }
-        ensures store { result ≡ Ended (Err ServeFault.Store) → self.new.connection.end ≡ Some (Err ServeFault.Store) }
+        ensures store { result ≡ Ended (Err ServeFault.Store)
+            → self.new.connection.end ≡ Some (Err ServeFault.Store) }
         ensures works { self.old.connection.end ≢ Some (Err ServeFault.Store) →
-            result ≢ Ended (Err ServeFault.Store) → self.new.connection.end ≢ Some (Err ServeFault.Store) }
+            result ≢ Ended (Err ServeFault.Store) → self.new.connection.end ≢ Some
+            (Err ServeFault.Store) }
         ensures leaves { LeavesLedger L.book L.has_kept L.is_sound L.has_store ledger.old ledger.new }
 
         // Of a sound one that has kept its premise.
         ensures turns { L.has_kept ledger.new → L.is_sound ledger.old →
-            Turns (L.book ledger.old) (L.book ledger.new).history (L.told ledger.old) (L.told ledger.new) result
-            (N.wire network.old number) (N.wire network.new number) self.old.connection self.new.connection }
+            Turns (L.book ledger.old) (L.book ledger.new).history (L.told ledger.old)
+            (L.told ledger.new) result
+            (N.wire network.old number) (N.wire network.new number) self.old.connection
+            self.new.connection }
     {
         more_exchanges();
         if !self.connection.replies().is_empty() {
@@ -109,9 +117,9 @@ impl OpenConnection {
         }
     }
 
-    /// The turn of a connection that has ended so: its replies go out before its end is reported. Where the store failed,
-    /// nothing is waited for.
-    fn end_turn(&self, end: Result<Served, ServeFault>) -> Progress
+    /// The turn of a connection that has ended so: its replies go out before its end is reported.
+    /// Where the store failed, nothing is waited for.
+    fn end_turn(&self, end: Result<EndCause, ServeFault>) -> Progress
         ensures store { end ≡ Err ServeFault.Store → result ≡ Ended (Err ServeFault.Store) }
         ensures other { result ≡ Ended (Err ServeFault.Store) → end ≡ Err ServeFault.Store }
     {
@@ -126,7 +134,8 @@ impl OpenConnection {
     pub fn offer<N: Network>(&mut self, network: &mut N, number: usize)
         ensures over { N.is_over network.old → N.is_over network.new }
         ensures others { (n : ℕ) → n ≢ number → N.wire network.new n ≡ N.wire network.old n }
-        ensures offers { Offers self.old.connection (N.wire network.old number) (N.wire network.new number) }
+        ensures offers { Offers self.old.connection (N.wire network.old number)
+            (N.wire network.new number) }
     {
         if self.connection.replies().is_empty() {
             return;
@@ -148,10 +157,13 @@ impl OpenConnection {
         ensures end { self.new.connection.end ≡ self.old.connection.end }
         ensures closed { self.new.connection.is_closed ≡ self.old.connection.is_closed }
         ensures other { result ≢ Ended (Err ServeFault.Store) }
-        ensures remaining { (N.wire network.new number).remaining ≡ (N.wire network.old number).remaining }
+        ensures remaining { (N.wire network.new number).remaining
+            ≡ (N.wire network.old number).remaining }
         ensures writes { (written : List ℕ)
-            × Appends (N.wire network.old number).contents (N.wire network.new number).contents written
-            × ((l : Life) → Lives l self.old.connection → Lives (with_taken l written) self.new.connection) }
+            × Appends (N.wire network.old number).contents
+            (N.wire network.new number).contents written
+            × ((l : Life) → Lives l self.old.connection
+            → Lives (with_taken l written) self.new.connection) }
     {
         match network.write(number, self.connection.replies()) {
             Ok(0) => Progress::Ended(Err(ServeFault::Write)),
@@ -177,16 +189,22 @@ impl OpenConnection {
         ensures others { (n : ℕ) → n ≢ number → N.wire network.new n ≡ N.wire network.old n }
         ensures end { self.new.connection.end ≡ None }
         ensures other { result ≢ Ended (Err ServeFault.Store) }
-        ensures contents { (N.wire network.new number).contents ≡ (N.wire network.old number).contents }
+        ensures contents { (N.wire network.new number).contents
+            ≡ (N.wire network.old number).contents }
         ensures reads { (read : List ℕ) × (lost : List ℕ) × (length lost ≤ piece_limit)
             × (result ≢ Ended (Err ServeFault.Memory) → lost ≡ [])
-            × Consumes (N.wire network.old number).remaining (N.wire network.new number).remaining (read ++ lost)
-            × ClosesAtEnd self.old.connection self.new.connection (N.wire network.old number).remaining read
-            × ((l : Life) → Lives l self.old.connection → Lives (with_bytes l read) self.new.connection) }
-        // Memory is lacking where the system says so, and nothing was read, or where what was read had no room.
+            × Consumes (N.wire network.old number).remaining (N.wire network.new number).remaining
+            (read ++ lost)
+            × ClosesAtEnd self.old.connection self.new.connection
+            (N.wire network.old number).remaining read
+            × ((l : Life) → Lives l self.old.connection
+            → Lives (with_bytes l read) self.new.connection) }
+        // Memory is lacking where the system says so, and nothing was read, or where what was read
+        // had no room.
         ensures full { result ≡ Ended (Err ServeFault.Memory) →
             Keeps (N.wire network.old number).remaining (N.wire network.new number).remaining
-            ⊎ ((lost : List ℕ) × Consumes (N.wire network.old number).remaining (N.wire network.new number).remaining lost
+            ⊎ ((lost : List ℕ) × Consumes (N.wire network.old number).remaining
+            (N.wire network.new number).remaining lost
             × (self.old.connection.room < length self.old.connection.rest + length lost)) }
     {
         let mut piece = [0u8; PIECE];
@@ -242,13 +260,17 @@ fn take_turns<N: Network, C: Clock, L: Ledger>(
     ledger: &mut L,
 ) -> Progress
     ensures others { (n : ℕ) → n ≢ number → N.wire network.new n ≡ N.wire network.old n }
-    ensures store { result ≡ Ended (Err ServeFault.Store) → opened.new.connection.end ≡ Some (Err ServeFault.Store) }
+    ensures store { result ≡ Ended (Err ServeFault.Store)
+        → opened.new.connection.end ≡ Some (Err ServeFault.Store) }
     ensures works { opened.old.connection.end ≢ Some (Err ServeFault.Store) →
-        result ≢ Ended (Err ServeFault.Store) → opened.new.connection.end ≢ Some (Err ServeFault.Store) }
+        result ≢ Ended (Err ServeFault.Store) → opened.new.connection.end ≢ Some
+        (Err ServeFault.Store) }
     ensures leaves { LeavesLedger L.book L.has_kept L.is_sound L.has_store ledger.old ledger.new }
     ensures turns { L.has_kept ledger.new → L.is_sound ledger.old →
-        Turns (L.book ledger.old) (L.book ledger.new).history (L.told ledger.old) (L.told ledger.new) result
-        (N.wire network.old number) (N.wire network.new number) opened.old.connection opened.new.connection }
+        Turns (L.book ledger.old) (L.book ledger.new).history (L.told ledger.old)
+        (L.told ledger.new) result
+        (N.wire network.old number) (N.wire network.new number) opened.old.connection
+        opened.new.connection }
 {
     more_exchanges();
     for _turn in 0..TURNS {
@@ -272,13 +294,17 @@ pub fn give_turns<N: Network, C: Clock, L: Ledger + Hear>(
 ) -> Progress
     ensures heard { L.hears ledger.old opened.old.peer }
     ensures others { (n : ℕ) → n ≢ number → N.wire network.new n ≡ N.wire network.old n }
-    ensures store { result ≡ Ended (Err ServeFault.Store) → opened.new.connection.end ≡ Some (Err ServeFault.Store) }
+    ensures store { result ≡ Ended (Err ServeFault.Store)
+        → opened.new.connection.end ≡ Some (Err ServeFault.Store) }
     ensures works { opened.old.connection.end ≢ Some (Err ServeFault.Store) →
-        result ≢ Ended (Err ServeFault.Store) → opened.new.connection.end ≢ Some (Err ServeFault.Store) }
+        result ≢ Ended (Err ServeFault.Store) → opened.new.connection.end ≢ Some
+        (Err ServeFault.Store) }
     ensures leaves { LeavesLedger L.book L.has_kept L.is_sound L.has_store ledger.old ledger.new }
     ensures turns { L.has_kept ledger.new → L.is_sound ledger.old →
-        Turns (L.book ledger.old) (L.book ledger.new).history (L.told ledger.old) (L.told ledger.new) result
-        (N.wire network.old number) (N.wire network.new number) opened.old.connection opened.new.connection }
+        Turns (L.book ledger.old) (L.book ledger.new).history (L.told ledger.old)
+        (L.told ledger.new) result
+        (N.wire network.old number) (N.wire network.new number) opened.old.connection
+        opened.new.connection }
 {
     ledger.hear(opened.peer);
     take_turns(clock, alloc, network, number, opened, timeout, ledger)

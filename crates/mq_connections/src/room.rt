@@ -1,7 +1,7 @@
 //! The connections that are open.
 ghost use Rattle.std.specs.Prelude.{◌≡◌, ◌≢◌, ◌+◌, ℕ, List, Option, None, Err, IfErr, OnOk};
 ghost use Rattle.mq_ledger.specs.Leaving.{LeavesLedger};
-ghost use Rattle.mq_ledger.specs.declared.ledger.Told.{Told};
+ghost use Rattle.mq_ledger.specs.declared.ledger.ReportedCall.{ReportedCall};
 ghost use Rattle.mq_ledger.specs.Legal.{Book};
 ghost use Rattle.mq_server.specs.Delivery.{HasGrown};
 ghost use Rattle.mq_connections.specs.Sessions.{GoesOn, GoesOnOrStops, KeepsGoing, Outside, held};
@@ -13,7 +13,7 @@ use crate::opened::{OpenConnection, give_turns};
 use log::{Log, error, warn};
 use mq_ledger::Ledger;
 use mq_server::laws::{a_life_is_served, more_deliveries, more_exchanges};
-use mq_server::{PIECE, Progress, ServeFault, Served};
+use mq_server::{EndCause, PIECE, Progress, ServeFault};
 use mq_watch::Hear;
 use std::alloc::Global;
 use std::collections::BTreeMap;
@@ -60,7 +60,8 @@ impl Room {
             .map(|(_, until)| until.duration_since(now))
     }
 
-    /// Accepts the connections that have come. Where no place is left, the one that would be late first is closed.
+    /// Accepts the connections that have come. Where no place is left, the one that would be late
+    /// first is closed.
     pub fn accept<N: Network, C: Clock, G: Log>(
         &mut self,
         clock: &C,
@@ -69,9 +70,11 @@ impl Room {
         timeout: Duration,
     ) -> Result<(), RoomFault>
         ensures fault { IfErr result (λ fault. fault ≡ RoomFault.Accept) }
-        ensures goes { (old : Outside) (book : Book) (told : Option (List Told)) →
-            GoesOn old (record { book = book; told = told; wires = N.wire network.old }) self.old.last (held self.old.opened) None →
-            GoesOn old (record { book = book; told = told; wires = N.wire network.new }) self.new.last (held self.new.opened) None }
+        ensures goes { (old : Outside) (book : Book) (told : Option (List ReportedCall)) →
+            GoesOn old (record { book = book; told = told; wires = N.wire network.old })
+            self.old.last (held self.old.opened) None →
+            GoesOn old (record { book = book; told = told; wires = N.wire network.new })
+            self.new.last (held self.new.opened) None }
     {
         for _connection in 0..ACCEPTED {
             let Some(number) = self.last.checked_add(1) else {
@@ -96,9 +99,12 @@ impl Room {
         timeout: Duration,
     )
         ensures last { self.new.last ≡ self.old.last }
-        ensures goes { (old : Outside) (book : Book) (told : Option (List Told)) (before : ℕ) → self.old.last ≡ before + 1 →
-            GoesOn old (record { book = book; told = told; wires = N.wire network.old }) before (held self.old.opened) None →
-            GoesOn old (record { book = book; told = told; wires = N.wire network.new }) self.old.last (held self.new.opened) None }
+        ensures goes { (old : Outside) (book : Book) (told : Option (List ReportedCall))
+            (before : ℕ) → self.old.last ≡ before + 1 →
+            GoesOn old (record { book = book; told = told; wires = N.wire network.old }) before
+            (held self.old.opened) None →
+            GoesOn old (record { book = book; told = told; wires = N.wire network.new })
+            self.old.last (held self.new.opened) None }
     {
         a_life_is_served();
         let open = match OpenConnection::new(clock, self.alloc, peer, timeout) {
@@ -120,7 +126,8 @@ impl Room {
     /// Closes the connection that would be late first, where no place is left.
     fn make_place<N: Network, G: Log>(&mut self, log: &G, network: &mut N)
         ensures last { self.new.last ≡ self.old.last }
-        ensures goes { KeepsGoing (held self.old.opened) (N.wire network.old) (held self.new.opened) (N.wire network.new) }
+        ensures goes { KeepsGoing (held self.old.opened) (N.wire network.old) (held self.new.opened)
+            (N.wire network.new) }
     {
         if self.opened.len() < PLACES {
             return;
@@ -146,11 +153,20 @@ impl Room {
         ledger: &mut L,
     ) -> Result<(), RoomFault>
         ensures leaves { LeavesLedger L.book L.has_kept L.is_sound L.has_store ledger.old ledger.new }
-        ensures grows { L.has_kept ledger.new → L.is_sound ledger.old → HasGrown (L.book ledger.old) (L.book ledger.new) }
+        ensures grows { L.has_kept ledger.new → L.is_sound ledger.old
+            → HasGrown (L.book ledger.old) (L.book ledger.new) }
         ensures fault { IfErr result (λ fault. fault ≡ RoomFault.Store) }
         ensures goes { L.has_kept ledger.new → L.is_sound ledger.old → (old : Outside) →
-            (let before : Outside = record { book = L.book ledger.old; told = L.told ledger.old; wires = N.wire network.old } in
-            let after : Outside = record { book = L.book ledger.new; told = L.told ledger.new; wires = N.wire network.new } in
+            (let before : Outside = record {
+              book = L.book ledger.old;
+              told = L.told ledger.old;
+              wires = N.wire network.old;
+            } in
+            let after : Outside = record {
+              book = L.book ledger.new;
+              told = L.told ledger.new;
+              wires = N.wire network.new;
+            } in
             GoesOn old before self.old.last (held self.old.opened) None →
             GoesOnOrStops old after self.new.last (held self.new.opened) RoomFault.Store result) }
     {
@@ -172,11 +188,20 @@ impl Room {
         ledger: &mut L,
     ) -> Result<(), RoomFault>
         ensures leaves { LeavesLedger L.book L.has_kept L.is_sound L.has_store ledger.old ledger.new }
-        ensures grows { L.has_kept ledger.new → L.is_sound ledger.old → HasGrown (L.book ledger.old) (L.book ledger.new) }
+        ensures grows { L.has_kept ledger.new → L.is_sound ledger.old
+            → HasGrown (L.book ledger.old) (L.book ledger.new) }
         ensures fault { IfErr result (λ fault. fault ≡ RoomFault.Store) }
         ensures goes { L.has_kept ledger.new → L.is_sound ledger.old → (old : Outside) →
-            (let before : Outside = record { book = L.book ledger.old; told = L.told ledger.old; wires = N.wire network.old } in
-            let after : Outside = record { book = L.book ledger.new; told = L.told ledger.new; wires = N.wire network.new } in
+            (let before : Outside = record {
+              book = L.book ledger.old;
+              told = L.told ledger.old;
+              wires = N.wire network.old;
+            } in
+            let after : Outside = record {
+              book = L.book ledger.new;
+              told = L.told ledger.new;
+              wires = N.wire network.new;
+            } in
             GoesOn old before self.old.last (held self.old.opened) None →
             GoesOnOrStops old after self.new.last (held self.new.opened) RoomFault.Store result) }
     {
@@ -207,7 +232,8 @@ impl Room {
         peer: &SocketAddr,
     )
         ensures last { self.new.last ≡ self.old.last }
-        ensures goes { KeepsGoing (held self.old.opened) (N.wire network.old) (held self.new.opened) (N.wire network.new) }
+        ensures goes { KeepsGoing (held self.old.opened) (N.wire network.old) (held self.new.opened)
+            (N.wire network.new) }
     {
         let Err(cause) = network.watch_again(number) else {
             return;
@@ -219,7 +245,8 @@ impl Room {
     /// Closes the connections that were late at that moment.
     pub fn expire<N: Network, G: Log>(&mut self, log: &G, network: &mut N, now: Instant)
         ensures last { self.new.last ≡ self.old.last }
-        ensures goes { KeepsGoing (held self.old.opened) (N.wire network.old) (held self.new.opened) (N.wire network.new) }
+        ensures goes { KeepsGoing (held self.old.opened) (N.wire network.old) (held self.new.opened)
+            (N.wire network.new) }
     {
         for _late in 0..self.opened.len() {
             match self.first_late() {
@@ -231,11 +258,12 @@ impl Room {
         }
     }
 
-    /// Closes a connection that is late, after its peer was offered the replies that wait. What came and is of no use is
-    /// read, so that the peer's reading ends in order and not by a reset.
+    /// Closes a connection that is late, after its peer was offered the replies that wait. What
+    /// came and is of no use is read, so that the peer's reading ends in order and not by a reset.
     fn give_up<N: Network, G: Log>(&mut self, log: &G, network: &mut N, number: usize)
         ensures last { self.new.last ≡ self.old.last }
-        ensures goes { KeepsGoing (held self.old.opened) (N.wire network.old) (held self.new.opened) (N.wire network.new) }
+        ensures goes { KeepsGoing (held self.old.opened) (N.wire network.old) (held self.new.opened)
+            (N.wire network.new) }
     {
         let Some(mut late) = self.opened.remove(&number) else {
             return;
@@ -253,7 +281,8 @@ impl Room {
     /// Closes a connection, after its peer was offered the replies that wait.
     fn close<N: Network>(&mut self, network: &mut N, number: usize) -> Option<OpenConnection>
         ensures last { self.new.last ≡ self.old.last }
-        ensures closes { Closes (held self.old.opened) (held self.new.opened) (N.wire network.old) (N.wire network.new) number }
+        ensures closes { Closes (held self.old.opened) (held self.new.opened) (N.wire network.old)
+            (N.wire network.new) number }
     {
         let Some(mut closed) = self.opened.remove(&number) else {
             return None;
@@ -268,7 +297,8 @@ impl Room {
         ensures last { self.new.last ≡ self.old.last }
         ensures over { N.is_over network.old → N.is_over network.new }
         ensures none { (n : ℕ) → held self.new.opened n ≡ None }
-        ensures goes { KeepsGoing (held self.old.opened) (N.wire network.old) (held self.new.opened) (N.wire network.new) }
+        ensures goes { KeepsGoing (held self.old.opened) (N.wire network.old) (held self.new.opened)
+            (N.wire network.new) }
     {
         while let Some((number, mut left)) = self.opened.pop_first() {
             left.offer(network, number);
@@ -293,10 +323,11 @@ impl Room {
 fn end_of<G: Log>(
     log: &G,
     peer: &SocketAddr,
-    end: Result<Served, ServeFault>,
+    end: Result<EndCause, ServeFault>,
 ) -> Result<(), RoomFault>
     ensures ok { OnOk result (end ≢ Err ServeFault.Store) }
-    ensures store { IfErr result (λ fault. (fault ≡ RoomFault.Store) × (end ≡ Err ServeFault.Store)) }
+    ensures store { IfErr result (λ fault. (fault ≡ RoomFault.Store)
+        × (end ≡ Err ServeFault.Store)) }
 {
     match end {
         Ok(served) => warn_of(log, peer, served),
@@ -310,12 +341,12 @@ fn end_of<G: Log>(
 }
 
 /// Warns of a connection that ended before its peer's end, or within a frame.
-fn warn_of<G: Log>(log: &G, peer: &SocketAddr, served: Served) {
+fn warn_of<G: Log>(log: &G, peer: &SocketAddr, served: EndCause) {
     let how = match served {
-        Served::InputEnd => return,
-        Served::Enough => "enough",
-        Served::BadFrame => "bad frame",
-        Served::CutFrame => "cut frame",
+        EndCause::InputEnd => return,
+        EndCause::Enough => "enough",
+        EndCause::BadFrame => "bad frame",
+        EndCause::CutFrame => "cut frame",
     };
     warn!(log; "connection of {peer}: {how}");
 }

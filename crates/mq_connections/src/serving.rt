@@ -25,23 +25,24 @@ use std::net::{Net, TcpListener};
 use std::rt::Clock;
 use std::time::{Duration, Instant};
 
-/// Why a serving ended well.
+/// How a serving ended well.
 #[derive(Clone, Copy, Debug, PartialEq, Eq)]
-pub enum Ended {
+pub enum ServingEnd {
     /// All connections were accepted, and have ended.
     Over,
     /// The chore is done.
     Chore,
 }
 
-/// Accepts so many connections, and serves whichever has whole frames there, a few at a time; so no peer holds back the
-/// others by what it doesn't send, or doesn't take of its replies. Each end but that of whole frames is logged with the
-/// peer's address. A store that failed stops the serving, and so does a listener that accepts no more. `timeout` is how
-/// long a peer may neither send nor take anything; a whole connection has twice as long.
+/// Accepts so many connections, and serves whichever has whole frames there, a few at a time; so no
+/// peer holds back the others by what it doesn't send, or doesn't take of its replies. Each end but
+/// that of whole frames is logged with the peer's address. A store that failed stops the serving,
+/// and so does a listener that accepts no more. `timeout` is how long a peer may neither send nor
+/// take anything; a whole connection has twice as long.
 ///
-/// Between the rounds over all that is open it goes on with the chore, first before anything has come. Once that is done
-/// the connections that are open are closed; those that came meanwhile wait at the listener, and `connections` says how
-/// many are to be accepted still.
+/// Between the rounds over all that is open it goes on with the chore, first before anything has
+/// come. Once that is done the connections that are open are closed; those that came meanwhile wait
+/// at the listener, and `connections` says how many are to be accepted still.
 pub fn serve_connections<R: Clock + Net, G: Log, L: Ledger + Hear, K: Chore<L>>(
     rt: &R,
     log: &G,
@@ -51,23 +52,26 @@ pub fn serve_connections<R: Clock + Net, G: Log, L: Ledger + Hear, K: Chore<L>>(
     ledger: &mut L,
     chore: &mut K,
     connections: &mut Connections,
-) -> Result<Ended, RoomFault>
+) -> Result<ServingEnd, RoomFault>
     // Of any ledger, sound or not.
     ensures leaves { LeavesLedger L.book L.has_kept L.is_sound L.has_store ledger.old ledger.new }
-    ensures over { result ≡ Ok Ended.Over → connections.new ≡ Connections.Count 0 }
+    ensures over { result ≡ Ok ServingEnd.Over → connections.new ≡ Connections.Count 0 }
 
     // Of a sound one that has kept its premise.
     ensures serves { L.has_kept ledger.new → L.is_sound ledger.old → EndsServing
         (record { book = L.book ledger.old; told = L.told ledger.old; wires = unknown })
-        (record { book = L.book ledger.new; told = L.told ledger.new; wires = unknown }) RoomFault.Store result }
+        (record { book = L.book ledger.new; told = L.told ledger.new; wires = unknown })
+        RoomFault.Store result }
     ensures history { L.has_kept ledger.new → L.is_sound ledger.old →
         HasGrown (L.book ledger.old) (L.book ledger.new) }
 
     // What the chore did fits the ledger with all that came.
     ensures fits { L.has_kept ledger.new → L.is_sound ledger.old →
-        Fitted (K.fits chore.old) (L.book ledger.old) → Fitted (K.fits chore.new) (L.book ledger.new) }
-    ensures done { L.has_kept ledger.new → L.is_sound ledger.old → Fitted (K.fits chore.old) (L.book ledger.old) →
-        result ≡ Ok Ended.Chore → K.is_done chore.new (L.book ledger.new) }
+        Fitted (K.fits chore.old) (L.book ledger.old) → Fitted (K.fits chore.new)
+        (L.book ledger.new) }
+    ensures done { L.has_kept ledger.new → L.is_sound ledger.old
+        → Fitted (K.fits chore.old) (L.book ledger.old) →
+        result ≡ Ok ServingEnd.Chore → K.is_done chore.new (L.book ledger.new) }
 {
     a_life_is_served();
     more_exchanges();
@@ -81,8 +85,9 @@ pub fn serve_connections<R: Clock + Net, G: Log, L: Ledger + Hear, K: Chore<L>>(
     outcome
 }
 
-/// Serves the connections of a network until all were accepted and have ended, or the chore is done, or it has to stop. A
-/// connection is closed only after its peer was offered the replies that wait.
+/// Serves the connections of a network until all were accepted and have ended, or the chore is
+/// done, or it has to stop. A connection is closed only after its peer was offered the replies that
+/// wait.
 pub fn serve_network<N: Network, C: Clock, G: Log, L: Ledger + Hear, K: Chore<L>>(
     clock: &C,
     log: &G,
@@ -91,19 +96,22 @@ pub fn serve_network<N: Network, C: Clock, G: Log, L: Ledger + Hear, K: Chore<L>
     timeout: Duration,
     ledger: &mut L,
     chore: &mut K,
-) -> Result<Ended, RoomFault>
+) -> Result<ServingEnd, RoomFault>
     // Of any ledger, sound or not.
     ensures leaves { LeavesLedger L.book L.has_kept L.is_sound L.has_store ledger.old ledger.new }
-    ensures over { result ≡ Ok Ended.Over → N.is_over network.new }
+    ensures over { result ≡ Ok ServingEnd.Over → N.is_over network.new }
 
     // Of a sound one that has kept its premise.
     ensures serves { L.has_kept ledger.new → L.is_sound ledger.old → EndsServing
         (record { book = L.book ledger.old; told = L.told ledger.old; wires = N.wire network.old })
-        (record { book = L.book ledger.new; told = L.told ledger.new; wires = N.wire network.new }) RoomFault.Store result }
+        (record { book = L.book ledger.new; told = L.told ledger.new; wires = N.wire network.new })
+        RoomFault.Store result }
     ensures fits { L.has_kept ledger.new → L.is_sound ledger.old →
-        Fitted (K.fits chore.old) (L.book ledger.old) → Fitted (K.fits chore.new) (L.book ledger.new) }
-    ensures done { L.has_kept ledger.new → L.is_sound ledger.old → Fitted (K.fits chore.old) (L.book ledger.old) →
-        result ≡ Ok Ended.Chore → K.is_done chore.new (L.book ledger.new) }
+        Fitted (K.fits chore.old) (L.book ledger.old) → Fitted (K.fits chore.new)
+        (L.book ledger.new) }
+    ensures done { L.has_kept ledger.new → L.is_sound ledger.old
+        → Fitted (K.fits chore.old) (L.book ledger.old) →
+        result ≡ Ok ServingEnd.Chore → K.is_done chore.new (L.book ledger.new) }
 {
     a_life_is_served();
     more_exchanges();
@@ -116,7 +124,8 @@ pub fn serve_network<N: Network, C: Clock, G: Log, L: Ledger + Hear, K: Chore<L>
     ended
 }
 
-/// Serves the connections of a network, round by round. Where it has to stop, some may be open still.
+/// Serves the connections of a network, round by round. Where it has to stop, some may be open
+/// still.
 fn serve_rounds<N: Network, C: Clock, G: Log, L: Ledger + Hear, K: Chore<L>>(
     clock: &C,
     log: &G,
@@ -126,27 +135,38 @@ fn serve_rounds<N: Network, C: Clock, G: Log, L: Ledger + Hear, K: Chore<L>>(
     timeout: Duration,
     ledger: &mut L,
     chore: &mut K,
-) -> Result<Ended, RoomFault>
+) -> Result<ServingEnd, RoomFault>
     ensures leaves { LeavesLedger L.book L.has_kept L.is_sound L.has_store ledger.old ledger.new }
-    ensures over { result ≡ Ok Ended.Over → N.is_over network.new }
+    ensures over { result ≡ Ok ServingEnd.Over → N.is_over network.new }
     ensures goes { L.has_kept ledger.new → L.is_sound ledger.old → (old : Outside) →
-        (let before : Outside = record { book = L.book ledger.old; told = L.told ledger.old; wires = N.wire network.old } in
-        let after : Outside = record { book = L.book ledger.new; told = L.told ledger.new; wires = N.wire network.new } in
+        (let before : Outside = record {
+          book = L.book ledger.old;
+          told = L.told ledger.old;
+          wires = N.wire network.old;
+        } in
+        let after : Outside = record {
+          book = L.book ledger.new;
+          told = L.told ledger.new;
+          wires = N.wire network.new;
+        } in
         GoesOn old before room.old.last (held room.old.opened) None →
         GoesOnOrStops old after room.new.last (held room.new.opened) RoomFault.Store result) }
     ensures fits { L.has_kept ledger.new → L.is_sound ledger.old →
-        Fitted (K.fits chore.old) (L.book ledger.old) → Fitted (K.fits chore.new) (L.book ledger.new) }
-    ensures done { L.has_kept ledger.new → L.is_sound ledger.old → Fitted (K.fits chore.old) (L.book ledger.old) →
-        result ≡ Ok Ended.Chore → K.is_done chore.new (L.book ledger.new) }
+        Fitted (K.fits chore.old) (L.book ledger.old) → Fitted (K.fits chore.new)
+        (L.book ledger.new) }
+    ensures done { L.has_kept ledger.new → L.is_sound ledger.old
+        → Fitted (K.fits chore.old) (L.book ledger.old) →
+        result ≡ Ok ServingEnd.Chore → K.is_done chore.new (L.book ledger.new) }
 {
     more_deliveries();
     // (the chore may have something to do before anything comes)
     let mut piece = Piece::More;
     for _round in 0..u64::MAX {
         room.accept(clock, log, network, timeout)?;
-        // The last connection may just have been given up as memory ran out: then nothing more comes.
+        // The last connection may just have been given up as memory ran out: then nothing more
+        // comes.
         if network.is_done() && room.is_empty() {
-            return Ok(Ended::Over);
+            return Ok(ServingEnd::Over);
         }
         let now = match wait(clock, room, network, ready, piece) {
             Ok(now) => now,
@@ -155,7 +175,7 @@ fn serve_rounds<N: Network, C: Clock, G: Log, L: Ledger + Hear, K: Chore<L>>(
         room.serve(clock, log, network, ready, timeout, ledger)?;
         room.expire(log, network, now);
         match chore.go_on(ledger) {
-            Piece::Done => return Ok(Ended::Chore),
+            Piece::Done => return Ok(ServingEnd::Chore),
             wanted => piece = wanted,
         }
     }
@@ -163,8 +183,8 @@ fn serve_rounds<N: Network, C: Clock, G: Log, L: Ledger + Hear, K: Chore<L>>(
     Err(RoomFault::Accept)
 }
 
-/// Waits until something comes, or until a connection is late, or a pause is over, or the chore has something to do after
-/// this piece, and says when that was.
+/// Waits until something comes, or until a connection is late, or a pause is over, or the chore has
+/// something to do after this piece, and says when that was.
 fn wait<N: Network>(
     clock: &impl Clock,
     room: &Room,
@@ -194,7 +214,8 @@ fn idle_after(piece: Piece) -> Option<Duration>
 
 /// The shorter of two times, where there are such.
 fn first_of(one: Option<Duration>, other: Option<Duration>) -> Option<Duration>
-    ensures { option_map as_nanos result ≡ shorter (option_map as_nanos one) (option_map as_nanos other) }
+    ensures { option_map as_nanos result ≡ shorter (option_map as_nanos one)
+        (option_map as_nanos other) }
 {
     match (one, other) {
         (Some(one), Some(other)) => Some(if one <= other { one } else { other }),

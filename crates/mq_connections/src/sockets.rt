@@ -146,7 +146,8 @@ impl<C: Clock, G: Log> Network for Sockets<'_, C, G> {
     }
 }
 
-/// What the system reports of a connection: that something came, and that its peer takes replies again.
+/// What the system reports of a connection: that something came, and that its peer takes replies
+/// again.
 fn both_ways() -> Interest {
     Interest::READABLE | Interest::WRITABLE
 }

@@ -1,7 +1,8 @@
-//! `limit`, `retire`, `stop`, `resume` and `day` over a ledger in memory: what they print, what they say on errors, and
-//! their statuses. And which texts are printed logins.
+//! `limit`, `retire`, `stop`, `resume` and `day` over a ledger in memory: what they print, what
+//! they say on errors, and their statuses. And which texts are printed logins.
 //!
-//! The helpers have no clauses but the one that its caller needs, so that a test stays cheap to prove.
+//! The helpers have no clauses but the one that its caller needs, so that a test stays cheap to
+//! prove.
 ghost use Rattle.std.specs.Prelude.{IfOk};
 ghost use Rattle.mq_command.specs.Allowing.{IsSetter};
 
@@ -14,7 +15,7 @@ use mq_ledger::{PlainLedger, Zone};
 use mq_link::{Link, LinkFault};
 use mq_request::{Host, Login, Request, is_host, is_login, is_moment, is_request};
 use mq_server::serve;
-use mq_stream::{FromRead, ToWrite};
+use mq_stream::{FromRead, WriterSink};
 use std::alloc::Global;
 use std::process::Abort;
 use std::str;
@@ -31,7 +32,7 @@ impl Link for Near {
     fn exchange(&mut self, frame: &[u8], reply: &mut Vec<u8>) -> Result<(), LinkFault> {
         reply.clear();
         let mut input = FromRead::new(frame);
-        let mut output = ToWrite::new(Vec::new(self.alloc));
+        let mut output = WriterSink::new(Vec::new(self.alloc));
         if serve(self.alloc, &mut input, &mut output, &mut self.ledger).is_err() {
             return Err(LinkFault::Memory);
         }
@@ -235,7 +236,8 @@ const RULE: &str = "CET-1CEST,M3.5.0,M10.5.0/3";
 
 /// What is done in turn, and what is told of it.
 const ACTS: [(Act, &str); 22] = [
-    // Reserves of 1 and of 2 recipients for login `u` on day 1, under numbers 1 and 2 of run 1 of host `a`.
+    // Reserves of 1 and of 2 recipients for login `u` on day 1, under numbers 1 and 2 of run 1 of
+    // host `a`.
     (
         Act::Send("010161000000000000000100000001000000010000000000015180017500000001"),
         "||0",
@@ -244,8 +246,8 @@ const ACTS: [(Act, &str); 22] = [
         Act::Send("010161000000000000000100000002000000010000000000015180017500000002"),
         "||0",
     ),
-    // Limits from day 1 on: below what is used; what is used; another one under the same number, and under the next
-    // run's.
+    // Limits from day 1 on: below what is used; what is used; another one under the same number,
+    // and under the next run's.
     (
         Act::Send("04016200000000000000020000000100000001000000020175"),
         "|mailquota: over day 1 used 3\n|1",

@@ -1,5 +1,5 @@
-//! `limit` and `report` over a link and an output that no run of the program has: an exchange without memory, and a flush
-//! that fails. The rest is asked of the built program.
+//! `limit` and `report` over a link and an output that no run of the program has: an exchange
+//! without memory, and a flush that fails. The rest is asked of the built program.
 //!
 //! The helpers have no clauses, so that a test stays cheap to prove.
 
@@ -77,7 +77,8 @@ enum Ask {
     All,
 }
 
-/// Asserts what is printed, said and ended with, with a `|` between, where this is asked over such a link.
+/// Asserts what is printed, said and ended with, with a `|` between, where this is asked over such
+/// a link.
 fn assert_told(
     rt: &(impl Abort + AllocGlobal),
     ask: Ask,

@@ -1,23 +1,11 @@
 -- What is answered over histories that tell the same.
-use Rattle.std.proofs.Common.{◌≡◌, ℕ, ◌<◌, ◌≤◌, List, [], ◌∷◌, true, false, refl, ◌∙◌, ap, sym, subst, inl, inr, arith}
-use Rattle.std.specs.Prelude.{map, nat_le, nat_lt, if◌then◌else◌, Option, Some, None}
-use Rattle.std.proofs.lemmas.Bool.Decides.{nat_tests}
-use Rattle.mq_lemmas.proofs.Booleans.{either}
+use Rattle.mq_forget.proofs.Words.{AreAlike, Entry, Id, IsLeastOver, IsLoginPage, Limit, List, None, Option, Release, Reply, Request, Reserve, Retire, Settle, Some, Transaction, [], agrees, answer, ap, arith, cap, closed, day_named, either, false, greater, has_reserve, if_open, if◌then◌else◌, inl}
+use Rattle.mq_forget.proofs.Words.{inr, is_about, is_set, map, named, nat_le, nat_lt, nat_tests, over, page, refl, reserved, settled, subst, sym, transaction, true, used, ℕ, ◌<◌, ◌∙◌, ◌∷◌, ◌≡◌, ◌≤◌}
 use Rattle.mq_lemmas.proofs.Numbers.{le_of, lt_of}
-use Rattle.mq_request.specs.declared.message.Id.{Id}
-use Rattle.mq_request.specs.declared.message.Request.{Request}
-use Rattle.mq_request.specs.declared.message.Request.TheVariants.{Reserve, Settle, Release, Limit, Usage, List as ListRequest, Retire}
-use Rattle.mq_request.specs.declared.message.Reply.{Reply}
+use Rattle.mq_request.specs.declared.message.Request.TheVariants.{Usage, List as ListRequest}
 use Rattle.mq_request.specs.declared.message.Reply.TheVariants.{Released, Over, Closed, Usage as UsageReply, List as ListReply}
-use Rattle.mq_ledger.specs.declared.entry.Entry.{Entry}
-use Rattle.mq_ledger.specs.Answer.{if_open, granted_or_full, settled_or_too_many, set_or_over, answer}
-use Rattle.mq_ledger.specs.History.{Transaction, transaction, named, agrees, closed, reserved, settled, used}
-use Rattle.mq_ledger.specs.Arrivals.{greater}
-use Rattle.mq_ledger.specs.Limits.{cap}
-use Rattle.mq_ledger.specs.Over.{over, IsLeastOver}
-use Rattle.mq_ledger.specs.Page.{page, row, IsLoginPage, has_reserve}
-use Rattle.mq_forget.specs.Remembered.{day_named, is_about, is_set}
-use Rattle.mq_forget.specs.Kept.{AreAlike}
+use Rattle.mq_ledger.specs.Answer.{granted_or_full, settled_or_too_many, set_or_over}
+use Rattle.mq_ledger.specs.Page.{row}
 use Rattle.mq_forget.proofs.Numbers.{agreed_day}
 
 -- what two histories tell alike of D and later days, and the laws of a ledger that are used here
@@ -189,9 +177,4 @@ module _ (day : ℕ → ℕ) (default : ℕ) (D : ℕ) (K H : List Entry) (tells
   set_same (Limit id from_day c login) h = limit_same id from_day c login (λ d e. absurd (not_over d e h)) where
     not_over : (d : ℕ) → over day H login from_day c ≡ Some d → is_set (Limit id from_day c login) (set_or_over day H id login (over day H login from_day c)) ≡ true → ⊥
     not_over d e h = (let b : false ≡ true = rw e at h in cc b)
-  set_same (Reserve id txn moment login count) h = absurd (cc h)
-  set_same (Settle id txn moment login count) h = absurd (cc h)
-  set_same (Release id txn moment login) h = absurd (cc h)
-  set_same (Usage login d) h = absurd (cc h)
-  set_same (ListRequest d after) h = absurd (cc h)
-  set_same (Retire id) h = absurd (cc h)
+  set_same r h = absurd (cc h)

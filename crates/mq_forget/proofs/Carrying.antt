@@ -1,26 +1,15 @@
 -- Entries one after another.
-use Rattle.std.proofs.Common.{◌≡◌, ℕ, suc, ◌+◌, ◌<◌, List, [], ◌∷◌, ◌++◌, length, take, drop, get_or, true, false, refl, ◌∙◌, ap, sym, subst, inl, inr, arith, add-one, drop-cons}
-use Rattle.std.specs.Prelude.{All, Some}
+use Rattle.mq_forget.proofs.Words.{All, Entry, IsLegal, IsMoment, IsRequest, List, Release, Request, Reserve, Settle, Some, Transaction, [], ap, arith, either, false, history_of, inl, inr, is_of, length, moment_of, named, refl, remembered, requests, stays, subst, sym, take, true, ℕ, ◌++◌, ◌+◌, ◌<◌}
+use Rattle.mq_forget.proofs.Words.{◌∙◌, ◌∷◌, ◌≡◌}
+use Rattle.std.proofs.Common.{suc, drop, get_or, add-one, drop-cons}
 use Rattle.std.proofs.lemmas.List.{take-append-drop, take_more}
-use Rattle.mq_lemmas.proofs.Booleans.{either}
-use Rattle.mq_request.specs.declared.message.Request.{Request}
-use Rattle.mq_request.specs.declared.message.Request.TheVariants.{Reserve, Settle, Release, Limit, Usage, List as ListRequest, Retire}
-use Rattle.mq_request.specs.Range.{IsRequest, IsMoment}
-use Rattle.mq_ledger.specs.declared.entry.Entry.{Entry}
-use Rattle.mq_ledger.specs.History.{Transaction, requests, is_of, named}
-use Rattle.mq_forget.specs.Remembered.{moment_of, stays, remembered}
-use Rattle.mq_ledger.specs.Answer.{history_of}
-use Rattle.mq_ledger.specs.Legal.{IsLegal}
 use Rattle.mq_forget.specs.Carried.{IsFront}
 
 moment_in_range : (t : Transaction) (r : Request) → is_of t r ≡ true → IsRequest r → IsMoment (moment_of r)
 moment_in_range t (Reserve id txn moment login count) h k = k.2
 moment_in_range t (Settle id txn moment login count) h k = k.2
 moment_in_range t (Release id txn moment login) h k = k.2
-moment_in_range t (Limit id from_day c login) h k = absurd (cc h)
-moment_in_range t (Usage login d) h k = absurd (cc h)
-moment_in_range t (ListRequest d after) h k = absurd (cc h)
-moment_in_range t (Retire id) h k = absurd (cc h)
+moment_in_range t r h k = absurd (cc h)
 
 -- the moment of the entry that names a transaction is in range
 pub named_in_range : (H : List Entry) (t : Transaction) (e : Entry) → All (λ x. IsRequest x.request) H → named H t ≡ Some e → IsMoment (moment_of e.request)

@@ -1,24 +1,11 @@
 -- Each prefix of a legal history is legal.
-use Rattle.std.proofs.Common.{◌≡◌, ℕ, ◌≤◌, List, [], ◌∷◌, ◌++◌, true, false, refl, ◌∙◌, ap, sym, subst, inl, inr, arith, length, take, append_assoc, append-nil, length-append}
-use Rattle.std.specs.Prelude.{map, Option, Some, None, is_some, All}
-use Rattle.std.specs.List.{AllByRecursion}
-use Rattle.std.proofs.lemmas.List.{map-append, append_cancel_left, length-map}
-use Rattle.std.proofs.lemmas.List.Elements.{recursion_from_All, All-from_recursion}
+use Rattle.mq_forget.proofs.Words.{All, All-map, Entry, Id, In, IsLegal, IsRequest, List, None, Option, Reply, Request, Some, [], answer, ap, append-nil, append_assoc, arith, either, entry, false, fresh_reply, history_of, id_of, inl, inr, is_some, known_by, length, map, map-append, refl}
+use Rattle.mq_forget.proofs.Words.{replies_after, reply, requests, subst, sym, take, true, with_arrival, with_arrival_by, ℕ, ◌++◌, ◌∙◌, ◌∷◌, ◌≡◌, ◌≤◌}
+use Rattle.std.proofs.Common.{length-append}
+use Rattle.std.proofs.lemmas.List.{append_cancel_left, length-map}
+use Rattle.std.proofs.lemmas.List.Elements.{All-take}
 use Rattle.std.proofs.Math.Seq.{take-append_seam}
-use Rattle.mq_lemmas.proofs.Booleans.{either, neither}
-use Rattle.mq_lemmas.proofs.Options.{not_some}
-use Rattle.mq_lemmas.proofs.Lists.{In}
-use Rattle.mq_request.specs.declared.message.Id.{Id}
-use Rattle.mq_request.specs.declared.message.Request.{Request}
-use Rattle.mq_request.specs.declared.message.Reply.{Reply}
-use Rattle.mq_request.specs.Range.{IsRequest}
-use Rattle.mq_ledger.specs.declared.entry.Entry.{Entry}
-use Rattle.mq_ledger.specs.Answer.{answer, stored, known_by, reply, reply_to, reply_by, with_arrival, with_arrival_by, history_of, replies_after, replies}
-use Rattle.mq_ledger.specs.Arrivals.{id_of, is_below}
-use Rattle.mq_ledger.specs.History.{requests}
-use Rattle.mq_ledger.specs.Legal.{IsLegal}
-use Rattle.mq_ledger.proofs.Transactions.{entry}
-use Rattle.mq_forget.proofs.Lists.{all_mapped}
+use Rattle.mq_ledger.specs.Answer.{replies}
 
 pub record Builds (day : ℕ → ℕ) (default : ℕ) : Type 0 where
   pub legal : (A : List Request) → All IsRequest A → IsLegal day default (history_of day default A)
@@ -28,10 +15,6 @@ pub record Builds (day : ℕ → ℕ) (default : ℕ) : Type 0 where
 -- equal wholes of equally long prefixes
 same_front : {X : Type 0} (a b c d : List X) → length a ≡ length b → a ++ c ≡ b ++ d → a ≡ b
 same_front a b c d len same = sym (take-append_seam a c) ∙ ap (λ n. take n (a ++ c)) len ∙ ap (take (length b)) same ∙ take-append_seam b d
-
-all_front : {X : Type 0} (P : X → Type 0) (xs ys : List X) → AllByRecursion P (xs ++ ys) → AllByRecursion P xs
-all_front P [] ys all = tt
-all_front P (x ∷ xs) ys all = (all.0, all_front P xs ys all.1)
 
 pub record Grown (H K : List Entry) (n : ℕ) : Type 0 where
   pub rest : List Entry
@@ -73,8 +56,9 @@ module _ (day : ℕ → ℕ) (default : ℕ) (laws : Builds day default) where
 
   pub front_legal : (H S : List Entry) → IsLegal day default (H ++ S) → IsLegal day default H
   front_legal H S legal =
-      let all : AllByRecursion (λ e. IsRequest e.request) H = all_front (λ e. IsRequest e.request) H S (recursion_from_All (λ e. IsRequest e.request) (H ++ S) legal.range) in
-      subst (IsLegal day default) (front_built H S legal) (laws.legal (requests H) (All-from_recursion IsRequest (requests H) (all_mapped IsRequest (λ e. e.request) H all)))
+      let P : Entry → Type 0 = λ e. IsRequest e.request in
+      let range : All P H = subst (All P) (take-append_seam H S) (All-take P (length H) (H ++ S) legal.range) in
+      subst (IsLegal day default) (front_built H S legal) (laws.legal (requests H) (All-map IsRequest (λ e. e.request) H range))
 
   pub record IsNext (H : List Entry) (e : Entry) : Type 0 where
     pub fresh : known_by H (id_of e.request) ≡ false
@@ -106,21 +90,12 @@ module _ (day : ℕ → ℕ) (default : ℕ) (laws : Builds day default) where
       let n = next_by H e (id_of e.request) step in
       record { fresh = n.0; numbered = n.1; answered = n.2 }
 
-  -- a new number's reply is its answer
-  pub new_reply : (H : List Entry) (r : Request) (o : Option Id) → known_by H o ≡ false → reply_to day default H r o ≡ answer day default H r
-  new_reply H r None new = refl
-  new_reply H r (Some id) new =
-      let parts = neither (is_below (requests H) id) (is_some (stored H id)) new in
-      let above : is_below (requests H) id ≡ false = parts.0 in
-      let none : stored H id ≡ None = not_some (stored H id) parts.1 in
-      rw above (ap (reply_by day default H r id) none)
-
   replies_from : (H S : List Entry) → IsLegal day default (H ++ S) → replies_after day default (requests H) (requests S) ≡ map (λ e. e.reply) S
   replies_from H [] legal = refl
   replies_from H (e ∷ S) legal =
       let n = next H S e legal in
       let here : reply day default (history_of day default (requests H)) e.request ≡ e.reply =
-      ap (λ x. reply day default x e.request) (front_built H (e ∷ S) legal) ∙ new_reply H e.request (id_of e.request) n.fresh ∙ sym n.answered in
+      ap (λ x. reply day default x e.request) (front_built H (e ∷ S) legal) ∙ fresh_reply day default H e.request (id_of e.request) n.fresh ∙ sym n.answered in
       let longer : IsLegal day default ((H ++ e ∷ []) ++ S) = subst (IsLegal day default) (sym (append_assoc H (e ∷ []) S)) legal in
       let more : requests (H ++ e ∷ []) ≡ requests H ++ e.request ∷ [] = map-append (λ (x : Entry). x.request) H (e ∷ []) in
       let rest : replies_after day default (requests H ++ e.request ∷ []) (requests S) ≡ map (λ x. x.reply) S = subst (λ q. replies_after day default q (requests S) ≡ map (λ x. x.reply) S) more (replies_from (H ++ e ∷ []) S longer) in

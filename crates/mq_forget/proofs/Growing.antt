@@ -1,26 +1,13 @@
 -- What is remembered of a legal history is legal, entry by entry.
-use Rattle.std.proofs.Common.{◌≡◌, ℕ, ◌<◌, List, [], ◌∷◌, ◌++◌, true, false, refl, ◌∙◌, ap, sym, subst, inl, inr, arith, append-nil}
-use Rattle.std.specs.Prelude.{if◌then◌else◌, Option, Some, None, is_some, All}
-use Rattle.std.specs.List.{AllByRecursion}
-use Rattle.std.proofs.lemmas.List.Elements.{recursion_from_All, All-from_recursion}
-use Rattle.mq_lemmas.proofs.Booleans.{either, neither}
-use Rattle.mq_lemmas.proofs.Options.{not_some}
-use Rattle.mq_lemmas.proofs.Lists.{all_push, by_pushes}
-use Rattle.mq_request.specs.declared.message.Id.{Id}
-use Rattle.mq_request.specs.declared.message.Request.{Request}
-use Rattle.mq_request.specs.Range.{IsRequest}
-use Rattle.mq_ledger.specs.declared.entry.Entry.{Entry}
-use Rattle.mq_ledger.specs.Answer.{answer, appended, stored, known_by, with_arrival, with_arrival_by, history_of}
-use Rattle.mq_ledger.specs.Arrivals.{id_of, has_id, is_below}
-use Rattle.mq_ledger.specs.History.{requests, used}
-use Rattle.mq_ledger.specs.Legal.{IsLegal}
-use Rattle.mq_ledger.specs.Over.{over, IsLeastOver}
-use Rattle.mq_ledger.specs.Page.{page, IsLoginPage}
-use Rattle.mq_ledger.proofs.Transactions.{entry}
-use Rattle.mq_forget.specs.Remembered.{is_about, is_set, stays, remembered}
+use Rattle.mq_forget.proofs.Words.{All-from_recursion, All-map, AllByRecursion, Entry, Id, IsLeastOver, IsLegal, IsLoginPage, IsRequest, List, None, Option, Request, Some, [], answer, ap, arith, arrival_fresh, either, entry, false, has_id, history_of, id_of, inl, inr, is_about, is_below, is_set}
+use Rattle.mq_forget.proofs.Words.{is_some, known_by, neither, not_some, over, page, recursion_from_All, refl, remembered, requests, stays, stored, subst, sym, true, used, with_arrival, with_arrival_by, ℕ, ◌++◌, ◌<◌, ◌∙◌, ◌∷◌, ◌≡◌}
+use Rattle.std.proofs.lemmas.List.Elements.{All-push}
+use Rattle.mq_lemmas.proofs.Lists.{by_pushes}
+use Rattle.mq_ledger.specs.Answer.{appended}
 use Rattle.mq_forget.specs.Kept.{Keeps}
-use Rattle.mq_forget.proofs.Lists.{find_none, all_split, all_mapped}
-use Rattle.mq_forget.proofs.Staying.{one_more, alike, same_cap, same_below}
+use Rattle.mq_ledger.proofs.Basics.{all_split}
+use Rattle.mq_forget.proofs.Lists.{find_none}
+use Rattle.mq_forget.proofs.Staying.{one_kept, one_gone, alike, same_cap, same_below}
 use Rattle.mq_forget.proofs.Fronts.{Builds}
 use Rattle.mq_forget.proofs.Numbers.{reserved_kept, settled_kept, reserves_kept, reserved_before, settled_before, reserves_before}
 use Rattle.mq_forget.proofs.Answers.{Tells, answer_same, set_same}
@@ -35,7 +22,7 @@ pub record Ledgers (day : ℕ → ℕ) (default : ℕ) : Type 0 where
   pub only_first : (H : List Entry) (d : ℕ) (after : List ℕ) (ls : List (List ℕ)) → IsLoginPage day H d after ls → ls ≡ page day H d after
 
 pub in_range : (day : ℕ → ℕ) (default : ℕ) (H : List Entry) → IsLegal day default H → AllByRecursion IsRequest (requests H)
-in_range day default H legal = all_mapped IsRequest (λ e. e.request) H (recursion_from_All (λ e. IsRequest e.request) H legal.range)
+in_range day default H legal = recursion_from_All IsRequest (requests H) (All-map IsRequest (λ e. e.request) H legal.range)
 
 module _ (day : ℕ → ℕ) (default : ℕ) (laws : Ledgers day default) (D : ℕ) where
   unused : (H : List Entry) → IsLegal day default H → (l : List ℕ) (d : ℕ) → d < D → used day (remembered day D H) l d ≡ 0
@@ -57,9 +44,6 @@ module _ (day : ℕ → ℕ) (default : ℕ) (laws : Ledgers day default) (D : �
         only_first = λ d after ls is. laws.only_first H d after ls is;
       }
 
-  all_more : (H : List Entry) (r : Request) → All (λ e. IsRequest e.request) H → IsRequest r → All IsRequest (requests H ++ r ∷ [])
-  all_more H r all one = All-from_recursion IsRequest (requests H ++ r ∷ []) (all_push IsRequest (requests H) r (all_mapped IsRequest (λ e. e.request) H (recursion_from_All (λ e. IsRequest e.request) H all)) one)
-
   -- a number that is new to H is new to what is remembered of it
   pub new_there : (H : List Entry) (o : Option Id) → known_by H o ≡ false → known_by (remembered day D H) o ≡ false
   new_there H None new = refl
@@ -69,18 +53,9 @@ module _ (day : ℕ → ℕ) (default : ℕ) (laws : Ledgers day default) (D : �
       let none : stored (remembered day D H) id ≡ None = find_none (λ x. has_id id x.request) (stays day D H) H (not_some (stored H id) parts.1) in
       rw (above, none) refl
 
-  pub arrival_new : (H : List Entry) (r : Request) (id : Id) → known_by H (Some id) ≡ false → with_arrival_by day default H r (Some id) ≡ appended day default H r
-  arrival_new H r id new = rw new refl
-
   legal_more : (K : List Entry) (r : Request) (id : Id) → IsLegal day default K → IsRequest r → id_of r ≡ Some id → known_by K (Some id) ≡ false → IsLegal day default (appended day default K r)
   legal_more K r id legal in_range h new =
-      subst (IsLegal day default) (laws.more K r legal ∙ ap (with_arrival_by day default K r) h ∙ arrival_new K r id new) (laws.builds.legal (requests K ++ r ∷ []) (all_more K r legal.range in_range))
-
-  pub one_kept : (H : List Entry) (e : Entry) → stays day D H e ≡ true → remembered day D (H ++ e ∷ []) ≡ remembered day D H ++ e ∷ []
-  one_kept H e t = one_more day D H e ∙ ap (λ b. remembered day D H ++ (if b then e ∷ [] else [])) t
-
-  one_gone : (H : List Entry) (e : Entry) → stays day D H e ≡ false → remembered day D (H ++ e ∷ []) ≡ remembered day D H
-  one_gone H e f = one_more day D H e ∙ ap (λ b. remembered day D H ++ (if b then e ∷ [] else [])) f ∙ append-nil (remembered day D H)
+      subst (IsLegal day default) (laws.more K r legal ∙ ap (with_arrival_by day default K r) h ∙ arrival_fresh day default K r (Some id) refl new) (laws.builds.legal (requests K ++ r ∷ []) (All-push IsRequest (requests K) r (All-map IsRequest (λ e. e.request) K legal.range) in_range))
 
   -- an entry that stays has the same answer over both
   stays_same : (H : List Entry) (r : Request) → IsLegal day default H → stays day D H (entry r (answer day default H r)) ≡ true → answer day default (remembered day D H) r ≡ answer day default H r
@@ -97,16 +72,16 @@ module _ (day : ℕ → ℕ) (default : ℕ) (laws : Ledgers day default) (D : �
       let e : Entry = entry r (answer day default H r) in
       elim (either (stays day D H e)) [
         | inl stay ↦ (let more : IsLegal day default (K ++ entry r (answer day default K r) ∷ []) = legal_more K r id kept in_range h (new_there H (Some id) new) in
-            let there : K ++ entry r (answer day default K r) ∷ [] ≡ remembered day D (H ++ e ∷ []) = ap (λ a. K ++ entry r a ∷ []) (stays_same H r legal stay) ∙ sym (one_kept H e stay) in
+            let there : K ++ entry r (answer day default K r) ∷ [] ≡ remembered day D (H ++ e ∷ []) = ap (λ a. K ++ entry r a ∷ []) (stays_same H r legal stay) ∙ sym (one_kept day D H e stay) in
             subst (IsLegal day default) there more)
-        | inr gone ↦ subst (IsLegal day default) (sym (one_gone H e gone)) kept
+        | inr gone ↦ subst (IsLegal day default) (sym (one_gone day D H e gone)) kept
       ]
 
   arrival_legal : (H : List Entry) (r : Request) (o : Option Id) → id_of r ≡ o → IsLegal day default H → IsRequest r → IsLegal day default (remembered day D H)
       → IsLegal day default (remembered day D (with_arrival_by day default H r o))
   arrival_legal H r None h legal in_range kept = kept
   arrival_legal H r (Some id) h legal in_range kept = elim (either (known_by H (Some id))) [
-    | inr new ↦ subst (λ x. IsLegal day default (remembered day D x)) (sym (arrival_new H r id new)) (appended_legal H r id legal in_range h new kept)
+    | inr new ↦ subst (λ x. IsLegal day default (remembered day D x)) (sym (arrival_fresh day default H r (Some id) refl new)) (appended_legal H r id legal in_range h new kept)
     | inl known ↦ (let same : with_arrival_by day default H r (Some id) ≡ H = rw known refl in
         subst (λ x. IsLegal day default (remembered day D x)) (sym same) kept)
   ]

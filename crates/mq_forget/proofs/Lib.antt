@@ -1,8 +1,9 @@
-pub mod Lists
-pub mod Staying
-pub mod Fronts
-pub mod Numbers
 pub mod Answers
 pub mod Carrying
+pub mod Fronts
 pub mod Growing
+pub mod Lists
+pub mod Numbers
 pub mod Replying
+pub mod Staying
+pub mod Words

@@ -1,25 +1,14 @@
 -- What is remembered has the numbers of D and later days: an entry that counts on a day is of a transaction of that day.
-use Rattle.std.proofs.Common.{◌≡◌, ℕ, ◌+◌, ◌<◌, ◌≤◌, List, ◌∷◌, ◌++◌, Bool, true, false, refl, ◌∙◌, ap, sym, subst, inl, inr}
-use Rattle.std.specs.Prelude.{◌&&◌, ◌==◌, not, nat_le, if◌then◌else◌, Option, Some, None}
-use Rattle.std.specs.Option.{option_or}
-use Rattle.std.proofs.lemmas.List.Folds.{find-append}
-use Rattle.mq_lemmas.proofs.Booleans.{either, first_so, second_so}
-use Rattle.mq_lemmas.proofs.Numbers.{number_is, le_is, lt_is}
-use Rattle.mq_lemmas.proofs.Lists.{In}
-use Rattle.mq_request.specs.declared.message.Id.{Id}
-use Rattle.mq_request.specs.declared.message.Request.{Request}
-use Rattle.mq_request.specs.declared.message.Request.TheVariants.{Reserve, Settle, Release, Limit, Usage, List as ListRequest, Retire}
-use Rattle.mq_request.specs.declared.message.Reply.{Reply}
+use Rattle.mq_forget.proofs.Words.{Bool, Entry, Id, In, IsLegal, Limit, List, None, Option, Release, Reply, Request, Reserve, Settle, Some, Transaction, agrees, answer, any_nothing, ap, counted, day_named, either, entry, false, filter_in, find-append, first_so, granted, has_reserve, if_open}
+use Rattle.mq_forget.proofs.Words.{if◌then◌else◌, inl, inr, is_about, is_of, is_set, le_is, lt_is, moment_of, named, nat_le, not, option_or, refl, remembered, reserved, second_so, settled, stays, subst, sum_nothing, sym, transaction, transaction_itself, true, ℕ, ◌&&◌, ◌++◌, ◌+◌, ◌<◌, ◌==◌, ◌∙◌, ◌∷◌}
+use Rattle.mq_forget.proofs.Words.{◌≡◌, ◌≤◌}
+use Rattle.mq_lemmas.proofs.Numbers.{number_is}
 use Rattle.mq_request.specs.declared.message.Reply.TheVariants.{Granted, Settled, Mismatch}
 use Rattle.mq_request.specs.Same.{same_text}
-use Rattle.mq_ledger.specs.declared.entry.Entry.{Entry}
-use Rattle.mq_ledger.specs.Answer.{if_open, answer}
-use Rattle.mq_ledger.specs.History.{Transaction, transaction, is_of, is_at, named, agrees, granted, counted, concerns, is_open, reserved_of, is_abandoned, settled_of, reserved, settled}
-use Rattle.mq_ledger.specs.Legal.{IsLegal}
-use Rattle.mq_ledger.specs.Page.{is_login, login_on, has_reserve}
-use Rattle.mq_ledger.proofs.Transactions.{transaction_itself, entry}
-use Rattle.mq_forget.specs.Remembered.{moment_of, day_named, is_about, is_set, stays, remembered}
-use Rattle.mq_forget.proofs.Lists.{nothing_either_way, filter_in, sum_kept, sum_same, sum_nothing, any_kept, any_nothing}
+use Rattle.mq_ledger.specs.History.{is_at, concerns, is_open, reserved_of, is_abandoned, settled_of}
+use Rattle.mq_ledger.specs.Page.{is_login, login_on}
+use Rattle.mq_ledger.proofs.Basics.{sum_same}
+use Rattle.mq_forget.proofs.Lists.{nothing_either_way, sum_kept, any_kept}
 use Rattle.mq_forget.proofs.Staying.{or_or, alike}
 use Rattle.mq_forget.proofs.Fronts.{Builds, next, behind}
 
@@ -29,10 +18,7 @@ moment_is : (moment : ℕ) (login : List ℕ) (r : Request) → is_at moment log
 moment_is moment login (Reserve id txn moment' login' count) h = sym (number_is moment moment' (first_so (moment == moment') (same_text login login') h))
 moment_is moment login (Settle id txn moment' login' count) h = sym (number_is moment moment' (first_so (moment == moment') (same_text login login') h))
 moment_is moment login (Release id txn moment' login') h = sym (number_is moment moment' (first_so (moment == moment') (same_text login login') h))
-moment_is moment login (Limit id from_day c login') h = absurd (cc h)
-moment_is moment login (Usage login' d) h = absurd (cc h)
-moment_is moment login (ListRequest d after) h = absurd (cc h)
-moment_is moment login (Retire id) h = absurd (cc h)
+moment_is moment login r h = absurd (cc h)
 
 pub agreed_day : (day : ℕ → ℕ) (moment : ℕ) (login : List ℕ) (o : Option Entry) → agrees moment login o ≡ true → day_named day moment o ≡ day moment
 agreed_day day moment login None h = refl
@@ -69,11 +55,7 @@ about_behind day default D F S (Settle id txn moment login count) a is so =
     let r : Request = Settle id txn moment login count in
     let agreed : agrees moment login (named F (transaction id txn)) ≡ true = open_agrees F id txn moment login _ r refl (ap (counts r) (sym is) ∙ so) in
     ap (nat_le D) (day_behind day F S (entry r a) (transaction id txn) moment login (transaction_itself (transaction id txn)) refl agreed)
-about_behind day default D F S (Release id txn moment login) a is so = absurd (cc so)
-about_behind day default D F S (Limit id from_day c login) a is so = absurd (cc so)
-about_behind day default D F S (Usage login d) a is so = absurd (cc so)
-about_behind day default D F S (ListRequest d after) a is so = absurd (cc so)
-about_behind day default D F S (Retire id) a is so = absurd (cc so)
+about_behind day default D F S r a is so = absurd (cc so)
 
 counts_unset : (r : Request) (a : Reply) → counts r a ≡ true → is_set r a ≡ false
 counts_unset (Limit id from_day c login) a so = absurd (cc so)
@@ -90,11 +72,7 @@ counted_counts r a so = refl
 on_day : (day : ℕ → ℕ) (l : List ℕ) (d : ℕ) (r : Request) → concerns day l d r ≡ true → day (moment_of r) ≡ d
 on_day day l d (Reserve id txn moment login count) h = number_is (day moment) d (second_so (same_text l login) (day moment == d) h)
 on_day day l d (Settle id txn moment login count) h = number_is (day moment) d (second_so (same_text l login) (day moment == d) h)
-on_day day l d (Release id txn moment login) h = absurd (cc h)
-on_day day l d (Limit id from_day c login) h = absurd (cc h)
-on_day day l d (Usage login n) h = absurd (cc h)
-on_day day l d (ListRequest n after) h = absurd (cc h)
-on_day day l d (Retire id) h = absurd (cc h)
+on_day day l d r h = absurd (cc h)
 
 listed : (day : ℕ → ℕ) (l : List ℕ) (d : ℕ) (r : Request) (a : Reply) → is_login l (login_on day d r a) ≡ true → (counts r a ≡ true) × (day (moment_of r) ≡ d)
 listed day l d (Reserve id txn moment login count) (Granted id' n) h = elim (either (day moment == d)) [
@@ -148,21 +126,11 @@ module _ (day : ℕ → ℕ) (default : ℕ) (laws : Builds day default) (D : �
 
   open_kept : (r : Request) (a : Reply) → stays day D H (entry r a) ≡ true → is_open (remembered day D H) r ≡ is_open H r
   open_kept (Reserve id txn moment login count) a stay = ap not (alike day D H (transaction id txn) moment (or_or _ false stay refl)).closed
-  open_kept (Settle id txn moment login count) a stay = refl
-  open_kept (Release id txn moment login) a stay = refl
-  open_kept (Limit id from_day c login) a stay = refl
-  open_kept (Usage login n) a stay = refl
-  open_kept (ListRequest n after) a stay = refl
-  open_kept (Retire id) a stay = refl
+  open_kept r a stay = refl
 
   abandoned_kept : (r : Request) (a : Reply) → stays day D H (entry r a) ≡ true → is_abandoned (remembered day D H) r ≡ is_abandoned H r
   abandoned_kept (Reserve id txn moment login count) a stay = (alike day D H (transaction id txn) moment (or_or _ false stay refl)).abandoned
-  abandoned_kept (Settle id txn moment login count) a stay = refl
-  abandoned_kept (Release id txn moment login) a stay = refl
-  abandoned_kept (Limit id from_day c login) a stay = refl
-  abandoned_kept (Usage login n) a stay = refl
-  abandoned_kept (ListRequest n after) a stay = refl
-  abandoned_kept (Retire id) a stay = refl
+  abandoned_kept r a stay = refl
 
   pub reserved_kept : (l : List ℕ) (d : ℕ) → D ≤ d → reserved day (remembered day D H) l d ≡ reserved day H l d
   reserved_kept l d le =

@@ -1,27 +1,13 @@
 -- That later requests are answered alike, and lead to the same.
-use Rattle.std.proofs.Common.{◌≡◌, ℕ, List, [], ◌∷◌, ◌++◌, true, false, refl, ◌∙◌, ap, sym, subst, inl, inr, append_assoc, append-nil}
-use Rattle.std.specs.Prelude.{Option, Some, None, All}
-use Rattle.std.specs.List.{AllByRecursion}
-use Rattle.std.proofs.lemmas.List.Elements.{recursion_from_All, All-from_recursion}
-use Rattle.mq_lemmas.proofs.Booleans.{either}
-use Rattle.mq_lemmas.proofs.Options.{option_cases}
-use Rattle.mq_lemmas.proofs.Lists.{all_push}
-use Rattle.mq_request.specs.declared.message.Id.{Id}
-use Rattle.mq_request.specs.declared.message.Request.{Request}
+use Rattle.mq_forget.proofs.Words.{All, All-from_recursion, AllByRecursion, Entry, Id, IsLegal, IsRequest, List, None, Option, Request, Some, [], all_push, answer, ap, append-nil, append_assoc, arrival_fresh, either, entry, false, has_id, history_of, id_of, inl, inr, is_about, is_below, is_later}
+use Rattle.mq_forget.proofs.Words.{is_later_by, is_remembered, known_by, option_cases, recursion_from_All, refl, remembered, replies_after, reply, reply_by, reply_to, requests, stays, stored, subst, sym, true, with_arrival, with_arrival_by, ℕ, ◌++◌, ◌∙◌, ◌∷◌, ◌≡◌}
 use Rattle.mq_request.specs.declared.message.Reply.TheVariants.{Old}
-use Rattle.mq_request.specs.Range.{IsRequest}
-use Rattle.mq_ledger.specs.declared.entry.Entry.{Entry}
-use Rattle.mq_ledger.specs.Answer.{answer, stored, known_by, reply, reply_to, reply_by, with_arrival, with_arrival_by, history_of, replies_after}
-use Rattle.mq_ledger.specs.Arrivals.{id_of, has_id, is_below}
-use Rattle.mq_ledger.specs.History.{requests}
-use Rattle.mq_ledger.specs.Legal.{IsLegal}
-use Rattle.mq_ledger.proofs.Transactions.{entry}
-use Rattle.mq_forget.specs.Remembered.{is_about, stays, remembered, is_remembered, is_later_by, is_later, AreLater}
-use Rattle.mq_forget.proofs.Lists.{find_some, find_none, all_mapped}
-use Rattle.mq_forget.proofs.Staying.{same_below}
+use Rattle.mq_forget.specs.Remembered.{AreLater}
+use Rattle.mq_forget.proofs.Lists.{find_some, find_none}
+use Rattle.mq_forget.proofs.Staying.{same_below, one_kept}
 use Rattle.mq_forget.proofs.Answers.{answer_same}
 use Rattle.mq_forget.proofs.Fronts.{Builds}
-use Rattle.mq_forget.proofs.Growing.{Ledgers, tells, new_there, arrival_new, one_kept}
+use Rattle.mq_forget.proofs.Growing.{Ledgers, in_range, tells, new_there}
 
 -- a number of a run that is given up gets Old, and changes nothing
 pub old_reply : (day : ℕ → ℕ) (default D : ℕ) (H : List Entry) (r : Request) (id : Id) → id_of r ≡ Some id → is_below (requests H) id ≡ true
@@ -75,10 +61,10 @@ module _ (day : ℕ → ℕ) (default : ℕ) (laws : Ledgers day default) (D : �
   new_arrival H r id legal new late =
       let K : List Entry = remembered day D H in
       let stay : stays day D H (entry r (answer day default H r)) ≡ true = rw late refl in
-      arrival_new day default laws D K r id (new_there day default laws D H (Some id) new)
+      arrival_fresh day default K r (Some id) refl (new_there day default laws D H (Some id) new)
       ∙ ap (λ a. K ++ entry r a ∷ []) (new_same H r legal late)
-      ∙ sym (one_kept day default laws D H (entry r (answer day default H r)) stay)
-      ∙ ap (remembered day D) (sym (arrival_new day default laws D H r id new))
+      ∙ sym (one_kept day D H (entry r (answer day default H r)) stay)
+      ∙ ap (remembered day D) (sym (arrival_fresh day default H r (Some id) refl new))
 
   arrival_by_number : (H : List Entry) (r : Request) (o : Option Id) → IsLegal day default H → is_later_by day D H r o ≡ true → with_arrival_by day default (remembered day D H) r o ≡ remembered day D (with_arrival_by day default H r o)
   arrival_by_number H r None legal late = refl
@@ -122,7 +108,7 @@ module _ (day : ℕ → ℕ) (default : ℕ) (laws : Builds day default) (D : �
   pub later_arrivals : (H : List Entry) (rs : List Request) → IsLegal day default H → All IsRequest rs → AreLater day default D H rs
       → (replies_after day default (requests (remembered day D H)) rs ≡ replies_after day default (requests H) rs)
       × (history_of day default (requests (remembered day D H) ++ rs) ≡ remembered day D (history_of day default (requests H ++ rs)))
-  later_arrivals H rs legal in_range late =
-      arrivals_by (requests H) (requests (remembered day D H)) (all_mapped IsRequest (λ e. e.request) H (recursion_from_All (λ e. IsRequest e.request) H legal.range)) rs (recursion_from_All IsRequest rs in_range)
+  later_arrivals H rs legal range late =
+      arrivals_by (requests H) (requests (remembered day D H)) (in_range day default H legal) rs (recursion_from_All IsRequest rs range)
       (subst (λ x. AreLater day default D x rs) (sym (laws.again H legal)) late)
       (built H legal ∙ ap (remembered day D) (sym (laws.again H legal)))

@@ -1,35 +1,19 @@
 -- Which entries stay: a later entry changes nothing of it, and of a transaction all stay or none.
-use Rattle.std.proofs.Common.{◌≡◌, ℕ, ◌≤◌, List, [], ◌∷◌, ◌++◌, Bool, true, false, refl, ◌∙◌, ap, sym, subst, inl, inr, arith, append_assoc}
-use Rattle.std.specs.Prelude.{◌+◌, sum_by, filter, ◌&&◌, ◌||◌, ◌==◌, not, nat_le, nat_lt, if◌then◌else◌, Option, Some, None}
-use Rattle.std.specs.List.{list_any}
-use Rattle.std.specs.Option.{option_or}
-use Rattle.std.proofs.lemmas.Bool.Decides.{nat_tests}
+use Rattle.mq_forget.proofs.Words.{AreAlike, Bool, Entry, Id, In, Limit, List, None, Option, Release, Reply, Request, Reserve, Retire, Settle, Some, Transaction, [], any_nothing, ap, append-nil, append_assoc, arith, cap, closed, counted, day_named, either, entry, false, filter, filter_in}
+use Rattle.mq_forget.proofs.Words.{find-append, first_so, granted, greater, if◌then◌else◌, inl, inr, is_about, is_below, is_of, is_set, list_any, moment_of, named, nat_le, nat_lt, nat_tests, neither, not, not_found, option_cases, option_or, or_second, refl, remembered, requests, stays, subst}
+use Rattle.mq_forget.proofs.Words.{sum_by, sum_nothing, sym, transaction, transaction_itself, true, ℕ, ◌&&◌, ◌++◌, ◌+◌, ◌==◌, ◌||◌, ◌∙◌, ◌∷◌, ◌≡◌, ◌≤◌}
 use Rattle.std.proofs.lemmas.List.Elements.{filter-append}
-use Rattle.std.proofs.lemmas.List.Folds.{find-append}
-use Rattle.std.proofs.lemmas.List.Sums.{sum_by-cons}
-use Rattle.mq_lemmas.proofs.Booleans.{or_second, either, neither, first_so}
-use Rattle.mq_lemmas.proofs.Options.{option_cases}
-use Rattle.mq_lemmas.proofs.Lists.{In}
-use Rattle.mq_request.specs.declared.message.Id.{Id}
-use Rattle.mq_request.specs.declared.message.Request.{Request}
-use Rattle.mq_request.specs.declared.message.Request.TheVariants.{Reserve, Settle, Release, Limit, Usage, List as ListRequest, Retire}
-use Rattle.mq_request.specs.declared.message.Reply.{Reply}
+use Rattle.std.proofs.lemmas.List.Folds.{fold-map}
 use Rattle.mq_request.specs.declared.message.Reply.TheVariants.{LimitSet}
-use Rattle.mq_ledger.specs.declared.entry.Entry.{Entry}
-use Rattle.mq_ledger.specs.Arrivals.{raised, greater, floor, is_below}
-use Rattle.mq_ledger.specs.History.{Transaction, requests, transaction, same_transaction, is_of, named, closes, ended, has_retired_run, closed, abandoned, granted, granted_in, counted, counted_in}
-use Rattle.mq_ledger.specs.Limits.{sets, governs, limits, latest, last_cap, from_of, cap}
-use Rattle.mq_ledger.proofs.Transactions.{transaction_is, transaction_itself, entry}
+use Rattle.mq_ledger.specs.Arrivals.{raised, floor}
+use Rattle.mq_ledger.specs.History.{same_transaction, closes, ended, has_retired_run, abandoned, granted_in, counted_in}
+use Rattle.mq_ledger.specs.Limits.{sets, governs, limits, latest, last_cap, from_of}
+use Rattle.mq_ledger.proofs.Transactions.{transaction_is}
 use Rattle.mq_ledger.proofs.Floors.{greater_zero}
-use Rattle.mq_forget.specs.Remembered.{moment_of, day_named, is_about, is_set, stays, remembered}
-use Rattle.mq_forget.specs.Kept.{AreAlike}
-use Rattle.mq_forget.proofs.Lists.{filter_same, found_in, find_kept, any_kept, filter_kept, filter_in, sum_kept, fold_kept, fold_mapped, find_lost, find_none}
+use Rattle.mq_ledger.proofs.Basics.{found_in}
+use Rattle.mq_forget.proofs.Lists.{filter_same, find_kept, any_kept, filter_kept, sum_kept, fold_kept, find_lost, find_none}
 
 -- A later entry changes nothing of what stays.
-
--- an entry's transaction is named
-pub named_in : (H : List Entry) (x : Entry) (t : Transaction) → In x H → is_of t x.request ≡ true → (e : Entry) × (named H t ≡ Some e)
-named_in H x t i mine = found_in (λ e. is_of t e.request) H x i mine
 
 day_before : (day : ℕ → ℕ) (D : ℕ) (H S : List Entry) (t : Transaction) (moment : ℕ) (e : Entry) → named H t ≡ Some e → nat_le D (day_named day moment (named (H ++ S) t)) ≡ nat_le D (day_named day moment (named H t))
 day_before day D H S t moment e h =
@@ -38,13 +22,10 @@ day_before day D H S t moment e h =
     ap (λ o. nat_le D (day_named day moment o)) (longer ∙ there)
 
 about_before : (day : ℕ → ℕ) (D : ℕ) (H S : List Entry) (r : Request) (a : Reply) → In (entry r a) H → is_about day D (H ++ S) r ≡ is_about day D H r
-about_before day D H S (Reserve id txn moment login count) a i = let k = named_in H _ (transaction id txn) i (transaction_itself (transaction id txn)) in day_before day D H S (transaction id txn) moment k.0 k.1
-about_before day D H S (Settle id txn moment login count) a i = let k = named_in H _ (transaction id txn) i (transaction_itself (transaction id txn)) in day_before day D H S (transaction id txn) moment k.0 k.1
-about_before day D H S (Release id txn moment login) a i = let k = named_in H _ (transaction id txn) i (transaction_itself (transaction id txn)) in day_before day D H S (transaction id txn) moment k.0 k.1
-about_before day D H S (Limit id from_day c login) a i = refl
-about_before day D H S (Usage login d) a i = refl
-about_before day D H S (ListRequest d after) a i = refl
-about_before day D H S (Retire id) a i = refl
+about_before day D H S (Reserve id txn moment login count) a i = let k = found_in (λ x. is_of (transaction id txn) x.request) H _ i (transaction_itself (transaction id txn)) in day_before day D H S (transaction id txn) moment k.0 k.1
+about_before day D H S (Settle id txn moment login count) a i = let k = found_in (λ x. is_of (transaction id txn) x.request) H _ i (transaction_itself (transaction id txn)) in day_before day D H S (transaction id txn) moment k.0 k.1
+about_before day D H S (Release id txn moment login) a i = let k = found_in (λ x. is_of (transaction id txn) x.request) H _ i (transaction_itself (transaction id txn)) in day_before day D H S (transaction id txn) moment k.0 k.1
+about_before day D H S r a i = refl
 
 pub stays_before : (day : ℕ → ℕ) (D : ℕ) (H S : List Entry) (x : Entry) → In x H → stays day D (H ++ S) x ≡ stays day D H x
 stays_before day D H S x i = ap (λ b. b || is_set x.request x.reply) (about_before day D H S x.request x.reply i)
@@ -67,10 +48,7 @@ about_itself : (day : ℕ → ℕ) (D : ℕ) (H : List Entry) (r : Request) (a :
 about_itself day D H (Reserve id txn moment login count) a = day_itself day D H (transaction id txn) moment (entry (Reserve id txn moment login count) a) (transaction_itself (transaction id txn)) refl
 about_itself day D H (Settle id txn moment login count) a = day_itself day D H (transaction id txn) moment (entry (Settle id txn moment login count) a) (transaction_itself (transaction id txn)) refl
 about_itself day D H (Release id txn moment login) a = day_itself day D H (transaction id txn) moment (entry (Release id txn moment login) a) (transaction_itself (transaction id txn)) refl
-about_itself day D H (Limit id from_day c login) a = refl
-about_itself day D H (Usage login d) a = refl
-about_itself day D H (ListRequest d after) a = refl
-about_itself day D H (Retire id) a = refl
+about_itself day D H r a = refl
 
 pub stays_itself : (day : ℕ → ℕ) (D : ℕ) (H : List Entry) (e : Entry) → stays day D (H ++ e ∷ []) e ≡ stays day D H e
 stays_itself day D H e = ap (λ b. b || is_set e.request e.reply) (about_itself day D H e.request e.reply)
@@ -83,25 +61,26 @@ one_more day D H e =
     let back : (if p e then e ∷ [] else []) ≡ (if stays day D H e then e ∷ [] else []) = ap (λ b. if b then e ∷ [] else []) (stays_itself day D H e) in
     filter-append p H (e ∷ []) ∙ (λ i. front i ++ back i)
 
+pub one_kept : (day : ℕ → ℕ) (D : ℕ) (H : List Entry) (e : Entry) → stays day D H e ≡ true → remembered day D (H ++ e ∷ []) ≡ remembered day D H ++ e ∷ []
+one_kept day D H e t = one_more day D H e ∙ ap (λ b. remembered day D H ++ (if b then e ∷ [] else [])) t
+
+pub one_gone : (day : ℕ → ℕ) (D : ℕ) (H : List Entry) (e : Entry) → stays day D H e ≡ false → remembered day D (H ++ e ∷ []) ≡ remembered day D H
+one_gone day D H e f = one_more day D H e ∙ ap (λ b. remembered day D H ++ (if b then e ∷ [] else [])) f ∙ append-nil (remembered day D H)
+
 -- All retires stay, and so do the floors.
 
 raises_nothing : (day : ℕ → ℕ) (D : ℕ) (H : List Entry) (h : List ℕ) (r : Request) → is_about day D H r ≡ false → raised h r ≡ 0
 raises_nothing day D H h (Retire id) gone = absurd (cc gone)
-raises_nothing day D H h (Reserve id txn moment login count) gone = refl
-raises_nothing day D H h (Settle id txn moment login count) gone = refl
-raises_nothing day D H h (Release id txn moment login) gone = refl
-raises_nothing day D H h (Limit id from_day c login) gone = refl
-raises_nothing day D H h (Usage login d) gone = refl
-raises_nothing day D H h (ListRequest d after) gone = refl
+raises_nothing day D H h r gone = refl
 
 pub same_floor : (day : ℕ → ℕ) (D : ℕ) (H : List Entry) (h : List ℕ) → floor (requests (remembered day D H)) h ≡ floor (requests H) h
 unfolding floor
 same_floor day D H h =
     let raise : ℕ → Request → ℕ = λ n r. greater n (raised h r) in
-    fold_mapped raise (λ (e : Entry). e.request) 0 (remembered day D H)
+    fold-map raise (λ (e : Entry). e.request) 0 (remembered day D H)
     ∙ fold_kept (λ n (e : Entry). greater n (raised h e.request)) (stays day D H) 0 H (λ n e gone.
     ap (greater n) (raises_nothing day D H h e.request (neither (is_about day D H e.request) (is_set e.request e.reply) gone).0) ∙ greater_zero n)
-    ∙ sym (fold_mapped raise (λ (e : Entry). e.request) 0 H)
+    ∙ sym (fold-map raise (λ (e : Entry). e.request) 0 H)
 
 pub same_below : (day : ℕ → ℕ) (D : ℕ) (H : List Entry) (id : Id) → is_below (requests (remembered day D H)) id ≡ is_below (requests H) id
 same_below day D H id = ap (nat_lt id.run) (same_floor day D H id.host)
@@ -120,10 +99,7 @@ about_of : (day : ℕ → ℕ) (D : ℕ) (H : List Entry) (t : Transaction) (e :
 about_of day D H t e b h later (Reserve id txn moment login count) mine = stays_as day D H t (transaction id txn) e moment b h later mine
 about_of day D H t e b h later (Settle id txn moment login count) mine = stays_as day D H t (transaction id txn) e moment b h later mine
 about_of day D H t e b h later (Release id txn moment login) mine = stays_as day D H t (transaction id txn) e moment b h later mine
-about_of day D H t e b h later (Limit id from_day c login) mine = absurd (cc mine)
-about_of day D H t e b h later (Usage login d) mine = absurd (cc mine)
-about_of day D H t e b h later (ListRequest d after) mine = absurd (cc mine)
-about_of day D H t e b h later (Retire id) mine = absurd (cc mine)
+about_of day D H t e b h later r mine = absurd (cc mine)
 
 not_set : (t : Transaction) (r : Request) (a : Reply) → is_of t r ≡ true → is_set r a ≡ false
 not_set t (Limit id from_day c login) a mine = absurd (cc mine)
@@ -169,19 +145,10 @@ early_lost day D H t e h early = find_lost (λ x. is_of t x.request) (stays day 
 
 -- a transaction that has no entry has none that stays
 unheard_any : (t : Transaction) (f : Reply → Bool) (H : List Entry) → named H t ≡ None → list_any (λ x. is_of t x.request && f x.reply) H ≡ false
-unheard_any t f [] none = refl
-unheard_any t f (x ∷ H) none = elim (either (is_of t x.request)) [
-  | inl mine ↦ absurd (let k : Some x ≡ None = rw mine at none in cc k)
-  | inr other ↦ (let rest : named H t ≡ None = rw other at none in rw other (unheard_any t f H rest))
-]
+unheard_any t f H none = any_nothing (λ x. is_of t x.request && f x.reply) H (λ x i. (let other : is_of t x.request ≡ false = not_found (λ y. is_of t y.request) H x none i in rw other refl))
 
 unheard_sum : (t : Transaction) (f : Request → Reply → ℕ) (H : List Entry) → named H t ≡ None → sum_by (λ x. if is_of t x.request then f x.request x.reply else 0) H ≡ 0
-unheard_sum t f [] none = refl
-unheard_sum t f (x ∷ H) none = elim (either (is_of t x.request)) [
-  | inl mine ↦ absurd (let k : Some x ≡ None = rw mine at none in cc k)
-  | inr other ↦ (let rest : named H t ≡ None = rw other at none in
-      rw other (omega (arith, sum_by-cons (λ (y : Entry). if is_of t y.request then f y.request y.reply else 0) x H, unheard_sum t f H rest)))
-]
+unheard_sum t f H none = sum_nothing (λ x. if is_of t x.request then f x.request x.reply else 0) H (λ x i. (let other : is_of t x.request ≡ false = not_found (λ y. is_of t y.request) H x none i in rw other refl))
 
 pub unheard_alike : (day : ℕ → ℕ) (D : ℕ) (H : List Entry) (t : Transaction) → named H t ≡ None → AreAlike (remembered day D H) H t
 unheard_alike day D H t none =
@@ -217,13 +184,8 @@ later_too : (D E n : ℕ) → D ≤ E → nat_le E n ≡ true → nat_le D n ≡
 later_too D E n le k = grind (arith, nat_tests)
 
 about_too : (day : ℕ → ℕ) (D E : ℕ) (H : List Entry) (r : Request) → D ≤ E → is_about day E H r ≡ true → is_about day D H r ≡ true
-about_too day D E H (Reserve id txn moment login count) le h = later_too D E _ le h
-about_too day D E H (Settle id txn moment login count) le h = later_too D E _ le h
-about_too day D E H (Release id txn moment login) le h = later_too D E _ le h
-about_too day D E H (Limit id from_day c login) le h = later_too D E _ le h
-about_too day D E H (Usage login d) le h = later_too D E _ le h
-about_too day D E H (ListRequest d after) le h = later_too D E _ le h
 about_too day D E H (Retire id) le h = refl
+about_too day D E H r le h = later_too D E _ le h
 
 stays_too : (day : ℕ → ℕ) (D E : ℕ) (H : List Entry) (x : Entry) → D ≤ E → stays day E H x ≡ true → stays day D H x ≡ true
 stays_too day D E H x le h = elim (either (is_about day E H x.request)) [
@@ -234,7 +196,7 @@ stays_too day D E H x le h = elim (either (is_about day E H x.request)) [
 -- what is remembered is about the day that it was about
 day_kept : (day : ℕ → ℕ) (D E : ℕ) (H : List Entry) (t : Transaction) (moment : ℕ) (x : Entry) → In x H → is_of t x.request ≡ true → nat_le D (day_named day moment (named H t)) ≡ true → nat_le E (day_named day moment (named (remembered day D H) t)) ≡ nat_le E (day_named day moment (named H t))
 day_kept day D E H t moment x i mine later =
-    let n = named_in H x t i mine in
+    let n = found_in (λ y. is_of t y.request) H x i mine in
     let later' : nat_le D (day (moment_of n.0.request)) ≡ true = ap (λ o. nat_le D (day_named day moment o)) (sym n.1) ∙ later in
     ap (λ o. nat_le E (day_named day moment o)) (later_alike day D H t n.0 n.1 later').named
 
@@ -246,10 +208,7 @@ about_kept : (day : ℕ → ℕ) (D E : ℕ) (H : List Entry) (r : Request) (a :
 about_kept day D E H (Reserve id txn moment login count) a i stay = (let me = transaction_itself (transaction id txn) in day_kept day D E H (transaction id txn) moment _ i me (or_or _ false stay refl))
 about_kept day D E H (Settle id txn moment login count) a i stay = (let me = transaction_itself (transaction id txn) in day_kept day D E H (transaction id txn) moment _ i me (or_or _ false stay refl))
 about_kept day D E H (Release id txn moment login) a i stay = (let me = transaction_itself (transaction id txn) in day_kept day D E H (transaction id txn) moment _ i me (or_or _ false stay refl))
-about_kept day D E H (Limit id from_day c login) a i stay = refl
-about_kept day D E H (Usage login d) a i stay = refl
-about_kept day D E H (ListRequest d after) a i stay = refl
-about_kept day D E H (Retire id) a i stay = refl
+about_kept day D E H r a i stay = refl
 
 pub again : (day : ℕ → ℕ) (D E : ℕ) (H : List Entry) → D ≤ E → remembered day E (remembered day D H) ≡ remembered day E H
 again day D E H le =

@@ -7,7 +7,8 @@ ghost use Rattle.mq_ledger.specs.Answer.{history_of};
 ghost use Rattle.mq_ledger.specs.Day.{day_of};
 ghost use Rattle.mq_ledger.specs.History.{transaction, is_of, named, requests};
 ghost use Rattle.mq_ledger.specs.Legal.{IsLegal};
-ghost use Rattle.mq_forget.specs.Remembered.{moment_of, day_named, is_about, is_set, stays, remembered};
+ghost use Rattle.mq_forget.specs.Remembered.{moment_of, day_named, is_about, is_set, stays};
+ghost use Rattle.mq_forget.specs.Remembered.{remembered};
 ghost use Rattle.mq_forget.specs.Carried.{IsFront};
 
 use crate::laws::next_place_is_carried_over;
@@ -64,7 +65,8 @@ fn moment_of(request: &Request) -> u64
 fn day_named(history: &[Entry], zone: &Zone, id: &Id, txn: u32, moment: u64) -> u32
     requires range { All (λ e. IsRequest e.request) history.now }
     requires moment { IsMoment moment }
-    ensures { result ≡ day_named (day_of zone.now) moment (named history.now (transaction id.now txn)) }
+    ensures { result ≡ day_named (day_of zone.now) moment
+        (named history.now (transaction id.now txn)) }
 {
     match named(history, id, txn) {
         None => zone.day_at(moment),

@@ -10,7 +10,8 @@ use crate::reply_parts::{ReplyParts, reply_parts};
 /// is none where the body spells no reply.
 pub fn read_reply(body: &[u8]) -> Option<ReplyParts<'_>>
     ensures found { IfSome result (λ parts. SpellsReply body.now (shown_reply parts)) }
-    ensures only { IfSome result (λ parts. (reply : Reply) → SpellsReply body.now reply → shown_reply parts ≡ reply) }
+    ensures only { IfSome result (λ parts. (reply : Reply) → SpellsReply body.now reply
+        → shown_reply parts ≡ reply) }
     ensures none { result ≡ None → (reply : Reply) → SpellsReply body.now reply → ⊥ }
 {
     reply_parts(body)

@@ -1,10 +1,12 @@
 //! Requests and replies as frames.
 #![tactic(auto, using(std::proofs::Common::append_assoc, crate::proofs::Appends::lengths))]
 
-ghost use Rattle.std.specs.Prelude.{◌≡◌, ◌≤◌, ◌<◌, ◌+◌, [], ◌∷◌, ◌++◌, length, vec_capacity, vec_len, OnOk, OnErr};
+ghost use Rattle.std.specs.Prelude.{◌≡◌, ◌≤◌, ◌<◌, ◌+◌, [], ◌∷◌, ◌++◌, length, vec_capacity};
+ghost use Rattle.std.specs.Prelude.{vec_len, OnOk, OnErr};
 ghost use Rattle.std.specs.List.{flat_map};
 ghost use Rattle.mq_request.specs.Range.{IsId, IsLogin, IsAfter, IsRow, IsPage, IsRequest, IsReply};
-ghost use Rattle.mq_frame.specs.Spelling.{in_2_bytes, in_4_bytes, in_8_bytes, with_length, id_bytes, transaction_bytes};
+ghost use Rattle.mq_frame.specs.Spelling.{in_2_bytes, in_4_bytes, in_8_bytes, with_length};
+ghost use Rattle.mq_frame.specs.Spelling.{id_bytes, transaction_bytes};
 ghost use Rattle.mq_frame.specs.Spelling.{row_bytes, page_bytes, request_body, reply_body, frame};
 
 use crate::format::{
@@ -19,7 +21,8 @@ fn put_text(out: &mut Vec<u8>, text: &[u8]) -> Result<(), AllocError>
     requires { length text.now ≤ 255 }
     ensures ok { OnOk result (out.new.items ≡ out.old.items ++ with_length text.now) }
     ensures room { vec_capacity out.old ≤ vec_capacity out.new }
-    ensures full { OnErr result (vec_capacity out.old < vec_len out.old + length (with_length text.now)) }
+    ensures full { OnErr result (vec_capacity out.old < vec_len out.old + length
+        (with_length text.now)) }
 {
     out.push(text.len() as u8)?;
     out.extend_from_slice(text)
@@ -29,7 +32,8 @@ fn put_host(out: &mut Vec<u8>, host: &Host) -> Result<(), AllocError>
     requires { length host.now ≤ 255 }
     ensures ok { OnOk result (out.new.items ≡ out.old.items ++ with_length host.now) }
     ensures room { vec_capacity out.old ≤ vec_capacity out.new }
-    ensures full { OnErr result (vec_capacity out.old < vec_len out.old + length (with_length host.now)) }
+    ensures full { OnErr result (vec_capacity out.old < vec_len out.old + length
+        (with_length host.now)) }
 {
     put_text(out, host.as_slice())
 }
@@ -38,7 +42,8 @@ fn put_login(out: &mut Vec<u8>, login: &Login) -> Result<(), AllocError>
     requires { length login.now ≤ 255 }
     ensures ok { OnOk result (out.new.items ≡ out.old.items ++ with_length login.now) }
     ensures room { vec_capacity out.old ≤ vec_capacity out.new }
-    ensures full { OnErr result (vec_capacity out.old < vec_len out.old + length (with_length login.now)) }
+    ensures full { OnErr result (vec_capacity out.old < vec_len out.old + length
+        (with_length login.now)) }
 {
     put_text(out, login.as_slice())
 }
@@ -46,7 +51,8 @@ fn put_login(out: &mut Vec<u8>, login: &Login) -> Result<(), AllocError>
 fn put_u32(out: &mut Vec<u8>, number: u32) -> Result<(), AllocError>
     ensures ok { OnOk result (out.new.items ≡ out.old.items ++ in_4_bytes number) }
     ensures room { vec_capacity out.old ≤ vec_capacity out.new }
-    ensures full { OnErr result (vec_capacity out.old < vec_len out.old + length (in_4_bytes number)) }
+    ensures full { OnErr result (vec_capacity out.old < vec_len out.old + length
+        (in_4_bytes number)) }
 {
     out.extend_from_slice(&number.to_be_bytes())
 }
@@ -54,7 +60,8 @@ fn put_u32(out: &mut Vec<u8>, number: u32) -> Result<(), AllocError>
 fn put_u64(out: &mut Vec<u8>, number: u64) -> Result<(), AllocError>
     ensures ok { OnOk result (out.new.items ≡ out.old.items ++ in_8_bytes number) }
     ensures room { vec_capacity out.old ≤ vec_capacity out.new }
-    ensures full { OnErr result (vec_capacity out.old < vec_len out.old + length (in_8_bytes number)) }
+    ensures full { OnErr result (vec_capacity out.old < vec_len out.old + length
+        (in_8_bytes number)) }
 {
     out.extend_from_slice(&number.to_be_bytes())
 }
@@ -62,7 +69,8 @@ fn put_u64(out: &mut Vec<u8>, number: u64) -> Result<(), AllocError>
 fn put_numbers(out: &mut Vec<u8>, numbers: &[u32]) -> Result<(), AllocError>
     ensures ok { OnOk result (out.new.items ≡ out.old.items ++ flat_map in_4_bytes numbers.now) }
     ensures room { vec_capacity out.old ≤ vec_capacity out.new }
-    ensures full { OnErr result (vec_capacity out.old < vec_len out.old + length (flat_map in_4_bytes numbers.now)) }
+    ensures full { OnErr result (vec_capacity out.old < vec_len out.old + length
+        (flat_map in_4_bytes numbers.now)) }
 {
     for number in numbers {
         put_u32(out, *number)?;
@@ -74,7 +82,8 @@ fn put_id(out: &mut Vec<u8>, id: &Id) -> Result<(), AllocError>
     requires { IsId id.now }
     ensures ok { OnOk result (out.new.items ≡ out.old.items ++ id_bytes id.now) }
     ensures room { vec_capacity out.old ≤ vec_capacity out.new }
-    ensures full { OnErr result (vec_capacity out.old < vec_len out.old + length (id_bytes id.now)) }
+    ensures full { OnErr result (vec_capacity out.old < vec_len out.old + length
+        (id_bytes id.now)) }
 {
     put_host(out, &id.host)?;
     put_u64(out, id.run)?;
@@ -93,9 +102,11 @@ fn put_transaction(
 ) -> Result<(), AllocError>
     requires id { IsId id.now }
     requires login { IsLogin login.now }
-    ensures ok { OnOk result (out.new.items ≡ out.old.items ++ kind ∷ transaction_bytes id.now txn moment login.now) }
+    ensures ok { OnOk result (out.new.items ≡ out.old.items ++ kind
+        ∷ transaction_bytes id.now txn moment login.now) }
     ensures room { vec_capacity out.old ≤ vec_capacity out.new }
-    ensures full { OnErr result (vec_capacity out.old < vec_len out.old + length (kind ∷ transaction_bytes id.now txn moment login.now)) }
+    ensures full { OnErr result (vec_capacity out.old < vec_len out.old + length
+        (kind ∷ transaction_bytes id.now txn moment login.now)) }
 {
     out.push(kind)?;
     put_id(out, id)?;
@@ -109,7 +120,8 @@ fn put_row(out: &mut Vec<u8>, row: &UsageRow) -> Result<(), AllocError>
     requires { IsRow row.now }
     ensures ok { OnOk result (out.new.items ≡ out.old.items ++ row_bytes row.now) }
     ensures room { vec_capacity out.old ≤ vec_capacity out.new }
-    ensures full { OnErr result (vec_capacity out.old < vec_len out.old + length (row_bytes row.now)) }
+    ensures full { OnErr result (vec_capacity out.old < vec_len out.old + length
+        (row_bytes row.now)) }
 {
     put_login(out, &row.login)?;
     put_numbers(out, &[row.settled, row.reserved, row.cap])?;
@@ -120,7 +132,8 @@ fn put_page(out: &mut Vec<u8>, rows: &UsageRows) -> Result<(), AllocError>
     requires { IsPage rows.now }
     ensures ok { OnOk result (out.new.items ≡ out.old.items ++ page_bytes rows.now) }
     ensures room { vec_capacity out.old ≤ vec_capacity out.new }
-    ensures full { OnErr result (vec_capacity out.old < vec_len out.old + length (page_bytes rows.now)) }
+    ensures full { OnErr result (vec_capacity out.old < vec_len out.old + length
+        (page_bytes rows.now)) }
 {
     let rows = rows.as_slice();
     out.push(rows.len() as u8)?;
@@ -134,7 +147,8 @@ fn put_request(out: &mut Vec<u8>, request: &Request) -> Result<(), AllocError>
     requires { IsRequest request.now }
     ensures ok { OnOk result (out.new.items ≡ out.old.items ++ request_body request.now) }
     ensures room { vec_capacity out.old ≤ vec_capacity out.new }
-    ensures full { OnErr result (vec_capacity out.old < vec_len out.old + length (request_body request.now)) }
+    ensures full { OnErr result (vec_capacity out.old < vec_len out.old + length
+        (request_body request.now)) }
 {
     match request {
         Request::Reserve {
@@ -187,7 +201,8 @@ fn put_numbered(out: &mut Vec<u8>, kind: u8, id: &Id, numbers: &[u32]) -> Result
     ensures ok { OnOk result (out.new.items
         ≡ out.old.items ++ kind ∷ (id_bytes id.now ++ flat_map in_4_bytes numbers.now)) }
     ensures room { vec_capacity out.old ≤ vec_capacity out.new }
-    ensures full { OnErr result (vec_capacity out.old < vec_len out.old + length (kind ∷ (id_bytes id.now ++ flat_map in_4_bytes numbers.now))) }
+    ensures full { OnErr result (vec_capacity out.old < vec_len out.old + length
+        (kind ∷ (id_bytes id.now ++ flat_map in_4_bytes numbers.now))) }
 {
     out.push(kind)?;
     put_id(out, id)?;
@@ -201,7 +216,8 @@ fn put_named(out: &mut Vec<u8>, kind: u8, login: &Login, numbers: &[u32]) -> Res
     ensures ok { OnOk result (out.new.items
         ≡ out.old.items ++ kind ∷ (with_length login.now ++ flat_map in_4_bytes numbers.now)) }
     ensures room { vec_capacity out.old ≤ vec_capacity out.new }
-    ensures full { OnErr result (vec_capacity out.old < vec_len out.old + length (kind ∷ (with_length login.now ++ flat_map in_4_bytes numbers.now))) }
+    ensures full { OnErr result (vec_capacity out.old < vec_len out.old + length
+        (kind ∷ (with_length login.now ++ flat_map in_4_bytes numbers.now))) }
 {
     out.push(kind)?;
     put_login(out, login)?;
@@ -213,7 +229,8 @@ fn put_named(out: &mut Vec<u8>, kind: u8, login: &Login, numbers: &[u32]) -> Res
 fn put_dated(out: &mut Vec<u8>, kind: u8, day: u32) -> Result<(), AllocError>
     ensures ok { OnOk result (out.new.items ≡ out.old.items ++ kind ∷ in_4_bytes day) }
     ensures room { vec_capacity out.old ≤ vec_capacity out.new }
-    ensures full { OnErr result (vec_capacity out.old < vec_len out.old + length (kind ∷ in_4_bytes day)) }
+    ensures full { OnErr result (vec_capacity out.old < vec_len out.old + length
+        (kind ∷ in_4_bytes day)) }
 {
     out.push(kind)?;
     put_u32(out, day)
@@ -233,7 +250,8 @@ fn put_reply(out: &mut Vec<u8>, reply: &Reply) -> Result<(), AllocError>
     requires { IsReply reply.now }
     ensures ok { OnOk result (out.new.items ≡ out.old.items ++ reply_body reply.now) }
     ensures room { vec_capacity out.old ≤ vec_capacity out.new }
-    ensures full { OnErr result (vec_capacity out.old < vec_len out.old + length (reply_body reply.now)) }
+    ensures full { OnErr result (vec_capacity out.old < vec_len out.old + length
+        (reply_body reply.now)) }
 {
     match reply {
         Reply::Granted { id, used } => put_numbered(out, GRANTED, id, &[*used]),

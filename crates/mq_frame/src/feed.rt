@@ -1,5 +1,6 @@
 //! The frames of a stream, in whatever pieces it comes.
-ghost use Rattle.std.specs.Prelude.{◌≡◌, ◌<◌, ◌≤◌, ◌+◌, ◌↔◌, [], ◌++◌, length, OnOk, OnErr, IsOk, Ok, Err, MatchResult};
+ghost use Rattle.std.specs.Prelude.{◌≡◌, ◌<◌, ◌≤◌, ◌+◌, ◌↔◌, [], ◌++◌, length, OnOk, OnErr, IsOk};
+ghost use Rattle.std.specs.Prelude.{Ok, Err, MatchResult};
 ghost use Rattle.std.specs.Option.{option_copied};
 ghost use Rattle.std.specs.Borrow.{sem};
 ghost use Rattle.std.specs.Io.BufRead.{Rests};
@@ -90,7 +91,8 @@ impl FrameFeed {
         ensures held { OnOk result (self.new.held ≡ length self.new.rest) }
         ensures held_at_err { OnErr result (self.new.held ≤ self.old.held) }
 
-        // Memory is wanted only where there is no room for the rest and the piece, and room never shrinks.
+        // Memory is wanted only where there is no room for the rest and the piece, and room never
+        // shrinks.
         ensures full { OnErr result (self.old.room < length self.old.rest + length piece.now) }
         ensures room { self.old.room ≤ self.new.room }
     {

@@ -3,7 +3,8 @@ ghost use Rattle.std.specs.Prelude.{length, ◌==◌, if◌then◌else◌};
 ghost use Rattle.std.specs.Int.{w32, w64};
 ghost use Rattle.mq_frame.specs.Shown.{shown_id};
 ghost use Rattle.mq_frame.specs.Reading.{Reads, number_at, text_at, whole};
-ghost use Rattle.mq_frame.specs.Reading.{host, login, after, run, ordinal, moment, day, count, amount, id};
+ghost use Rattle.mq_frame.specs.Reading.{host, login, after, run, ordinal, moment, day, count};
+ghost use Rattle.mq_frame.specs.Reading.{amount, id};
 
 use mq_request::are_host_bytes;
 use mq_request::bounds::{

@@ -1,23 +1,32 @@
 //! Laws of the link's format. Each is the contract of a function that does nothing.
-ghost use Rattle.std.specs.Prelude.{◌≡◌, ◌↔◌, ℕ, ◌+◌, ◌<◌, ◌≤◌, List, [], ◌∷◌, ◌++◌, length, drop, Some, None};
+ghost use Rattle.std.specs.Prelude.{◌≡◌, ◌↔◌, ℕ, ◌+◌, ◌<◌, ◌≤◌, List, [], ◌∷◌, ◌++◌, length, drop};
+ghost use Rattle.std.specs.Prelude.{Some, None};
 ghost use Rattle.std.specs.Prelude.{Ok, All, ◌⊎◌};
 ghost use Rattle.std.specs.List.{flat_map};
 ghost use Rattle.mq_frame.specs.declared.feed.TheConstants.{REQUEST_LIMIT, REPLY_LIMIT};
-ghost use Rattle.mq_frame.specs.declared.format.TheConstants.{RESERVE, SETTLE, RELEASE, LIMIT, USAGE, LIST, RETIRE};
-ghost use Rattle.mq_frame.specs.declared.format.TheConstants.{GRANTED, FULL, SETTLED, RELEASED, LIMIT_SET, OVER};
-ghost use Rattle.mq_frame.specs.declared.format.TheConstants.{CLOSED, MISMATCH, TOO_MANY, CONFLICT, RETRY, BAD, RETIRED, OLD};
+ghost use Rattle.mq_frame.specs.declared.format.TheConstants.{RESERVE, SETTLE, RELEASE, LIMIT};
+ghost use Rattle.mq_frame.specs.declared.format.TheConstants.{USAGE, LIST, RETIRE};
+ghost use Rattle.mq_frame.specs.declared.format.TheConstants.{GRANTED, FULL, SETTLED, RELEASED};
+ghost use Rattle.mq_frame.specs.declared.format.TheConstants.{LIMIT_SET, OVER};
+ghost use Rattle.mq_frame.specs.declared.format.TheConstants.{CLOSED, MISMATCH, TOO_MANY, CONFLICT};
+ghost use Rattle.mq_frame.specs.declared.format.TheConstants.{RETRY, BAD, RETIRED, OLD};
 ghost use Rattle.mq_frame.specs.declared.format.TheConstants.{USAGE_REPLY, LIST_REPLY, HEAD_BYTES};
 ghost use Rattle.mq_request.specs.Range.{IsWithin, IsRequest, IsReply};
-ghost use Rattle.mq_frame.specs.Spelling.{in_2_bytes, request_body, reply_body, SpellsRequest, SpellsReply, frame};
+ghost use Rattle.mq_frame.specs.Spelling.{in_2_bytes, request_body, reply_body, SpellsRequest};
+ghost use Rattle.mq_frame.specs.Spelling.{SpellsReply, frame};
 ghost use Rattle.mq_frame.specs.Reading.{request_at, reply_at};
-ghost use Rattle.mq_frame.specs.Feed.{Front, Nothing, Cut, EmptyHead, LongHead, Whole, front, next_answer};
-ghost use Rattle.mq_frame.specs.Feed.{left_by_next, BeginsWith, HasNoFrame, Frames, Move, Moves, fed, given};
+ghost use Rattle.mq_frame.specs.Feed.{Front, Nothing, Cut, EmptyHead, LongHead, Whole, front};
+ghost use Rattle.mq_frame.specs.Feed.{next_answer};
+ghost use Rattle.mq_frame.specs.Feed.{left_by_next, BeginsWith, HasNoFrame, Frames, Move, Moves};
+ghost use Rattle.mq_frame.specs.Feed.{fed, given};
 ghost use Rattle.mq_request.specs.declared.message.Request.{Request};
 ghost use Rattle.mq_request.specs.declared.message.Reply.{Reply};
 
-/// The kinds of bodies, and how long bodies are, as numbers: the definitions have their names alone.
+/// The kinds of bodies, and how long bodies are, as numbers: the definitions have their names
+/// alone.
 pub fn numbers_of_bodies()
-    ensures requests { RESERVE ∷ SETTLE ∷ RELEASE ∷ LIMIT ∷ USAGE ∷ LIST ∷ [] ≡ 1 ∷ 2 ∷ 3 ∷ 4 ∷ 5 ∷ 6 ∷ [] }
+    ensures requests { RESERVE ∷ SETTLE ∷ RELEASE ∷ LIMIT ∷ USAGE ∷ LIST ∷ [] ≡ 1 ∷ 2 ∷ 3 ∷ 4 ∷ 5
+        ∷ 6 ∷ [] }
     ensures granted_or_not { GRANTED ∷ FULL ∷ SETTLED ∷ RELEASED ∷ [] ≡ 129 ∷ 130 ∷ 131 ∷ 132 ∷ [] }
     ensures limits { LIMIT_SET ∷ OVER ∷ [] ≡ 133 ∷ 134 ∷ [] }
     ensures refusals { CLOSED ∷ MISMATCH ∷ TOO_MANY ∷ CONFLICT ∷ [] ≡ 135 ∷ 136 ∷ 137 ∷ 138 ∷ [] }
@@ -137,21 +146,24 @@ pub fn frames_stay()
     ensures long { (limit : ℕ) (bytes more : List ℕ) → front limit bytes ≡ LongHead
         → front limit (bytes ++ more) ≡ LongHead }
 
-    // A body that a call for the next one gives stood in a whole frame, and what is left stood after it.
+    // A body that a call for the next one gives stood in a whole frame, and what is left stood
+    // after it.
     ensures gives { (bytes body : List ℕ) (at : Front) → next_answer at ≡ Ok (Some body)
         → at ≡ Whole body (left_by_next at bytes) }
 
     ensures more { (limit : ℕ) (bytes more : List ℕ) (bodies : List (List ℕ)) (rest : List ℕ)
         → BeginsWith limit bytes bodies rest
         → BeginsWith limit (bytes ++ more) bodies (rest ++ more) }
-    ensures one_more { (limit : ℕ) (bytes : List ℕ) (bodies : List (List ℕ)) (rest body after : List ℕ)
+    ensures one_more { (limit : ℕ) (bytes : List ℕ) (bodies : List (List ℕ))
+        (rest body after : List ℕ)
         → BeginsWith limit bytes bodies rest → front limit rest ≡ Whole body after
         → BeginsWith limit bytes (bodies ++ body ∷ []) after }
     ensures none { (limit : ℕ) (bytes : List ℕ)
         → (front limit bytes ≡ Nothing) ⊎ ((front limit bytes ≡ Cut)
         ⊎ ((front limit bytes ≡ EmptyHead) ⊎ (front limit bytes ≡ LongHead)))
         → HasNoFrame limit bytes }
-    ensures one_list { (limit : ℕ) (bytes : List ℕ) (bodies others : List (List ℕ)) (rest end : List ℕ)
+    ensures one_list { (limit : ℕ) (bytes : List ℕ) (bodies others : List (List ℕ))
+        (rest end : List ℕ)
         → Frames limit bytes bodies rest → Frames limit bytes others end → (bodies ≡ others)
         × (rest ≡ end) }
 {}

@@ -1,7 +1,8 @@
 //! Requests and replies as bytes, and the frames in which they travel.
 //!
-//! A request or reply in range has one spelling as a body: [`encode_request`], [`decode_request`] and their
-//! like go both ways. A [`FrameFeed`] gives the bodies of a stream that comes in pieces. From `mq_server/src/answer.rt`:
+//! A request or reply in range has one spelling as a body: [`encode_request`], [`decode_request`]
+//! and their like go both ways. A [`FrameFeed`] gives the bodies of a stream that comes in pieces.
+//! From `mq_server/src/answer.rt`:
 //!
 //!     match decode_request(alloc, body) {
 //!         Ok(request) => apply(&request, ledger),
@@ -9,8 +10,9 @@
 //!         Err(DecodeFault::Memory) => Err(ServeFault::Memory),
 //!     }
 //!
-//! It stands on `mq_request`, and doesn't know what a request does. Begin with `specs/Spelling.antt`, the bytes of
-//! each kind; for streams with `specs/Feed.antt` and `feed.rt`. docs/FRAMES.md has the format.
+//! It stands on `mq_request`, and doesn't know what a request does. Begin with
+//! `specs/Spelling.antt`, the bytes of each kind; for streams with `specs/Feed.antt` and `feed.rt`.
+//! docs/FRAMES.md has the format.
 #![tactic(auto)]
 
 mod borrowed;

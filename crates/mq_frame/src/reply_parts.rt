@@ -1,5 +1,6 @@
 //! A reply in a body, as parts that borrow from it.
-ghost use Rattle.mq_frame.specs.Reading.{Reads, whole, pair, id, amount, reply_at, reply_of_kind, numbered_reply};
+ghost use Rattle.mq_frame.specs.Reading.{Reads, whole, pair, id, amount, reply_at, reply_of_kind};
+ghost use Rattle.mq_frame.specs.Reading.{numbered_reply};
 ghost use Rattle.mq_frame.specs.Shown.{shown_id};
 ghost use Rattle.mq_frame.specs.Parts.{shown_reply};
 

@@ -1,5 +1,6 @@
 //! A request in a body, as parts that borrow from it.
-ghost use Rattle.mq_frame.specs.Reading.{Reads, whole, pair, count, transaction, request_at, request_of_kind};
+ghost use Rattle.mq_frame.specs.Reading.{Reads, whole, pair, count, transaction, request_at};
+ghost use Rattle.mq_frame.specs.Reading.{request_of_kind};
 ghost use Rattle.mq_frame.specs.Parts.{shown_transaction, shown_request};
 
 use crate::fields::{
@@ -82,7 +83,8 @@ fn whole_transaction(bytes: &[u8]) -> Option<TransactionParts<'_>>
 }
 
 fn transaction_and_count(bytes: &[u8]) -> Option<(TransactionParts<'_>, u32)>
-    ensures { Reads (λ x. (shown_transaction x.0, x.1)) result (whole (pair transaction count) bytes.now) }
+    ensures { Reads (λ x. (shown_transaction x.0, x.1)) result
+        (whole (pair transaction count) bytes.now) }
 {
     let (transaction, rest) = transaction_at(bytes)?;
     match count_at(rest) {

@@ -1,18 +1,9 @@
 -- What the answers of a ledger with a legal history need.
-use Rattle.std.proofs.Common.{◌≡◌, ℕ, ◌≤◌, List, [], ◌∷◌, ◌++◌, true, false, Some, None, Option, refl, ◌∙◌, ap, sym, subst}
-use Rattle.std.specs.Prelude.{is_some, All}
-use Rattle.std.proofs.lemmas.List.Elements.{All-push, All-map}
-use Rattle.mq_lemmas.proofs.Booleans.{neither_first, neither_second}
-use Rattle.mq_request.specs.declared.message.Id.{Id}
-use Rattle.mq_request.specs.declared.message.Request.{Request}
-use Rattle.mq_request.specs.declared.message.Reply.{Reply}
-use Rattle.mq_request.specs.Range.{IsRequest, IsReply, IsAmount}
-use Rattle.mq_ledger.specs.declared.entry.Entry.{Entry}
-use Rattle.mq_ledger.specs.Answer.{if_open, answer, appended, stored, known_by, reply, reply_to, reply_by, with_arrival, with_arrival_by, history_of}
-use Rattle.mq_ledger.specs.Arrivals.{id_of, is_below}
-use Rattle.mq_ledger.specs.Day.{IsZone, day_of}
-use Rattle.mq_ledger.specs.History.{requests, transaction, granted_in, used, IsOpenTo}
-use Rattle.mq_ledger.specs.Legal.{Book, IsLegal, IsLegalBook}
+use Rattle.mq_lemmas.proofs.Booleans.{neither}
+use Rattle.mq_ledger.proofs.Words.{All, All-map, Book, Entry, Id, IsAmount, IsLegal, IsOpenTo, IsReply, IsRequest, IsZone, List, None, Option, Reply, Request, Some, [], answer, ap, appended, day_of, false, granted_in, history_of, id_of, if_open, is_below, is_some, known_by, neither_first}
+use Rattle.mq_ledger.proofs.Words.{neither_second, not_some, refl, reply, reply_by, reply_to, requests, stored, subst, sym, transaction, true, used, with_arrival, with_arrival_by, ℕ, ◌++◌, ◌∙◌, ◌∷◌, ◌≡◌, ◌≤◌}
+use Rattle.std.proofs.lemmas.List.Elements.{All-push}
+use Rattle.mq_ledger.specs.Legal.{IsLegalBook}
 use Rattle.mq_ledger.proofs.Clocks.{zone_days}
 use Rattle.mq_ledger.proofs.Numbers.{legal_build, legal_more}
 use Rattle.mq_ledger.proofs.Transactions.{entry}
@@ -25,7 +16,7 @@ pub book_used : (b : Book) → IsLegalBook b → (l : List ℕ) (d : ℕ) → us
 book_used b h l d = used_fits (day_of b.zone) b.default b.history (book_ranged b h) l d
 
 pub book_held : (b : Book) → IsLegalBook b → (id : Id) (txn moment : ℕ) (login : List ℕ) → IsOpenTo moment login b.history (transaction id txn) → granted_in b.history (transaction id txn) ≤ 1000000
-book_held b h id txn moment login o = held_fits (day_of b.zone) b.default b.history (book_ranged b h) id txn moment login o.agreed o.open_still
+book_held b h id txn moment login o = rw o.open_still at (held_fits (day_of b.zone) b.default b.history (book_ranged b h) id txn moment login o)
 
 -- an open transaction gets the answer itself
 pub open_answer : (H : List Entry) (id : Id) (txn moment : ℕ) (login : List ℕ) (a : Reply) → IsOpenTo moment login H (transaction id txn) → if_open H id txn moment login a ≡ a
@@ -34,16 +25,12 @@ open_answer H id txn moment login a o = rw (o.agreed, o.open_still) refl
 -- Arrivals.
 
 -- a number that isn't known is above the floor, and isn't stored
-is_none : (o : Option Entry) → is_some o ≡ false → o ≡ None
-is_none None h = refl
-is_none (Some e) h = cc
-
-pub reply_fresh : (day : ℕ → ℕ) (default : ℕ) (H : List Entry) (r : Request) (o : Option Id) → id_of r ≡ o → known_by H o ≡ false → reply day default H r ≡ answer day default H r
-reply_fresh day default H r None e h = ap (reply_to day default H r) e
-reply_fresh day default H r (Some id) e h =
-    let above = neither_first (is_below (requests H) id) (is_some (stored H id)) h in
-    let fresh = is_none (stored H id) (neither_second (is_below (requests H) id) (is_some (stored H id)) h) in
-    ap (reply_to day default H r) e ∙ rw above (ap (reply_by day default H r id) fresh)
+pub fresh_reply : (day : ℕ → ℕ) (default : ℕ) (H : List Entry) (r : Request) (o : Option Id) → known_by H o ≡ false → reply_to day default H r o ≡ answer day default H r
+fresh_reply day default H r None h = refl
+fresh_reply day default H r (Some id) h =
+    let parts = neither (is_below (requests H) id) (is_some (stored H id)) h in
+    let above : is_below (requests H) id ≡ false = parts.0 in
+    rw above (ap (reply_by day default H r id) (not_some (stored H id) parts.1))
 
 pub arrival_of_known : (day : ℕ → ℕ) (default : ℕ) (H : List Entry) (r : Request) (o : Option Id) → known_by H o ≡ true → with_arrival_by day default H r o ≡ H
 arrival_of_known day default H r None h = refl
@@ -83,4 +70,4 @@ book_appended b r a fresh numbered is =
     ap (λ x. b.history ++ entry r x ∷ []) is ∙ sym (arrival_fresh (day_of b.zone) b.default b.history r (id_of r) numbered fresh)
 
 pub book_fresh_reply : (b : Book) (r : Request) (a : Reply) → known_by b.history (id_of r) ≡ false → a ≡ answer (day_of b.zone) b.default b.history r → a ≡ reply (day_of b.zone) b.default b.history r
-book_fresh_reply b r a fresh is = is ∙ sym (reply_fresh (day_of b.zone) b.default b.history r (id_of r) refl fresh)
+book_fresh_reply b r a fresh is = is ∙ sym (fresh_reply (day_of b.zone) b.default b.history r (id_of r) fresh)

@@ -1,18 +1,12 @@
 -- From what a clock shows to a day number.
-use Rattle.std.proofs.Common.{◌≡◌, ◌∙◌, ◌≤ℤ◌, ◌<ℤ◌, ◌≤◌, pos, negsuc, ℕ, ◌+◌, ◌*◌, ◌/◌, List, ℤ, ◌+ℤ◌, ◌*ℤ◌, arith, int_div, nat_abs, to_z, of_z, w64, sym, ap}
+use Rattle.mq_ledger.proofs.Words.{IsDayRule, IsPosixZone, IsZone, List, TimeZone, ahead, ap, arith, clock, day_of, int_div_euclid, limited, nanos_of_seconds, of_z, offset_at, pos, signed_arith, sym, to_z, w64, ℕ, ℤ, ◌*ℤ◌, ◌+ℤ◌, ◌+◌, ◌∙◌, ◌≡◌, ◌≤ℤ◌, ◌≤◌}
+use Rattle.std.proofs.Common.{◌<ℤ◌, negsuc, ◌*◌, ◌/◌, int_div, nat_abs}
 use lib.Signed.{quot_z}
-use Rattle.std.specs.Int.{int_div_euclid}
 use Rattle.jiff_core.specs.Date.{epoch_day}
 use Rattle.jiff_core.specs.DateTime.{civil_nanos}
-use Rattle.jiff_core.specs.Timestamp.{nanos_of_seconds}
 use Rattle.jiff_core.specs.declared.civil.datetime.DateTime.{DateTime}
-use Rattle.jiff_tz.specs.Zone.{offset_at}
-use Rattle.jiff_tz.specs.declared.timezone.TimeZone.{TimeZone}
-use Rattle.jiff.specs.Placed.{IsPosixZone}
-use Rattle.jiff.proofs.SpanFacts.{signed_arith}
-use Rattle.mq_ledger.specs.Day.{Days, IsOffset, IsZone, IsDayRule, ByOffset, ByRule, natural, clock, rule_clock, limited, day_of}
+use Rattle.mq_ledger.specs.Day.{Days, IsOffset, ByOffset, ByRule, natural, rule_clock}
 use Rattle.mq_request.specs.Range.{IsMoment}
-use Rattle.mq_ledger.specs.Rule.{ahead}
 use Rattle.mq_ledger.proofs.Rules.{ahead_posix}
 
 -- the date's day number is the whole days of the clock

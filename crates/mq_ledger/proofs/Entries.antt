@@ -1,21 +1,11 @@
 -- What one more entry does, as equations.
-use Rattle.std.proofs.Common.{◌≡◌, ℕ, ◌+◌, List, [], ◌∷◌, ◌++◌, Bool, true, false, refl, ◌∙◌, sym, subst, inl, inr, arith}
-use Rattle.std.specs.Prelude.{if◌then◌else◌, ◌&&◌, ◌||◌, not, nat_le, Some, None}
-use Rattle.std.proofs.lemmas.Bool.Decides.{nat_tests}
-use Rattle.std.proofs.lemmas.List.Sums.{sum_by_push, sum_by-cons}
-use Rattle.mq_lemmas.proofs.Booleans.{and_false, or_false, either, neither_first, neither_second}
-use Rattle.mq_lemmas.proofs.Numbers.{if_zero}
-use Rattle.mq_request.specs.declared.message.Request.{Request}
-use Rattle.mq_request.specs.declared.message.Request.TheVariants.{Reserve, Settle, Release, Limit, Usage, List as ListRequest, Retire}
-use Rattle.mq_request.specs.declared.message.Reply.{Reply}
-use Rattle.mq_request.specs.declared.message.Reply.TheVariants.{Granted, Settled, Released}
-use Rattle.mq_ledger.specs.declared.entry.Entry.{Entry}
-use Rattle.mq_ledger.specs.History.{Transaction, transaction, same_transaction, is_of, closes, ended, has_retired_run, retires, closed, named, granted, granted_in, counted, counted_in, held, settled_in}
-use Rattle.mq_ledger.specs.Limits.{from_of, cap_of, governs, limits, latest, cap}
-use Rattle.mq_ledger.specs.Suits.{Suits}
+use Rattle.mq_ledger.proofs.Words.{Bool, Entry, Granted, List, None, Release, Released, Reply, Request, Reserve, Retire, Settle, Settled, Suits, Transaction, [], arith, cap, cap_of, clash, closed, closes, counted, counted_in, either, ended, false, from_of, governs, granted, granted_in}
+use Rattle.mq_ledger.proofs.Words.{has_retired_run, held, if_zero, if◌then◌else◌, inl, inr, is_of, latest, limits, named, nat_le, nat_tests, not, refl, retires, same_transaction, settled_in, sum_by_push, transaction, true, ℕ, ◌&&◌, ◌++◌, ◌+◌, ◌||◌, ◌∙◌, ◌∷◌, ◌≡◌}
+use Rattle.mq_lemmas.proofs.Booleans.{and_false, neither}
+use Rattle.mq_ledger.proofs.Basics.{sum_nothing, none_passes, any_nothing, not_found}
 use Rattle.mq_ledger.proofs.LimitFacts.{cap_push_other, cap_push_newer, cap_push_older}
 use Rattle.mq_ledger.proofs.Suiting.{Opens}
-use Rattle.mq_ledger.proofs.Transactions.{entry, transaction_is, ended_push, has_retired_run_push, closed_push, held_of}
+use Rattle.mq_ledger.proofs.Transactions.{entry, at_its, ended_push, has_retired_run_push, closed_push, held_of}
 
 abbrev pub counted_of : Transaction → Entry → ℕ
 counted_of t x = if is_of t x.request then counted x.request x.reply else 0
@@ -26,17 +16,11 @@ granted_in_push H e t = sum_by_push (held_of t) H e
 pub counted_in_push : (H : List Entry) (e : Entry) (t : Transaction) → counted_in (H ++ e ∷ []) t ≡ counted_in H t + counted_of t e
 counted_in_push H e t = sum_by_push (counted_of t) H e
 
+held_step : (g c n : Bool) (a h : ℕ) → (if g || (c || n) then 0 else a + h) ≡ (if g || (c || n) then 0 else (if c then 0 else a) + h)
+held_step g c n a h = grind arith
+
 pub held_push : (H : List Entry) (e : Entry) (t : Transaction) → held (H ++ e ∷ []) t ≡ (if retires e.request t || (closed H t || (is_of t e.request && closes e.reply)) then 0 else held H t + (if is_of t e.request then granted e.request e.reply else 0))
-held_push H e t = elim (either (retires e.request t)) [
-  | inl gone ↦ rw (closed_push H e t, gone) refl
-  | inr stays ↦ elim (either (closed H t)) [
-    | inl shut ↦ rw (closed_push H e t, stays, shut) refl
-    | inr not_shut ↦ elim (either (is_of t e.request && closes e.reply)) [
-      | inl now ↦ rw (closed_push H e t, stays, not_shut, now) refl
-      | inr not_now ↦ rw (closed_push H e t, stays, not_shut, not_now) (granted_in_push H e t)
-    ]
-  ]
-]
+held_push H e t = (λ i. if closed_push H e t i then 0 else granted_in_push H e t i) ∙ held_step (retires e.request t) (closed H t) (is_of t e.request && closes e.reply) (granted_in H t) (held_of t e)
 
 -- An answer moves nothing of a transaction that is closed.
 
@@ -46,12 +30,7 @@ pub record Quiet (t : Transaction) (r : Request) (a : Reply) : Type 0 where
 
 -- a closed transaction isn't the one that is open
 not_open : (H : List Entry) (t u : Transaction) → closed H u ≡ false → closed H t ≡ true → same_transaction t u ≡ false
-not_open H t u still shut = elim (either (same_transaction t u)) [
-  | inr f ↦ f
-  | inl s ↦ absurd (let P : Transaction → Type 0 = λ v. closed H v ≡ true in
-      let here : closed H u ≡ true = subst P (transaction_is t u s) shut in
-      let clash : true ≡ false = sym here ∙ still in cc)
-]
+not_open H t u still shut = elim (either (same_transaction t u)) [ inr f ↦ f | inl s ↦ absurd (clash (closed H u) (at_its (closed H) t u true s shut) still) ]
 
 pub moves_open_alone : (H : List Entry) (t : Transaction) (r : Request) (a : Reply) → Suits r a → Opens H r a → closed H t ≡ true → Quiet t r a
 moves_open_alone H t (Reserve id txn moment login count) (Granted id' n) s o shut =
@@ -60,57 +39,25 @@ moves_open_alone H t (Settle id txn moment login count) (Settled id' n) s o shut
     (let other = not_open H t (transaction id txn) o.0.open_still shut in record { no_end = rw other refl; no_grant = if_zero (same_transaction t (transaction id txn)) 0 refl })
 moves_open_alone H t (Release id txn moment login) (Released id' n) s o shut =
     (let other = not_open H t (transaction id txn) o.open_still shut in record { no_end = rw other refl; no_grant = if_zero (same_transaction t (transaction id txn)) 0 refl })
-moves_open_alone H t (Reserve id txn moment login count) (Settled id' n) s o shut = absurd s
-moves_open_alone H t (Reserve id txn moment login count) (Released id' n) s o shut = absurd s
-moves_open_alone H t (Settle id txn moment login count) (Released id' n) s o shut = absurd s
-moves_open_alone H t (Release id txn moment login) (Settled id' n) s o shut = absurd s
-moves_open_alone H t (Limit id from c login) (Settled id' n) s o shut = absurd s
-moves_open_alone H t (Limit id from c login) (Released id' n) s o shut = absurd s
+moves_open_alone H t r (Settled id' n) s o shut = absurd s
+moves_open_alone H t r (Released id' n) s o shut = absurd s
 moves_open_alone H t r a s o shut = record { no_end = and_false (is_of t r); no_grant = if_zero (is_of t r) 0 refl }
 
 -- a retire is of no transaction
 pub retires_of_none : (t u : Transaction) (r : Request) → retires r u ≡ true → is_of t r ≡ false
 retires_of_none t u (Retire id) g = refl
-retires_of_none t u (Reserve id txn moment login count) g = cc
-retires_of_none t u (Settle id txn moment login count) g = cc
-retires_of_none t u (Release id txn moment login) g = cc
-retires_of_none t u (Limit id from c login) g = cc
-retires_of_none t u (Usage login d) g = cc
-retires_of_none t u (ListRequest d after) g = cc
+retires_of_none t u r g = cc
+
+settled_step : (gone before over of shuts : Bool) (settled granted k g : ℕ) → (gone ≡ true → of ≡ false) → (before ≡ true → (of && shuts) ≡ false) → (before ≡ true → (if of then g else 0) ≡ 0)
+    → (settled + (if of then k else 0)) + (if (gone || before) && not (over || (of && shuts)) then granted + (if of then g else 0) else 0) ≡ (settled + (if before && not over then granted else 0)) + (if of then k else 0) + (if gone then (if before || over then 0 else granted) else 0)
+settled_step gone before over of shuts settled granted k g apart no_end no_grant = grind arith
 
 pub settled_in_push : (H : List Entry) (e : Entry) (t : Transaction) → Suits e.request e.reply → Opens H e.request e.reply → settled_in (H ++ e ∷ []) t ≡ settled_in H t + (if is_of t e.request then counted e.request e.reply else 0) + (if retires e.request t then held H t else 0)
-settled_in_push H e t s o = elim (either (retires e.request t)) [
-  | inl gone ↦ (let none : is_of t e.request ≡ false = retires_of_none t t e.request gone in
-      let k : counted_of t e ≡ 0 = rw none refl in
-      let h : held_of t e ≡ 0 = rw none refl in
-      let c = counted_in_push H e t in
-      let g = granted_in_push H e t in
-      let u : has_retired_run (H ++ e ∷ []) t ≡ true = has_retired_run_push H e t ∙ rw gone refl in
-      let x : ended (H ++ e ∷ []) t ≡ ended H t = ended_push H e t ∙ rw none (or_false (ended H t)) in
-      elim (either (ended H t)) [
-        | inl over ↦ elim (either (has_retired_run H t)) [
-          | inl before ↦ rw (u, x, over, before, gone, none) (omega (arith, c, g, k, h))
-          | inr fresh ↦ rw (u, x, over, fresh, gone, none) (omega (arith, c, g, k, h))
-        ]
-        | inr still ↦ elim (either (has_retired_run H t)) [
-          | inl before ↦ rw (u, x, still, before, gone, none) (omega (arith, c, g, k, h))
-          | inr fresh ↦ rw (u, x, still, fresh, gone, none) (omega (arith, c, g, k, h))
-        ]
-      ])
-  | inr stays ↦ (let c = counted_in_push H e t in
-      let g = granted_in_push H e t in
-      let u : has_retired_run (H ++ e ∷ []) t ≡ has_retired_run H t = has_retired_run_push H e t ∙ rw stays refl in
-      elim (either (has_retired_run H t)) [
-        | inr fresh ↦ rw (u, fresh, stays) (omega (arith, c))
-        | inl before ↦ (let q = moves_open_alone H t e.request e.reply s o (rw before refl) in
-            let x : ended (H ++ e ∷ []) t ≡ ended H t = ended_push H e t ∙ rw q.no_end (or_false (ended H t)) in
-            let h = q.no_grant in
-            elim (either (ended H t)) [
-              | inl over ↦ rw (u, x, before, over, stays) (omega (arith, c))
-              | inr still ↦ rw (u, x, before, still, stays) (omega (arith, c, g, h))
-            ])
-      ])
-]
+settled_in_push H e t s o =
+    let quiet : has_retired_run H t ≡ true → Quiet t e.request e.reply = λ before. moves_open_alone H t e.request e.reply s o (rw before refl) in
+    (λ i. counted_in_push H e t i + (if has_retired_run_push H e t i && not (ended_push H e t i) then granted_in_push H e t i else 0))
+    ∙ settled_step (retires e.request t) (has_retired_run H t) (ended H t) (is_of t e.request) (closes e.reply) (counted_in H t) (granted_in H t) (counted e.request e.reply) (granted e.request e.reply)
+    (retires_of_none t t e.request) (λ before. (quiet before).no_end) (λ before. (quiet before).no_grant)
 
 counts_where_closes : (r : Request) (a : Reply) → closes a ≡ false → counted r a ≡ 0
 counts_where_closes (Settle id txn moment login count) (Settled id' n) h = cc
@@ -118,53 +65,35 @@ counts_where_closes r a h = refl
 
 -- a transaction that was neither settled nor released settled nothing of its own
 pub unended_counted : (H : List Entry) (t : Transaction) → ended H t ≡ false → counted_in H t ≡ 0
-unended_counted [] t h = refl
-unended_counted (x ∷ H) t h = elim (either (is_of t x.request)) [
-  | inl of ↦ elim (either (closes x.reply)) [
-    | inl shuts ↦ absurd (let b : true ≡ false = rw (of, shuts) at h in cc)
-    | inr not ↦ (let rest : ended H t ≡ false = rw (of, not) at h in
-        let own : counted_of t x ≡ 0 = rw of (counts_where_closes x.request x.reply not) in
-        omega (arith, sum_by-cons (counted_of t) x H, own, unended_counted H t rest))
-  ]
-  | inr other ↦ (let rest : ended H t ≡ false = rw other at h in
-      let own : counted_of t x ≡ 0 = rw other refl in
-      omega (arith, sum_by-cons (counted_of t) x H, own, unended_counted H t rest))
-]
+unended_counted H t h = sum_nothing (counted_of t) H (λ x i. elim (either (is_of t x.request)) [
+  | inr other ↦ rw other refl
+  | inl of ↦ (let quiet : (is_of t x.request && closes x.reply) ≡ false = none_passes (λ y. is_of t y.request && closes y.reply) H x h i in
+      rw of (counts_where_closes x.request x.reply (rw of at quiet)))
+])
 
 -- an open transaction settled nothing
 pub open_settled : (H : List Entry) (t : Transaction) → closed H t ≡ false → settled_in H t ≡ 0
 open_settled H t h =
-    let kept = neither_first (has_retired_run H t) (ended H t) h in
-    let none = unended_counted H t (neither_second (has_retired_run H t) (ended H t) h) in
-    rw kept (omega (arith, none))
+    let parts = neither (has_retired_run H t) (ended H t) h in
+    rw parts.0 (omega (arith, unended_counted H t parts.1))
 
 -- what was granted to a transaction that was neither settled nor released is held or settled
 pub unended_kept : (H : List Entry) (t : Transaction) → ended H t ≡ false → held H t + settled_in H t ≡ granted_in H t
-unended_kept H t h =
-    let none = unended_counted H t h in
-    elim (either (has_retired_run H t)) [ inl g ↦ rw (g, h) (omega (arith, none)) | inr k ↦ rw (k, h) (omega (arith, none)) ]
+unended_kept H t h = rw h (kept (has_retired_run H t) (counted_in H t) (granted_in H t) (unended_counted H t h)) where
+  kept : (g : Bool) (k a : ℕ) → k ≡ 0 → (if g || false then 0 else a) + (k + (if g && not false then a else 0)) ≡ a
+  kept g k a none = grind arith
 
 pub unheard_ended : (H : List Entry) (t : Transaction) → named H t ≡ None → ended H t ≡ false
-unheard_ended [] t h = refl
-unheard_ended (x ∷ H) t h = elim (either (is_of t x.request)) [
-  | inl of ↦ absurd (let b : Some x ≡ None = rw of at h in cc)
-  | inr other ↦ (let rest : named H t ≡ None = rw other at h in rw other (unheard_ended H t rest))
-]
+unheard_ended H t h = any_nothing (λ x. is_of t x.request && closes x.reply) H (λ x i. (let other : is_of t x.request ≡ false = not_found (λ y. is_of t y.request) H x h i in rw other refl))
 
 pub unheard_granted : (H : List Entry) (t : Transaction) → named H t ≡ None → granted_in H t ≡ 0
-unheard_granted [] t h = refl
-unheard_granted (x ∷ H) t h = elim (either (is_of t x.request)) [
-  | inl of ↦ absurd (let b : Some x ≡ None = rw of at h in cc)
-  | inr other ↦ (let rest : named H t ≡ None = rw other at h in
-      let own : held_of t x ≡ 0 = rw other refl in
-      omega (arith, sum_by-cons (held_of t) x H, own, unheard_granted H t rest))
-]
+unheard_granted H t h = sum_nothing (held_of t) H (λ x i. (let other : is_of t x.request ≡ false = not_found (λ y. is_of t y.request) H x h i in rw other refl))
 
 pub unheard_held : (H : List Entry) (t : Transaction) → named H t ≡ None → held H t ≡ 0
-unheard_held H t h = (let is = unended_kept H t (unheard_ended H t h) in let none = unheard_granted H t h in omega (arith, is, none))
+unheard_held H t h = omega (arith, unended_kept H t (unheard_ended H t h), unheard_granted H t h)
 
 pub unheard_settled : (H : List Entry) (t : Transaction) → named H t ≡ None → settled_in H t ≡ 0
-unheard_settled H t h = (let is = unended_kept H t (unheard_ended H t h) in let none = unheard_granted H t h in omega (arith, is, none))
+unheard_settled H t h = omega (arith, unended_kept H t (unheard_ended H t h), unheard_granted H t h)
 
 pub cap_push : (default : ℕ) (H : List Entry) (e : Entry) (l : List ℕ) (d : ℕ) → cap default (H ++ e ∷ []) l d ≡ (if governs l d e && nat_le (latest (limits H l d)) (from_of e.request) then cap_of e.request else cap default H l d)
 cap_push default H e l d = elim (either (governs l d e)) [

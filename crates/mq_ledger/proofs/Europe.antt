@@ -1,19 +1,14 @@
 -- Days of Central Europe, computed from the text of its rule.
-use Rattle.std.proofs.Common.{◌≡◌, ℕ, ℤ, pos, ◌+ℤ◌, Some, arith, nat_le, nat_lt, true, refl, codes}
-use Rattle.std.specs.Prelude.{if◌then◌else◌}
-use Rattle.std.specs.Int.{int_div_euclid}
-use Rattle.std.proofs.lemmas.Bool.Decides.{nat_tests}
+use Rattle.mq_ledger.proofs.Words.{Some, ahead, arith, day_of, if◌then◌else◌, in_window, int_div_euclid, limited, nanos_of_seconds, nat_le, nat_lt, nat_tests, pos, refl, true, window_in, year_of_nanos, ℕ, ℤ, ◌+ℤ◌, ◌≡◌}
+use Rattle.std.proofs.Common.{codes}
 use Rattle.jiff_core.specs.Calendar.{days_of_years}
-use Rattle.jiff_core.specs.Timestamp.{nanos_of_seconds}
 use Rattle.jiff_tz.proofs.OnLiterals.{jiff_tz_on_literals, jiff_tz_rules_on_literals}
 use Rattle.jiff_tz.proofs.YearLemmas.{years_within_is}
 use Rattle.jiff_tz.specs.PosixReader.{read_whole}
-use Rattle.jiff_tz.specs.PosixRule.{in_window}
 use Rattle.jiff_tz.specs.PosixText.{DstText, TzText}
-use Rattle.jiff_tz.specs.Year.{years_within, year_of_nanos}
+use Rattle.jiff_tz.specs.Year.{years_within}
 use Rattle.jiff_tz.specs.declared.posix.Day.TheVariants.{WeekdayOfMonth}
-use Rattle.mq_ledger.specs.Day.{limited, day_of, central_europe}
-use Rattle.mq_ledger.specs.Rule.{window_in, ahead}
+use Rattle.mq_ledger.specs.Day.{central_europe}
 
 abbrev summer : DstText
 summer = record { name = codes "CEST"; seconds = pos 7200; start = (WeekdayOfMonth 3 5 0, pos 7200); finish = (WeekdayOfMonth 10 5 0, pos 10800) }

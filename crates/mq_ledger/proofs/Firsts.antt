@@ -1,17 +1,12 @@
 -- First arrivals are those before which no arrival has their number, where it isn't below the floor.
-use Rattle.std.proofs.Common.{◌≡◌, List, [], ◌∷◌, ◌++◌, Bool, true, false, refl, ◌∙◌, ap, sym, inl, inr, append-nil}
-use Rattle.std.specs.Prelude.{Option, Some, None, find, is_some, ◌||◌, if◌then◌else◌}
-use Rattle.std.specs.List.{list_any}
-use Rattle.std.specs.Option.{option_or}
+use Rattle.mq_ledger.proofs.Words.{Bool, Id, List, None, Option, Request, Some, [], ap, append-nil, by_pushes, either, false, find, find-append, first, has_id, id_of, if◌then◌else◌, inl, inr, is_below, is_some, kept_with, list_any, list_any-append, option_or, refl, sym, true, ◌++◌, ◌||◌, ◌∙◌, ◌∷◌}
+use Rattle.mq_ledger.proofs.Words.{◌≡◌}
 use Rattle.std.proofs.Math.Bool.{or-false}
-use Rattle.std.proofs.lemmas.List.Folds.{list_any-append, find-append}
-use Rattle.mq_lemmas.proofs.Booleans.{true_false, either}
-use Rattle.mq_lemmas.proofs.Lists.{by_pushes}
-use Rattle.mq_request.specs.declared.message.Id.{Id}
-use Rattle.mq_request.specs.declared.message.Request.{Request}
+use Rattle.mq_lemmas.proofs.Booleans.{true_false}
 use Rattle.mq_request.specs.Same.{same_id}
 use Rattle.mq_request.proofs.Alike.{id_is}
-use Rattle.mq_ledger.specs.Arrivals.{id_of, is_id, has_id, is_below, kept_with, first, is_first, is_first_by}
+use Rattle.mq_ledger.specs.Arrivals.{is_id, is_first, is_first_by}
+use Rattle.mq_ledger.proofs.Basics.{any_found}
 use Rattle.mq_ledger.proofs.Numbers.{first_push, not_below_before}
 
 -- where a number isn't below the floor, it is among those kept and one more arrival
@@ -48,14 +43,6 @@ by_number A r (Some id) = elim (either (is_below (first A) id)) [
 pub first_one_more : (A : List Request) (r : Request) → first (A ++ r ∷ []) ≡ first A ++ (if is_first A r then r ∷ [] else [])
 first_one_more A r = first_push A r ∙ by_number A r (id_of r)
 
--- the first with a number is there where one is there
-found_any : (id : Id) (A : List Request) → list_any (has_id id) A ≡ is_some (find (has_id id) A)
-found_any id [] = refl
-found_any id (r ∷ A) = elim (either (has_id id r)) [
-  | inl t ↦ rw t refl
-  | inr f ↦ rw f (found_any id A)
-]
-
 or_none : (o : Option Request) → o ≡ option_or o None
 or_none None = refl
 or_none (Some r) = refl
@@ -77,7 +64,7 @@ found_step id kept r (Some number) e above = elim (either (is_below kept number 
       let same : id ≡ number = id_is id number (sym (ap (is_id id) e) ∙ s) in
       let mine : (is_below kept id || list_any (has_id id) kept) ≡ true = ap (λ i. is_below kept i || list_any (has_id i) kept) same ∙ t in
       let known : list_any (has_id id) kept ≡ true = rw above at mine in
-      let missed : list_any (has_id id) kept ≡ false = found_any id kept ∙ ap is_some h in
+      let missed : list_any (has_id id) kept ≡ false = any_found (has_id id) kept ∙ ap is_some h in
       absurd (true_false (sym known ∙ missed))
 
 pub first_found : (id : Id) (A : List Request) → is_below (first A) id ≡ false → find (has_id id) (first A) ≡ find (has_id id) A

@@ -1,16 +1,7 @@
 -- The floor of a host is the greatest run of its retires.
-use Rattle.std.proofs.Common.{◌≡◌, ℕ, ◌≤◌, List, [], ◌∷◌, ◌++◌, refl, ◌∙◌, ap, sym, subst, inl, inr, arith}
-use Rattle.std.specs.Prelude.{◌⊎◌, nat_lt, Contains}
-use Rattle.std.proofs.lemmas.Bool.Decides.{nat_tests}
+use Rattle.mq_ledger.proofs.Words.{Contains, Id, List, Request, Retire, [], ap, arith, by_pushes, either, floor, greater, inl, inr, nat_lt, nat_tests, raised, refl, same_text, subst, sym, text_is, text_itself, ℕ, ◌++◌, ◌∙◌, ◌∷◌, ◌≡◌, ◌≤◌, ◌⊎◌}
 use Rattle.std.proofs.lemmas.List.Elements.{Contains-append_left, Contains-push, Contains-push_cases}
-use Rattle.mq_lemmas.proofs.Booleans.{either}
-use Rattle.mq_lemmas.proofs.Lists.{by_pushes}
-use Rattle.mq_request.specs.declared.message.Id.{Id}
-use Rattle.mq_request.specs.declared.message.Request.{Request}
-use Rattle.mq_request.specs.declared.message.Request.TheVariants.{Reserve, Settle, Release, Limit, Usage, List as ListRequest, Retire}
-use Rattle.mq_request.specs.Same.{same_text}
-use Rattle.mq_request.proofs.Alike.{text_is, text_itself}
-use Rattle.mq_ledger.specs.Arrivals.{raised, greater, floor, IsFloor}
+use Rattle.mq_ledger.specs.Arrivals.{IsFloor}
 use Rattle.mq_ledger.proofs.Transactions.{floor_push, floor_none}
 
 pub greater_zero : (n : ℕ) → greater n 0 ≡ n
@@ -32,18 +23,7 @@ raised_by h (Retire id) = elim (either (same_text h id.host)) [
   | inl t ↦ (let own : id.host ≡ h = sym (text_is h id.host t) in inr (record { id = id; is = refl; host = own; run = sym (raised_own h id own) }))
   | inr f ↦ inl (rw f refl)
 ]
-raised_by h (Reserve id txn moment login count) = inl refl
-raised_by h (Settle id txn moment login count) = inl refl
-raised_by h (Release id txn moment login) = inl refl
-raised_by h (Limit id from cap login) = inl refl
-raised_by h (Usage login d) = inl refl
-raised_by h (ListRequest d after) = inl refl
-
-first_at_most : (a b : ℕ) → a ≤ greater a b
-first_at_most a b = grind (arith, nat_tests)
-
-second_at_most : (a b : ℕ) → b ≤ greater a b
-second_at_most a b = grind (arith, nat_tests)
+raised_by h r = inl refl
 
 greater_is : (a b : ℕ) → (greater a b ≡ a) ⊎ (greater a b ≡ b)
 greater_is a b = elim (either (nat_lt a b)) [ inl t ↦ inr (rw t refl) | inr f ↦ inl (rw f refl) ]
@@ -54,8 +34,8 @@ Reaches rs h n = (n ≡ 0) ⊎ ((id : Id) × Contains rs (Retire id) × (id.host
 one_more : (rs : List Request) (r : Request) (h : List ℕ) (m : ℕ) → IsFloor rs h m → IsFloor (rs ++ r ∷ []) h (greater m (raised h r))
 one_more rs r h m is = record {
   most = λ id there own. elim (Contains-push_cases rs r (Retire id) there) [
-    | inl before ↦ (let low : id.run ≤ m = is.most id before own in omega (arith, low, first_at_most m (raised h r)))
-    | inr now ↦ (let run : raised h r ≡ id.run = ap (raised h) now ∙ raised_own h id own in omega (arith, run, second_at_most m (raised h r)))
+    | inl before ↦ (let low : id.run ≤ m = is.most id before own in grind (arith, nat_tests, low))
+    | inr now ↦ (let run : raised h r ≡ id.run = ap (raised h) now ∙ raised_own h id own in grind (arith, nat_tests, run))
   ];
   reached = elim (greater_is m (raised h r)) [
     | inl stays ↦ subst (Reaches (rs ++ r ∷ []) h) (sym stays) (elim is.reached [
@@ -69,12 +49,9 @@ one_more rs r h m is = record {
   ];
 }
 
-nothing_there : {X : Type 0} (x : X) → Contains [] x → ⊥
-nothing_there x there = omega (arith, there.1)
-
 pub greatest : (rs : List Request) (h : List ℕ) → IsFloor rs h (floor rs h)
 greatest rs h = by_pushes (λ rs. IsFloor rs h (floor rs h))
-    (record { most = λ id there own. absurd (nothing_there (Retire id) there); reached = inl (floor_none h) })
+    (record { most = λ id there own. absurd (omega (arith, there.1)); reached = inl (floor_none h) })
     (λ rs r is. subst (IsFloor (rs ++ r ∷ []) h) (sym (floor_push rs r h)) (one_more rs r h (floor rs h) is)) rs
 
 at_most : (rs : List Request) (h : List ℕ) (m n : ℕ) → IsFloor rs h m → IsFloor rs h n → m ≤ n

@@ -1,14 +1,7 @@
 -- The limit of a day is the one from the latest day up to it.
-use Rattle.std.proofs.Common.{◌≡◌, ℕ, ◌<◌, ◌≤◌, List, [], ◌∷◌, ◌++◌, true, false, refl, ◌∙◌, ap, sym, inl, inr, arith}
-use Rattle.std.specs.Prelude.{if◌then◌else◌, ◌⊎◌, nat_le, Some, None}
-use Rattle.std.proofs.lemmas.Bool.Decides.{nat_tests}
-use Rattle.std.proofs.lemmas.List.Sums.{fold_push}
-use Rattle.mq_lemmas.proofs.Booleans.{either, first_so, second_so}
-use Rattle.mq_lemmas.proofs.Numbers.{le_or_lt, number_itself}
-use Rattle.mq_lemmas.proofs.Options.{some_none, some_is}
-use Rattle.mq_lemmas.proofs.Lists.{by_pushes}
-use Rattle.mq_ledger.specs.declared.entry.Entry.{Entry}
-use Rattle.mq_ledger.specs.Limits.{from_of, cap_of, sets, governs, limits, latest, cap, sets_from, set_cap}
+use Rattle.mq_ledger.proofs.Words.{Entry, List, None, Some, [], ap, arith, by_pushes, cap, cap_of, either, false, first_so, fold_push, from_of, governs, if◌then◌else◌, inl, inr, latest, le_or_lt, limits, nat_le, nat_tests, number_itself, refl, second_so, some_is, some_none, sym, true, ℕ, ◌++◌, ◌<◌}
+use Rattle.mq_ledger.proofs.Words.{◌∙◌, ◌∷◌, ◌≡◌, ◌≤◌, ◌⊎◌}
+use Rattle.mq_ledger.specs.Limits.{sets, sets_from, set_cap}
 use Rattle.mq_ledger.proofs.LimitFacts.{cap_push_other, cap_push_newer, cap_push_older, latest_push_newer, latest_push_older, limits_other, limits_more}
 
 pub set_cap_push : (H : List Entry) (e : Entry) (l : List ℕ) (d : ℕ) → set_cap (H ++ e ∷ []) l d ≡ (if sets_from l d e then Some (cap_of e.request) else set_cap H l d)

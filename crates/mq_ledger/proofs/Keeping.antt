@@ -1,9 +1,8 @@
 -- A rule's text is kept in front of zeros.
-use Rattle.std.proofs.Common.{◌≡◌, ◌∙◌, ℕ, ◌-◌, List, ◌++◌, length, take, arith, refl, sym, subst, length-append}
+use Rattle.mq_ledger.proofs.Words.{IsRule, List, arith, length, length-append, refl, replicate, subst, sym, take, ℕ, ◌++◌, ◌-◌, ◌∙◌, ◌≡◌}
 use Rattle.std.proofs.lemmas.List.{take_at}
 use Rattle.std.proofs.Math.Seq.{drop-append_seam}
-use Rattle.std.specs.Prelude.{replicate, IsUtf8}
-use Rattle.mq_ledger.specs.Day.{IsRule}
+use Rattle.std.specs.Prelude.{IsUtf8}
 use Rattle.mq_ledger.specs.Kept.{IsKeptText}
 
 kept_in : (text rest : List ℕ) → rest ≡ replicate (64 - length text) 0 → IsRule text → IsUtf8 text → IsKeptText (text ++ rest) (length text)

@@ -1,7 +1,6 @@
 -- What requests leave of a ledger, one after another.
-use Rattle.std.proofs.Common.{refl, ◌∙◌}
+use Rattle.mq_ledger.proofs.Words.{Book, refl, ◌∙◌}
 use Rattle.mq_ledger.specs.Leaving.{LeavesLedger}
-use Rattle.mq_ledger.specs.Legal.{Book}
 
 -- nothing was asked
 pub left_alone : {S : Type 0} {book : S → Book} {has_kept is_sound has_store : S → Type 0} {s : S} → LeavesLedger book has_kept is_sound has_store s s

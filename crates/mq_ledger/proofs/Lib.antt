@@ -1,3 +1,4 @@
+pub mod Answering
 pub mod Basics
 pub mod Books
 pub mod Clocks
@@ -21,3 +22,4 @@ pub mod Summing
 pub mod Telling
 pub mod Transactions
 pub mod Within
+pub mod Words

@@ -1,12 +1,5 @@
 -- What one more entry does to a login's limit.
-use Rattle.std.proofs.Common.{◌≡◌, ℕ, ◌<◌, ◌≤◌, List, [], ◌∷◌, ◌++◌, Bool, true, false, refl, ◌∙◌, ap, sym, arith, append-nil}
-use Rattle.std.specs.Prelude.{if◌then◌else◌, filter, ◌==◌}
-use Rattle.std.proofs.lemmas.Bool.Decides.{nat_tests}
-use Rattle.std.proofs.lemmas.List.Elements.{filter-append}
-use Rattle.std.proofs.lemmas.List.Sums.{fold_push}
-use Rattle.mq_ledger.specs.declared.entry.Entry.{Entry}
-use Rattle.mq_ledger.specs.Arrivals.{greater}
-use Rattle.mq_ledger.specs.Limits.{from_of, cap_of, limits, latest, last_cap, cap, governs}
+use Rattle.mq_ledger.proofs.Words.{Bool, Entry, List, [], ap, append-nil, arith, cap, cap_of, false, filter, filter-append, fold_push, from_of, governs, greater, if◌then◌else◌, last_cap, latest, limits, nat_tests, refl, sym, true, ℕ, ◌++◌, ◌<◌, ◌==◌, ◌∙◌, ◌∷◌, ◌≡◌, ◌≤◌}
 
 latest_push : (es : List Entry) (e : Entry) → latest (es ++ e ∷ []) ≡ greater (latest es) (from_of e.request)
 latest_push es e = fold_push (λ m x. greater m (from_of x.request)) 0 es e

@@ -1,24 +1,9 @@
 -- Numbers of requests: what one more arrival does, and that a number keeps its reply.
-use Rattle.std.proofs.Common.{◌≡◌, ℕ, List, [], ◌∷◌, ◌++◌, true, false, refl, ◌∙◌, ap, sym, inl, inr, append_assoc, append-nil}
-use Rattle.std.specs.Prelude.{fold, ◌||◌, nat_lt, Bool, Option, Some, None, is_some}
-use Rattle.std.specs.List.{AllByRecursion, list_any}
-use Rattle.std.proofs.lemmas.List.{map-append}
-use Rattle.std.proofs.lemmas.List.Elements.{recursion_from_All, All-from_recursion}
-use Rattle.std.proofs.lemmas.List.Folds.{find-append}
-use Rattle.std.proofs.lemmas.List.Sums.{fold_push}
-use Rattle.std.specs.Prelude.{All}
-use Rattle.mq_lemmas.proofs.Booleans.{either, or_second}
-use Rattle.mq_request.specs.declared.message.Id.{Id}
-use Rattle.mq_request.specs.declared.message.Request.{Request}
-use Rattle.mq_request.specs.declared.message.Reply.{Reply}
-use Rattle.mq_request.specs.declared.message.Reply.TheVariants.{Old}
-use Rattle.mq_request.specs.Range.{IsRequest}
+use Rattle.mq_ledger.proofs.Words.{All, All-from_recursion, AllByRecursion, Bool, Entry, Id, IsLegal, IsRequest, List, None, Old, Option, Reply, Request, Some, [], all_push, answer, ap, append-nil, append_assoc, appended, build, by_pushes, clash, either, false, find-append, first, floor, fold}
+use Rattle.mq_ledger.proofs.Words.{fold_push, has_id, history_of, id_of, inl, inr, is_below, is_some, kept_with, known_by, list_any, map-append, nat_lt, or_second, raised, recursion_from_All, refl, reply, reply_by, reply_to, requests, stored, subst, sym, true, with_arrival, with_arrival_by, ℕ, ◌++◌}
+use Rattle.mq_ledger.proofs.Words.{◌||◌, ◌∙◌, ◌∷◌, ◌≡◌}
 use Rattle.mq_request.proofs.Alike.{request_itself, id_itself}
-use Rattle.mq_ledger.specs.declared.entry.Entry.{Entry}
-use Rattle.mq_ledger.specs.Answer.{answer, appended, build, stored, reply, reply_to, reply_by, known_by, with_arrival, with_arrival_by, history_of}
-use Rattle.mq_ledger.specs.Arrivals.{id_of, has_id, raised, floor, is_below, kept_with, first}
-use Rattle.mq_ledger.specs.History.{requests}
-use Rattle.mq_ledger.specs.Legal.{IsLegal}
+use Rattle.mq_ledger.proofs.Basics.{all_split}
 use Rattle.mq_ledger.proofs.Transactions.{entry, floor_push, under_greater}
 
 -- First arrivals.
@@ -36,30 +21,17 @@ first_step kept r (Some id) e h = elim (either (is_below kept id || list_any (ha
   | inr f ↦ rw f (first_push kept r ∙ ap (λ k. kept_with k r (id_of r)) h ∙ ap (kept_with kept r) e ∙ rw f refl)
 ]
 
-first_steps : (kept A : List Request) → first kept ≡ kept → first (fold step kept A) ≡ fold step kept A
-first_steps kept [] h = h
-first_steps kept (r ∷ A) h = first_steps (step kept r) A (first_step kept r (id_of r) refl h)
-
 -- no number comes twice among first arrivals
 pub first_first : (A : List Request) → first (first A) ≡ first A
-first_first A = first_steps [] A refl
+first_first A = by_pushes (λ A. first (first A) ≡ first A) refl (λ A r h. ap first (first_push A r) ∙ first_step (first A) r (id_of r) refl h ∙ sym (first_push A r)) A
 
 kept_all : (P : Request → Type 0) (kept : List Request) (r : Request) (o : Option Id) → AllByRecursion P kept → P r → AllByRecursion P (kept_with kept r o)
 kept_all P kept r None all h = all
-kept_all P kept r (Some id) all h = elim (either (is_below kept id || list_any (has_id id) kept)) [
-  | inl t ↦ rw t all
-  | inr f ↦ rw f (pushed kept all)
-] where
-  pushed : (xs : List Request) → AllByRecursion P xs → AllByRecursion P (xs ++ r ∷ [])
-  pushed [] a = (h, tt)
-  pushed (x ∷ xs) a = (a.0, pushed xs a.1)
-
-kept_steps : (P : Request → Type 0) (kept A : List Request) → AllByRecursion P kept → AllByRecursion P A → AllByRecursion P (fold step kept A)
-kept_steps P kept [] all h = all
-kept_steps P kept (r ∷ A) all h = kept_steps P (step kept r) A (kept_all P kept r (id_of r) all h.0) h.1
+kept_all P kept r (Some id) all h = elim (either (is_below kept id || list_any (has_id id) kept)) [ inl t ↦ rw t all | inr f ↦ rw f (all_push P kept r all h) ]
 
 pub first_all : (P : Request → Type 0) (A : List Request) → AllByRecursion P A → AllByRecursion P (first A)
-first_all P A h = kept_steps P [] A tt h
+first_all P A = by_pushes (λ A. AllByRecursion P A → AllByRecursion P (first A)) (λ _. tt) (λ A r before all. (let was = all_split P A r all in
+    subst (AllByRecursion P) (sym (first_push A r)) (kept_all P (first A) r (id_of r) (before was.0) was.1))) A
 
 -- Histories that are built.
 
@@ -161,7 +133,7 @@ below_later A (r ∷ B) id h =
 pub not_below_before : (A B : List Request) (id : Id) → is_below (first (A ++ B)) id ≡ false → is_below (first A) id ≡ false
 not_below_before A B id h = elim (either (is_below (first A) id)) [
   | inr f ↦ f
-  | inl t ↦ absurd (let clash : true ≡ false = sym (below_later A B id t) ∙ h in cc)
+  | inl t ↦ absurd (clash (is_below (first (A ++ B)) id) (below_later A B id t) h)
 ]
 
 below_of : (day : ℕ → ℕ) (default : ℕ) (A : List Request) (id : Id) (b : Bool) → is_below (first A) id ≡ b → is_below (requests (history_of day default A)) id ≡ b

@@ -1,20 +1,9 @@
 -- The first day with more used is the least of all days.
-use Rattle.std.proofs.Common.{◌≡◌, ℕ, ◌+◌, false, ◌<◌, ◌≤◌, List, [], ◌∷◌, ◌++◌, append-nil, true, Some, None, Option, refl, ◌∙◌, ap, sym, subst, inl, inr, arith}
-use Rattle.std.specs.Prelude.{nat_lt, nat_le, Bool, filter, ◌&&◌, ◌==◌, ◌⊎◌, if◌then◌else◌}
-use Rattle.std.proofs.lemmas.Bool.Decides.{nat_tests}
-use Rattle.std.proofs.lemmas.List.Elements.{filter_map-append}
-use Rattle.mq_lemmas.proofs.Booleans.{either, first_so, second_so}
-use Rattle.mq_lemmas.proofs.Options.{option_cases, some_none, some_is}
-use Rattle.mq_lemmas.proofs.Numbers.{le_or_lt, zero_or_more, number_is}
-use Rattle.mq_lemmas.proofs.Lists.{In, in_filter}
-use Rattle.mq_request.specs.declared.message.Request.{Request}
-use Rattle.mq_request.specs.declared.message.Request.TheVariants.{Reserve, Settle}
-use Rattle.mq_request.specs.declared.message.Reply.{Reply}
-use Rattle.mq_request.specs.declared.message.Reply.TheVariants.{Granted, Settled}
-use Rattle.mq_request.specs.Same.{same_text}
-use Rattle.mq_ledger.specs.declared.entry.Entry.{Entry}
-use Rattle.mq_ledger.specs.History.{concerns, granted, counted, is_open, is_abandoned, reserved_of, settled_of, reserved, used}
-use Rattle.mq_ledger.specs.Over.{day_from, days_from, lesser, least, over, IsLeastOver}
+use Rattle.mq_ledger.proofs.Words.{Bool, Entry, Granted, In, List, None, Option, Reply, Request, Reserve, Settle, Settled, Some, [], ap, append-nil, arith, concerns, counted, day_from, days_from, either, filter, filter_map-append, first_so, granted, if◌then◌else◌, in_filter, inl, inr, is_abandoned}
+use Rattle.mq_ledger.proofs.Words.{is_open, le_or_lt, least, lesser, nat_le, nat_lt, nat_tests, none_some, number_is, option_cases, over, refl, reserved, reserved_of, same_text, second_so, settled_of, some_is, some_none, subst, sym, true, used, zero_or_more, ℕ, ◌&&◌, ◌++◌, ◌+◌, ◌<◌, ◌==◌, ◌∙◌, ◌∷◌}
+use Rattle.mq_ledger.proofs.Words.{◌≡◌, ◌≤◌, ◌⊎◌}
+use Rattle.mq_lemmas.proofs.Numbers.{le_of}
+use Rattle.mq_ledger.specs.Over.{IsLeastOver}
 use Rattle.mq_ledger.proofs.Basics.{filter_in, in_filter_map, filter_map_in, some_part}
 
 -- The least of a list.
@@ -42,7 +31,7 @@ least_le (x ∷ ns) m h n (inr i) = elim (option_cases (least ns)) [
 ]
 
 pub least_in : (ns : List ℕ) (m : ℕ) → least ns ≡ Some m → In m ns
-least_in [] m h = absurd (some_none m (sym h))
+least_in [] m h = absurd (none_some m h)
 least_in (x ∷ ns) m h = elim (option_cases (least ns)) [
   | inl none ↦ (let s : x ≡ m = rw none at (some_is _ _ h) in inl s)
   | inr p ↦ (let s : lesser x (Some p.0) ≡ m = rw p.1 at (some_is _ _ h) in elim (lesser_is x p.0) [
@@ -76,8 +65,7 @@ of_reserved day H l from d e le some = elim (either (concerns day l d e.request 
 ]
 
 at_most_if : (b : Bool) (n : ℕ) → (if b then n else 0) ≤ n
-at_most_if true n = omega arith
-at_most_if false n = omega arith
+at_most_if b n = grind arith
 
 of_settled : (day : ℕ → ℕ) (H : List Entry) (l : List ℕ) (from d : ℕ) (e : Entry) → from ≤ d → 0 < settled_of day H l d e → day_from day l from e.request e.reply ≡ Some d
 of_settled day H l from d e le some = elim (either (concerns day l d e.request)) [
@@ -99,19 +87,18 @@ used_among day H l from d le some = elim (zero_or_more (reserved day H l d)) [
       in_filter_map (λ e. day_from day l from e.request e.reply) H p.at d p.among (of_settled day H l from d p.at le p.some))
 ]
 
-day_from_le : (day : ℕ → ℕ) (l login : List ℕ) (from d moment : ℕ) → (if same_text l login && nat_le from (day moment) then Some (day moment) else None) ≡ Some d → from ≤ d
-day_from_le day l login from d moment h = elim (either (same_text l login && nat_le from (day moment))) [
-  | inl t ↦ (let le = second_so (same_text l login) (nat_le from (day moment)) t in
-      let e : Some (day moment) ≡ Some d = rw t at h in
+pub day_given : (day : ℕ → ℕ) (l login : List ℕ) (from d moment : ℕ) → (if same_text l login && nat_le from (day moment) then Some (day moment) else None) ≡ Some d → (from ≤ d) × (day moment ≡ d)
+day_given day l login from d moment h = elim (either (same_text l login && nat_le from (day moment))) [
+  | inl t ↦ (let e : Some (day moment) ≡ Some d = rw t at h in
       let s = some_is _ _ e in
-      grind (arith, nat_tests))
-  | inr f ↦ (let e : None ≡ Some d = rw f at h in absurd (some_none d (sym e)))
+      (omega (arith, s, le_of from (day moment) (second_so (same_text l login) (nat_le from (day moment)) t)), s))
+  | inr f ↦ (let e : None ≡ Some d = rw f at h in absurd (none_some d e))
 ]
 
 of_day : (day : ℕ → ℕ) (l : List ℕ) (from d : ℕ) (r : Request) (a : Reply) → day_from day l from r a ≡ Some d → from ≤ d
-of_day day l from d (Reserve id txn moment login count) (Granted id' n) h = day_from_le day l login from d moment h
-of_day day l from d (Settle id txn moment login count) (Settled id' n) h = day_from_le day l login from d moment h
-of_day day l from d r a h = absurd (some_none d (sym h))
+of_day day l from d (Reserve id txn moment login count) (Granted id' n) h = (day_given day l login from d moment h).0
+of_day day l from d (Settle id txn moment login count) (Settled id' n) h = (day_given day l login from d moment h).0
+of_day day l from d r a h = absurd (none_some d h)
 
 -- the login's days from a day on are not before it
 pub days_after : (day : ℕ → ℕ) (H : List Entry) (l : List ℕ) (from d : ℕ) → In d (days_from day H l from) → from ≤ d
@@ -132,8 +119,8 @@ over_least day H l from c None h = λ d le. elim (le_or_lt (used day H l d) c) [
 ]
 over_least day H l from c (Some d) h =
     let kept = filter_in (λ d. nat_lt c (used day H l d)) (days_from day H l from) d (least_in _ d h) in
-    let more : nat_lt c (used day H l d) ≡ true = kept.passes in (
-      days_after day H l from d kept.among,
+    let more : nat_lt c (used day H l d) ≡ true = kept.1 in (
+      days_after day H l from d kept.0,
       grind (arith, nat_tests, more),
       λ e le before. elim (le_or_lt (used day H l e) c) [
         | inl ok ↦ ok

@@ -1,36 +1,27 @@
 -- A page is the first hundred logins, and nothing else is.
-use Rattle.std.proofs.Common.{◌≡◌, ℕ, zero, suc, ◌≤◌, List, [], ◌∷◌, ◌++◌, length, length-append, take, Bool, true, Some, None, Option, refl, ◌∙◌, ap, sym, subst, inl, inr, arith}
-use Rattle.std.specs.Prelude.{◌⊎◌, Contains}
-use Rattle.std.specs.List.{AllByRecursion, list_any}
+use Rattle.mq_ledger.proofs.Words.{All, All-from_recursion, AllByRecursion, Bool, Contains, Entry, In, IsAscending, List, None, Option, Some, [], all_at, all_of, all_push, ap, arith, below, clash, find, has_reserve, inl, inr, is_login, is_some, length, length-append, login_on, logins_above}
+use Rattle.mq_ledger.proofs.Words.{logins_on, option_cases, page, recursion_from_All, refl, subst, suc, sym, take, text_is, text_itself, true, zero, ℕ, ◌++◌, ◌∙◌, ◌∷◌, ◌≡◌, ◌≤◌, ◌⊎◌}
 use Rattle.std.proofs.lemmas.List.{length-take}
-use Rattle.std.proofs.lemmas.List.Elements.{recursion_from_All, All-from_recursion}
-use Rattle.mq_lemmas.proofs.Booleans.{either}
-use Rattle.mq_lemmas.proofs.Lists.{In, all_of, all_at, all_push}
-use Rattle.mq_request.proofs.Alike.{text_is, text_itself}
-use Rattle.mq_ledger.specs.declared.entry.Entry.{Entry}
-use Rattle.mq_ledger.specs.Page.{below, login_on, logins_on, logins_above, page, IsAscending, is_login, has_reserve, IsLoginPage}
-use Rattle.mq_ledger.proofs.Basics.{in_filter_map, filter_map_in}
+use Rattle.std.proofs.lemmas.List.Elements.{All-contains, All-contains_itself, All-take}
+use Rattle.mq_ledger.specs.Page.{IsLoginPage}
+use Rattle.mq_ledger.proofs.Basics.{in_filter_map, filter_map_in, found, any_found, any_in}
 use Rattle.mq_ledger.proofs.Pages.{below_trans, not_below_itself, same_ascending, above_ascending, IsAbove, above_in, in_above}
 
 -- Members by place.
 
+all_in : (ls : List (List ℕ)) → All (λ m. In m ls) ls
+all_in ls = All-from_recursion (λ m. In m ls) ls (all_of (λ m. In m ls) ls (λ m i. i))
+
 contains_in : (ls : List (List ℕ)) (l : List ℕ) → Contains ls l → In l ls
-contains_in [] l (k, lt, is) = absurd (omega arith)
-contains_in (x ∷ ls) l (zero, lt, is) = inl is
-contains_in (x ∷ ls) l (suc k, lt, is) = inr (contains_in ls l (k, omega arith, is))
+contains_in ls l there = All-contains (λ m. In m ls) ls l (all_in ls) there
 
 in_contains : (ls : List (List ℕ)) (l : List ℕ) → In l ls → Contains ls l
-in_contains [] l i = absurd i
-in_contains (x ∷ ls) l (inl e) = (0, omega arith, e)
-in_contains (x ∷ ls) l (inr i) = (let c = in_contains ls l i in (suc c.0, omega (arith, c.1), c.2))
+in_contains ls l i = all_at (Contains ls) ls l (recursion_from_All (Contains ls) ls (All-contains_itself ls)) i
 
 -- The front of ascending logins.
 
 in_take : (n : ℕ) (ls : List (List ℕ)) (l : List ℕ) → In l (take n ls) → In l ls
-in_take zero ls l i = absurd i
-in_take (suc n) [] l i = i
-in_take (suc n) (x ∷ ls) l (inl e) = inl e
-in_take (suc n) (x ∷ ls) l (inr i) = inr (in_take n ls l i)
+in_take n ls l i = all_at (λ m. In m ls) (take n ls) l (recursion_from_All (λ m. In m ls) (take n ls) (All-take (λ m. In m ls) n ls (all_in ls))) i
 
 take_ascending : (n : ℕ) (ls : List (List ℕ)) → IsAscending ls → IsAscending (take n ls)
 take_ascending zero ls up = tt
@@ -57,32 +48,18 @@ is_login_so : (l : List ℕ) (o : Option (List ℕ)) → is_login l o ≡ true �
 is_login_so l None h = cc
 is_login_so l (Some m) h = ap Some (sym (text_is l m h))
 
-record Found {X : Type 0} (p : X → Bool) (xs : List X) : Type 0 where
-  at : X
-  among : In at xs
-  passes : p at ≡ true
-
-any_found : {X : Type 0} (p : X → Bool) (xs : List X) → list_any p xs ≡ true → Found p xs
-any_found p [] h = cc
-any_found p (x ∷ xs) h = elim (either (p x)) [
-  | inl t ↦ record { at = x; among = inl refl; passes = t }
-  | inr f ↦ (let r = any_found p xs (rw f at h) in record { at = r.at; among = inr r.among; passes = r.passes })
-]
-
-found_any : {X : Type 0} (p : X → Bool) (xs : List X) (x : X) → In x xs → p x ≡ true → list_any p xs ≡ true
-found_any p [] x i h = absurd i
-found_any p (y ∷ xs) x (inl e) h = (let t : p y ≡ true = ap p e ∙ h in rw t refl)
-found_any p (y ∷ xs) x (inr i) h = elim (either (p y)) [ inl t ↦ rw t refl | inr f ↦ rw f (found_any p xs x i h) ]
-
 pub reserve_in : (day : ℕ → ℕ) (H : List Entry) (d : ℕ) (l : List ℕ) → has_reserve day H d l ≡ true → In l (logins_on day H d)
 reserve_in day H d l h =
-    let f = any_found (λ (e : Entry). is_login l (login_on day d e.request e.reply)) H h in
-    in_filter_map (λ e. login_on day d e.request e.reply) H f.at l f.among (is_login_so l (login_on day d f.at.request f.at.reply) f.passes)
+    let p : Entry → Bool = λ e. is_login l (login_on day d e.request e.reply) in
+    elim (option_cases (find p H)) [
+      | inl none ↦ absurd (clash (has_reserve day H d l) h (any_found p H ∙ ap is_some none))
+      | inr e ↦ (let f = found p H e.0 e.1 in in_filter_map (λ e. login_on day d e.request e.reply) H e.0 l f.0 (is_login_so l (login_on day d e.0.request e.0.reply) f.1))
+    ]
 
 in_reserve : (day : ℕ → ℕ) (H : List Entry) (d : ℕ) (l : List ℕ) → In l (logins_on day H d) → has_reserve day H d l ≡ true
 in_reserve day H d l i =
     let m = filter_map_in (λ (e : Entry). login_on day d e.request e.reply) H l i in
-    found_any (λ e. is_login l (login_on day d e.request e.reply)) H m.source m.among (ap (is_login l) m.gives ∙ text_itself l)
+    any_in (λ e. is_login l (login_on day d e.request e.reply)) H m.source m.among (ap (is_login l) m.gives ∙ text_itself l)
 
 -- The page.
 
@@ -134,12 +111,6 @@ part_le (x ∷ xs) (z ∷ zs) up up' h =
     before_first w e i (inl same) = not_below_itself x (let P : List ℕ → Type 0 = λ v. below v x ≡ true in subst P (sym same) (let Q : List ℕ → Type 0 = λ v. below z v ≡ true in subst Q (sym e) (all_at (λ m. below z m ≡ true) zs w up'.0 i)))
     before_first w e i (inr j) = not_below_itself x (below_trans x z x (all_at (λ m. below x m ≡ true) xs z up.0 j) (let Q : List ℕ → Type 0 = λ v. below z v ≡ true in subst Q (sym e) (all_at (λ m. below z m ≡ true) zs w up'.0 i)))
 
-in_push : (ms : List (List ℕ)) (l x : List ℕ) → In x (ms ++ l ∷ []) → In x ms ⊎ (l ≡ x)
-in_push [] l x (inl e) = inr e
-in_push [] l x (inr i) = absurd i
-in_push (m ∷ ms) l x (inl e) = inl (inl e)
-in_push (m ∷ ms) l x (inr i) = elim (in_push ms l x i) [ inl j ↦ inl (inr j) | inr e ↦ inr e ]
-
 push_ascending : (ms : List (List ℕ)) (l : List ℕ) → IsAscending ms → AllByRecursion (λ m. below m l ≡ true) ms → IsAscending (ms ++ l ∷ [])
 push_ascending [] l up all = (tt, tt)
 push_ascending (m ∷ ms) l up all = (all_push (λ x. below m x ≡ true) ms l up.0 all.0, push_ascending ms l up.1 all.1)
@@ -159,10 +130,7 @@ page_part day H d after xs ys p q x i =
                 (all_at (λ m. below m y ≡ true) xs x (recursion_from_All (λ m. below m y ≡ true) xs full'.1) i)
                 (all_at (λ m. below m x ≡ true) ys y behind j)))
           ] in
-          let more : length (ys ++ x ∷ []) ≤ length xs = part_le xs (ys ++ x ∷ []) p.ascending (push_ascending ys x q.ascending behind) (λ z k. elim (in_push ys x z k) [
-            | inl j ↦ among z j
-            | inr e ↦ (let P : List ℕ → Type 0 = λ w. In w xs in subst P e i)
-          ]) in
+          let more : length (ys ++ x ∷ []) ≤ length xs = part_le xs (ys ++ x ∷ []) p.ascending (push_ascending ys x q.ascending behind) (λ z k. all_at (λ w. In w xs) (ys ++ x ∷ []) z (all_push (λ w. In w xs) ys x (all_of (λ w. In w xs) ys among) i) k) in
           absurd (omega (arith, more, length-append ys (x ∷ []), p.few, full.0)))
     ]
 

@@ -1,21 +1,13 @@
 -- The logins of a day in byte order, and their pages.
-use Rattle.std.proofs.Common.{◌≡◌, ℕ, zero, suc, ◌+◌, ◌-◌, ◌<◌, List, [], ◌∷◌, ◌++◌, take, true, false, Some, None, Option, refl, ◌∙◌, ap, sym, subst, inl, inr, arith, append_assoc, append-nil}
-use Rattle.std.specs.Prelude.{map, fold, filter, ◌⊎◌, if◌then◌else◌, slice_get}
-use Rattle.std.specs.List.{AllByRecursion}
+use Rattle.mq_ledger.proofs.Words.{AllByRecursion, Entry, In, IsAscending, List, None, Option, Some, UsageRow, [], all_at, all_of, ap, append-nil, append_assoc, arith, below, either, false, filter, filter-append, filter_map-append, fold, fold_push, if◌then◌else◌, in_filter, inl, inr, login_on}
+use Rattle.mq_ledger.proofs.Words.{logins_above, logins_on, map, nearer, page, refl, slice_get, some_is, some_none, subst, suc, sym, take, true, zero, ℕ, ◌++◌, ◌+◌, ◌-◌, ◌<◌, ◌∙◌, ◌∷◌, ◌≡◌, ◌⊎◌}
 use Rattle.std.specs.Ordering.{nat_cmp, is_lt, eq_by_cmp, ordering_reverse}
 use Rattle.std.specs.Cmp.{IsTotalOrder}
 use Rattle.std.specs.Cmp.Lexicographic.{slice_cmp, texts_ties, bytes_decides}
 use Rattle.std.specs.declared.cmp.Ordering.{Ordering}
 use Rattle.std.specs.declared.cmp.Ordering.TheVariants.{Less, Equal, Greater}
 use Rattle.std.proofs.lemmas.Cmp.{nat_list_cmp_total}
-use Rattle.std.proofs.lemmas.List.Elements.{filter-append, filter_map-append}
-use Rattle.std.proofs.lemmas.List.Sums.{fold_push}
-use Rattle.mq_lemmas.proofs.Booleans.{either}
-use Rattle.mq_lemmas.proofs.Options.{some_none, some_is}
-use Rattle.mq_lemmas.proofs.Lists.{In, all_of, all_at, in_filter}
-use Rattle.mq_request.specs.declared.usage.UsageRow.{UsageRow}
-use Rattle.mq_ledger.specs.declared.entry.Entry.{Entry}
-use Rattle.mq_ledger.specs.Page.{below, login_on, logins_on, put, nearer, ascending, logins_above, page, IsAscending}
+use Rattle.mq_ledger.specs.Page.{put, ascending}
 use Rattle.mq_ledger.proofs.Basics.{filter_in}
 
 -- Byte order.
@@ -182,7 +174,7 @@ pub in_above : (day : ℕ → ℕ) (H : List Entry) (d : ℕ) (after l : List �
 unfolding logins_above
 in_above day H d after l i = elim (fold_adds [] (filter (below after) (logins_on day H d)) l i) [
   | inl none ↦ absurd none
-  | inr j ↦ (let k = filter_in (below after) (logins_on day H d) l j in record { above = k.passes; there = k.among })
+  | inr j ↦ (let k = filter_in (below after) (logins_on day H d) l j in record { above = k.1; there = k.0 })
 ]
 
 -- after the first of them stand those above it

@@ -1,16 +1,12 @@
 -- What a rule's text says is what `jiff` finds in the zone that it reads from it.
-use Rattle.std.proofs.Common.{◌≡◌, ◌∙◌, ℕ, ℤ, List, Bool, true, false, Option, Some, None, refl, sym, ap}
-use Rattle.std.specs.Prelude.{option_map, if◌then◌else◌}
+use Rattle.mq_ledger.proofs.Words.{Bool, IsPosixZone, List, None, Option, Some, TimeZone, ahead, ap, false, if◌then◌else◌, in_window, offset_at, refl, sym, true, window_in, year_of_nanos, ℕ, ℤ, ◌∙◌, ◌≡◌}
+use Rattle.std.specs.Prelude.{option_map}
 use Rattle.jiff_core.specs.declared.Offset.{Offset}
 use Rattle.jiff_tz.specs.declared.posix.Dst.{Dst}
-use Rattle.jiff_tz.specs.declared.timezone.TimeZone.{TimeZone}
 use Rattle.jiff_tz.specs.declared.timezone.TimeZone.TheVariants.{UTC, Unknown, Fixed, Posix, Tzif}
-use Rattle.jiff_tz.specs.PosixRule.{match_some, rule_nanos, utc_window, in_window, dst_at_by}
+use Rattle.jiff_tz.specs.PosixRule.{match_some, rule_nanos, utc_window, dst_at_by}
 use Rattle.jiff_tz.specs.PosixText.{dst_view}
-use Rattle.jiff_tz.specs.Year.{year_of_nanos}
-use Rattle.jiff_tz.specs.Zone.{offset_at}
-use Rattle.jiff.specs.Placed.{IsPosixZone}
-use Rattle.mq_ledger.specs.Rule.{window_in, ahead_with, ahead_by, ahead}
+use Rattle.mq_ledger.specs.Rule.{ahead_with, ahead_by}
 
 chosen : (b : Bool) (std : Offset) (d : Dst) → (match_some (if b then Some d else None) std (λ x. x.offset)).seconds ≡ (if b then d.offset.seconds else std.seconds)
 chosen true std d = refl

@@ -1,26 +1,8 @@
 -- What one more entry does to the transactions of a history.
-use Rattle.std.proofs.Common.{◌≡◌, ℕ, ◌+◌, ◌<◌, ◌≤◌, List, [], ◌∷◌, ◌++◌, true, false, refl, ◌∙◌, ap, sym, subst, inl, inr, arith}
-use Rattle.std.specs.Prelude.{if◌then◌else◌, sum_by, ◌&&◌, ◌||◌, ◌==◌, not, nat_lt, Bool, Some, None}
-use Rattle.std.specs.Option.{option_or}
-use Rattle.std.specs.List.{AllByRecursion}
-use Rattle.std.proofs.lemmas.Bool.Decides.{nat_tests}
-use Rattle.std.proofs.lemmas.List.{map-append}
-use Rattle.std.proofs.lemmas.List.Folds.{list_any-append, find-append}
-use Rattle.std.proofs.lemmas.List.Sums.{fold_push}
-use Rattle.mq_lemmas.proofs.Booleans.{or_second, either, first_so, second_so, both_so}
-use Rattle.mq_lemmas.proofs.Options.{option_cases}
-use Rattle.mq_lemmas.proofs.Numbers.{zero_or_more, number_is, number_itself}
-use Rattle.mq_lemmas.proofs.Lists.{all_push}
-use Rattle.mq_request.specs.declared.message.Request.{Request}
-use Rattle.mq_request.specs.declared.message.Request.TheVariants.{Reserve, Settle, Release, Limit, Usage, List as ListRequest, Retire}
-use Rattle.mq_request.specs.declared.message.Reply.{Reply}
-use Rattle.mq_request.specs.declared.message.Reply.TheVariants.{Granted, Settled}
-use Rattle.mq_request.specs.Same.{same_text}
-use Rattle.mq_request.proofs.Alike.{text_is, text_itself}
-use Rattle.mq_ledger.specs.declared.entry.Entry.{Entry}
-use Rattle.mq_ledger.specs.Arrivals.{raised, greater, floor}
-use Rattle.mq_ledger.specs.History.{requests, Transaction, transaction, same_transaction, is_of, is_at, closes, ended, has_retired_run, retires, closed, named, agrees, granted, granted_in, counted, concerns, reserved_of, settled_of, used}
-use Rattle.mq_ledger.proofs.Basics.{always, sums_le, two_sums_le, two_sums_are}
+use Rattle.mq_ledger.proofs.Words.{AllByRecursion, Bool, Entry, Granted, List, None, Release, Reply, Request, Reserve, Retire, Settle, Settled, Some, Transaction, [], agrees, all_at, all_push, ap, arith, both_so, closed, closes, concerns, counted, either, ended, false, find-append, first_so, floor}
+use Rattle.mq_ledger.proofs.Words.{fold_push, granted, granted_in, greater, has_retired_run, if◌then◌else◌, inl, inr, is_at, is_of, list_any-append, map-append, named, nat_lt, nat_tests, not, number_is, number_itself, option_cases, option_or, or_second, raised, refl, requests, reserved_of, retires}
+use Rattle.mq_ledger.proofs.Words.{same_text, same_transaction, second_so, settled_of, sum_by, sum_by-le-sum_by, sym, text_is, text_itself, transaction, true, used, zero_or_more, ℕ, ◌&&◌, ◌++◌, ◌+◌, ◌<◌, ◌==◌, ◌||◌, ◌∙◌, ◌∷◌, ◌≡◌, ◌≤◌}
+use Rattle.mq_ledger.proofs.Basics.{two_sums_le, two_sums_are}
 
 abbrev pub entry : Request → Reply → Entry
 entry r a = record { request = r; reply = a }
@@ -59,17 +41,11 @@ under_none : (m : ℕ) → nat_lt m 0 ≡ false
 under_none m = grind (arith, nat_tests)
 
 under_if : (b : Bool) (m n : ℕ) → nat_lt m (if b then n else 0) ≡ (b && nat_lt m n)
-under_if true m n = refl
-under_if false m n = under_none m
+under_if b m n = grind (arith, nat_tests)
 
 under_raised : (t : Transaction) (r : Request) → nat_lt t.run (raised t.host r) ≡ retires r t
 under_raised t (Retire id) = under_if (same_text t.host id.host) t.run id.run
-under_raised t (Reserve id txn moment login count) = under_none t.run
-under_raised t (Settle id txn moment login count) = under_none t.run
-under_raised t (Release id txn moment login) = under_none t.run
-under_raised t (Limit id from c login) = under_none t.run
-under_raised t (Usage login d) = under_none t.run
-under_raised t (ListRequest d after) = under_none t.run
+under_raised t r = under_none t.run
 
 pub has_retired_run_push : (H : List Entry) (e : Entry) (t : Transaction) → has_retired_run (H ++ e ∷ []) t ≡ (retires e.request t || has_retired_run H t)
 has_retired_run_push H e t =
@@ -79,9 +55,7 @@ has_retired_run_push H e t =
     ∙ ap (λ b. b || has_retired_run H t) (under_raised t e.request)
 
 regroup : (p g n c : Bool) → ((p || g) || (n || c)) ≡ (p || ((g || n) || c))
-regroup true g n c = refl
-regroup false true n c = refl
-regroup false false n c = refl
+regroup p g n c = grind arith
 
 pub closed_push : (H : List Entry) (e : Entry) (t : Transaction) → closed (H ++ e ∷ []) t ≡ (retires e.request t || (closed H t || (is_of t e.request && closes e.reply)))
 closed_push H e t = rw (has_retired_run_push H e t, ended_push H e t) (regroup (retires e.request t) (has_retired_run H t) (ended H t) (is_of t e.request && closes e.reply))
@@ -110,38 +84,23 @@ abbrev pub counted_on : (ℕ → ℕ) → List Entry → List ℕ → ℕ → �
 counted_on day H l d = sum_by (counted_for day l d) H
 
 split : (c g n : Bool) (a k : ℕ) → (if c && not (g || n) then a else 0) + (if c then k + (if g && not n then a else 0) else 0) ≡ (if c && not n then a else 0) + (if c then k else 0)
-split false g n a k = refl
-split true true true a k = omega arith
-split true true false a k = omega arith
-split true false true a k = omega arith
-split true false false a k = omega arith
+split c g n a k = grind arith
 
 used_by : (day : ℕ → ℕ) (H : List Entry) (l : List ℕ) (d : ℕ) (r : Request) (a : Reply) → reserved_of day H l d (entry r a) + settled_of day H l d (entry r a) ≡ unended_of day H l d (entry r a) + counted_for day l d (entry r a)
 used_by day H l d (Reserve id txn moment login count) a =
     let t : Transaction = transaction id txn in
     split (same_text l login && (day moment == d)) (has_retired_run H t) (ended H t) (granted (Reserve id txn moment login count) a) (counted (Reserve id txn moment login count) a)
 used_by day H l d (Settle id txn moment login count) a = split (same_text l login && (day moment == d)) false true (granted (Settle id txn moment login count) a) (counted (Settle id txn moment login count) a)
-used_by day H l d (Release id txn moment login) a = refl
-used_by day H l d (Limit id from c login) a = refl
-used_by day H l d (Usage login d') a = refl
-used_by day H l d (ListRequest d' after) a = refl
-used_by day H l d (Retire id) a = refl
+used_by day H l d r a = refl
 
 pub used_is : (day : ℕ → ℕ) (H : List Entry) (l : List ℕ) (d : ℕ) → used day H l d ≡ unended day H l d + counted_on day H l d
 used_is day H l d =
-    let each : (x : Entry) → Unit {0} → reserved_of day H l d x + settled_of day H l d x ≡ unended_of day H l d x + counted_for day l d x = λ x _. used_by day H l d x.request x.reply in
-    let left = two_sums_are (λ _. Unit {0}) (reserved_of day H l d) (settled_of day H l d) (λ x. unended_of day H l d x + counted_for day l d x) each H (always H) in
-    let right = two_sums_are (λ _. Unit {0}) (unended_of day H l d) (counted_for day l d) (λ x. unended_of day H l d x + counted_for day l d x) (λ x _. refl) H (always H) in
-    left ∙ sym right
+    two_sums_are (reserved_of day H l d) (settled_of day H l d) (λ x. unended_of day H l d x + counted_for day l d x) H (λ x _. used_by day H l d x.request x.reply)
+    ∙ sym (two_sums_are (unended_of day H l d) (counted_for day l d) (λ x. unended_of day H l d x + counted_for day l d x) H (λ x _. refl))
 
 unended_before : (H : List Entry) (e : Entry) (r : Request) → is_unended (H ++ e ∷ []) r ≡ true → is_unended H r ≡ true
 unended_before H e (Reserve id txn moment login count) h = grind (arith, ended_push H e (transaction id txn))
-unended_before H e (Settle id txn moment login count) h = h
-unended_before H e (Release id txn moment login) h = h
-unended_before H e (Limit id from_day c login) h = h
-unended_before H e (Usage login d) h = h
-unended_before H e (ListRequest d after) h = h
-unended_before H e (Retire id) h = h
+unended_before H e r h = h
 
 -- an entry more never leaves more of what stood before
 unended_of_falls : (day : ℕ → ℕ) (H : List Entry) (e : Entry) (l : List ℕ) (d : ℕ) (x : Entry) → unended_of day (H ++ e ∷ []) l d x ≤ unended_of day H l d x
@@ -152,7 +111,7 @@ unended_of_falls day H e l d x =
     ]
 
 pub unended_falls : (day : ℕ → ℕ) (H : List Entry) (e : Entry) (l : List ℕ) (d : ℕ) → sum_by (unended_of day (H ++ e ∷ []) l d) H ≤ unended day H l d
-unended_falls day H e l d = sums_le (λ _. Unit {0}) (unended_of day (H ++ e ∷ []) l d) (unended_of day H l d) (λ x _. unended_of_falls day H e l d x) H (always H)
+unended_falls day H e l d = sum_by-le-sum_by (unended_of day (H ++ e ∷ []) l d) (unended_of day H l d) H (unended_of_falls day H e l d)
 
 -- Each granted reserve and each settled settle has its transaction's login and moment.
 
@@ -176,10 +135,7 @@ pub one_place : (a b : ℕ) (l m : List ℕ) (r : Request) → is_at a l r ≡ t
 one_place a b l m (Reserve id txn moment login count) h g = both_at a b moment l m login h g
 one_place a b l m (Settle id txn moment login count) h g = both_at a b moment l m login h g
 one_place a b l m (Release id txn moment login) h g = both_at a b moment l m login h g
-one_place a b l m (Limit id from c login) h g = cc
-one_place a b l m (Usage login d) h g = cc
-one_place a b l m (ListRequest d after) h g = cc
-one_place a b l m (Retire id) h g = cc
+one_place a b l m r h g = cc
 
 -- what a granted reserve and a settled settle were checked for
 abbrev pub IsAgreed : List Entry → Request → Reply → Type 0
@@ -189,9 +145,7 @@ IsAgreed H _ _ = Unit {0}
 
 new_is_uniform_at : (H : List Entry) (t u : Transaction) (moment moment' : ℕ) (login login' : List ℕ) (x : Entry) → named H t ≡ Some x → is_at moment login x.request ≡ true → agrees moment' login' (named H u) ≡ true → same_transaction t u ≡ true → ((moment == moment') && same_text login login') ≡ true
 new_is_uniform_at H t u moment moment' login login' x naming here agreed mine =
-    let same : t ≡ u = transaction_is t u mine in
-    let P : Transaction → Type 0 = λ u. named H u ≡ Some x in
-    let here' : is_at moment' login' x.request ≡ true = rw (subst P same naming) at agreed in
+    let here' : is_at moment' login' x.request ≡ true = rw (ap (named H) (sym (transaction_is t u mine)) ∙ naming) at agreed in
     let p = one_place moment moment' login login' x.request here here' in
     both_so (moment == moment') (same_text login login') (rw (← p.0) (number_itself moment)) (rw (← p.1) (text_itself login))
 
@@ -217,19 +171,12 @@ record Goes (day : ℕ → ℕ) (H : List Entry) (e : Entry) (moment : ℕ) (log
   before : is_unended H r ≡ true
   after : is_unended (H ++ e ∷ []) r ≡ false
 
-ended_now : (H : List Entry) (e : Entry) (t u : Transaction) → t ≡ u → is_of t e.request ≡ true → closes e.reply ≡ true → not (ended (H ++ e ∷ []) u) ≡ false
-ended_now H e t u same mine closing = let P : Transaction → Type 0 = λ v. not (ended (H ++ e ∷ []) v) ≡ false in subst P same (grind (arith, ended_push H e t, mine, closing))
+-- of the transaction that a request is of
+pub at_its : (p : Transaction → Bool) (t u : Transaction) (b : Bool) → same_transaction t u ≡ true → p t ≡ b → p u ≡ b
+at_its p t u b mine h = ap p (sym (transaction_is t u mine)) ∙ h
 
-unended_then : (H : List Entry) (t u : Transaction) → t ≡ u → ended H t ≡ false → not (ended H u) ≡ true
-unended_then H t u same f = let P : Transaction → Type 0 = λ v. not (ended H v) ≡ true in subst P same (ap not f)
-
-pub closed_now : (H : List Entry) (e : Entry) (t u : Transaction) → t ≡ u → is_of t e.request ≡ true → closes e.reply ≡ true → not (closed (H ++ e ∷ []) u) ≡ false
-closed_now H e t u same mine closing =
-    let shut : closed (H ++ e ∷ []) t ≡ true = or_second (has_retired_run (H ++ e ∷ []) t) (ended (H ++ e ∷ []) t) (ended_push H e t ∙ or_second (ended H t) (is_of t e.request && closes e.reply) (both_so (is_of t e.request) (closes e.reply) mine closing)) in
-    let P : Transaction → Type 0 = λ v. not (closed (H ++ e ∷ []) v) ≡ false in subst P same (ap not shut)
-
-pub open_then : (H : List Entry) (t u : Transaction) → t ≡ u → closed H t ≡ false → not (closed H u) ≡ true
-open_then H t u same f = let P : Transaction → Type 0 = λ v. not (closed H v) ≡ true in subst P same (ap not f)
+pub ended_now : (H : List Entry) (e : Entry) (t : Transaction) → is_of t e.request ≡ true → closes e.reply ≡ true → ended (H ++ e ∷ []) t ≡ true
+ended_now H e t mine closing = ended_push H e t ∙ or_second (ended H t) (is_of t e.request && closes e.reply) (both_so (is_of t e.request) (closes e.reply) mine closing)
 
 same_day : (day : ℕ → ℕ) (a b : ℕ) → (a == b) ≡ true → (day b == day a) ≡ true
 same_day day a b h = let e = number_is a b h in rw e (number_itself (day b))
@@ -237,8 +184,8 @@ same_day day a b h = let e = number_is a b h in rw e (number_itself (day b))
 goes : (day : ℕ → ℕ) (H : List Entry) (e : Entry) (t : Transaction) (moment : ℕ) (login : List ℕ) → is_of t e.request ≡ true → closes e.reply ≡ true → ended H t ≡ false → (r : Request) (a : Reply) → is_of t r ≡ true → 0 < granted r a → is_at moment login r ≡ true → Goes day H e moment login r
 goes day H e t moment login mine closing shut (Reserve id txn moment' login' count) (Granted id' n) of some here = record {
   concerns = both_so (same_text login login') (day moment' == day moment) (second_so (moment == moment') (same_text login login') here) (same_day day moment moment' (first_so (moment == moment') (same_text login login') here));
-  before = unended_then H t (transaction id txn) (transaction_is t (transaction id txn) of) shut;
-  after = ended_now H e t (transaction id txn) (transaction_is t (transaction id txn) of) mine closing;
+  before = ap not (at_its (ended H) t (transaction id txn) false of shut);
+  after = ap not (at_its (ended (H ++ e ∷ [])) t (transaction id txn) true of (ended_now H e t mine closing));
 }
 goes day H e t moment login mine closing shut r a of some here = absurd (omega arith)
 
@@ -260,4 +207,4 @@ held_goes_at day H e t moment login mine closing shut x uniform =
 pub held_goes : (day : ℕ → ℕ) (H : List Entry) (e : Entry) (t : Transaction) (moment : ℕ) (login : List ℕ) → is_of t e.request ≡ true → closes e.reply ≡ true → ended H t ≡ false → AllByRecursion (IsUniformAt t moment login) H →
     sum_by (unended_of day (H ++ e ∷ []) login (day moment)) H + granted_in H t ≤ unended day H login (day moment)
 held_goes day H e t moment login mine closing shut uniform =
-    two_sums_le (IsUniformAt t moment login) (unended_of day (H ++ e ∷ []) login (day moment)) (held_of t) (unended_of day H login (day moment)) (held_goes_at day H e t moment login mine closing shut) H uniform
+    two_sums_le (unended_of day (H ++ e ∷ []) login (day moment)) (held_of t) (unended_of day H login (day moment)) H (λ x i. held_goes_at day H e t moment login mine closing shut x (all_at (IsUniformAt t moment login) H x uniform i))

@@ -1,23 +1,8 @@
 -- In every history that is built no more is used than the limit.
-use Rattle.std.proofs.Common.{◌≡◌, ℕ, ◌+◌, ◌≤◌, List, [], ◌∷◌, ◌++◌, Bool, true, false, refl, sym, subst, inl, inr, arith}
-use Rattle.std.specs.Prelude.{if◌then◌else◌, nat_lt, nat_le, sum_by, fold, ◌&&◌, ◌==◌, ◌⊎◌, not, Option, Some, None}
-use Rattle.std.specs.List.{AllByRecursion}
-use Rattle.std.proofs.lemmas.Bool.Decides.{nat_tests}
-use Rattle.std.proofs.lemmas.List.Sums.{sum_by_push}
-use Rattle.mq_lemmas.proofs.Booleans.{either, first_so, second_so, neither_second}
-use Rattle.mq_lemmas.proofs.Numbers.{le_or_lt, number_is}
-use Rattle.mq_request.specs.declared.message.Id.{Id}
-use Rattle.mq_request.specs.declared.message.Request.{Request}
-use Rattle.mq_request.specs.declared.message.Request.TheVariants.{Reserve, Settle, Release, Limit, Usage, List as ListRequest, Retire}
-use Rattle.mq_request.specs.declared.message.Reply.{Reply}
-use Rattle.mq_request.specs.declared.message.Reply.TheVariants.{Granted, Full, Settled, Released, LimitSet, Closed, Mismatch, TooMany}
-use Rattle.mq_request.specs.Same.{same_text}
-use Rattle.mq_request.proofs.Alike.{text_is}
-use Rattle.mq_ledger.specs.declared.entry.Entry.{Entry}
-use Rattle.mq_ledger.specs.Answer.{set_or_over, appended, build}
-use Rattle.mq_ledger.specs.History.{Transaction, transaction, ended, has_retired_run, closed, named, agrees, granted, granted_in, counted, held, used}
-use Rattle.mq_ledger.specs.Limits.{governs, latest, limits, cap}
-use Rattle.mq_ledger.specs.Over.{over}
+use Rattle.mq_ledger.proofs.Words.{AllByRecursion, Bool, Closed, Entry, Full, Granted, Id, IsLegal, Limit, LimitSet, List, Mismatch, None, Release, Released, Reply, Request, Reserve, Settle, Settled, TooMany, Transaction, [], appended, arith, cap, counted, either, ended, false, first_so, governs}
+use Rattle.mq_ledger.proofs.Words.{granted, granted_in, granted_or_full, has_retired_run, held, if◌then◌else◌, inl, inr, latest, le_or_lt, limits, nat_le, nat_tests, neither_second, not, number_is, over, refl, same_text, second_so, settled_or_too_many, subst, sum_by, sum_by_push, sym, text_is}
+use Rattle.mq_ledger.proofs.Words.{transaction, used, ℕ, ◌&&◌, ◌++◌, ◌+◌, ◌==◌, ◌∷◌, ◌≡◌, ◌≤◌, ◌⊎◌}
+use Rattle.mq_ledger.proofs.Answering.{by_open, by_room, by_held, by_over, of_legal}
 use Rattle.mq_ledger.proofs.LimitFacts.{cap_push_other, cap_push_newer, cap_push_older}
 use Rattle.mq_ledger.proofs.Overs.{over_least}
 use Rattle.mq_ledger.proofs.Transactions.{entry, transaction_itself, unended_of, counted_for, unended, counted_on, used_is, unended_falls, IsUniformAt, IsUniform, IsAgreed, uniform_push, held_goes}
@@ -45,9 +30,7 @@ unfolding StaysWithin
 within_quiet day default H e g s other h = λ l d. omega (arith, used_quiet day H e g s l d, cap_push_other default H l d e (other l d), h l d)
 
 at_most_there : (b : Bool) (n : ℕ) (c : Bool) → (if b && c then n else 0) ≤ (if b then n else 0)
-at_most_there true n true = omega arith
-at_most_there true n false = omega arith
-at_most_there false n c = omega arith
+at_most_there b n c = grind arith
 
 there_or_not : (day : ℕ → ℕ) (login l : List ℕ) (moment d : ℕ) → ((same_text l login && (day moment == d)) ≡ false) ⊎ ((l ≡ login) × (d ≡ day moment))
 there_or_not day login l moment d = elim (either (same_text l login && (day moment == d))) [
@@ -118,60 +101,34 @@ good_quiet day default H r a g s other agreed good = record {
   uniform = uniform_push H (entry r a) agreed good.uniform;
 }
 
-good_reserve : (day : ℕ → ℕ) (default : ℕ) (H : List Entry) (id : Id) (txn moment : ℕ) (login : List ℕ) (count : ℕ) → IsGood day default H → (b : Bool) → agrees moment login (named H (transaction id txn)) ≡ b → (s : Bool) → closed H (transaction id txn) ≡ s → (f : Bool) → nat_lt (cap default H login (day moment)) (used day H login (day moment) + count) ≡ f →
-    IsGoodWith day default H (Reserve id txn moment login count) (if not b then Mismatch id else (if s then Closed id else (if f then Full id (used day H login (day moment)) (cap default H login (day moment)) else Granted id (used day H login (day moment) + count))))
-good_reserve day default H id txn moment login count good false eb s es f ef = good_quiet day default H _ _ refl refl (λ l d. refl) tt good
-good_reserve day default H id txn moment login count good true eb true es f ef = good_quiet day default H _ _ refl refl (λ l d. refl) tt good
-good_reserve day default H id txn moment login count good true eb false es true ef = good_quiet day default H _ _ refl refl (λ l d. refl) tt good
-good_reserve day default H id txn moment login count good true eb false es false ef = record {
-  within = within_granted day default H id id txn moment login count (used day H login (day moment) + count) (grind (arith, nat_tests, ef)) good.within;
-  uniform = uniform_push H (entry (Reserve id txn moment login count) (Granted id (used day H login (day moment) + count))) eb good.uniform;
-}
-
-good_settle : (day : ℕ → ℕ) (default : ℕ) (H : List Entry) (id : Id) (txn moment : ℕ) (login : List ℕ) (count : ℕ) → IsGood day default H → (b : Bool) → agrees moment login (named H (transaction id txn)) ≡ b → (s : Bool) → closed H (transaction id txn) ≡ s → (f : Bool) → nat_lt (held H (transaction id txn)) count ≡ f →
-    IsGoodWith day default H (Settle id txn moment login count) (if not b then Mismatch id else (if s then Closed id else (if f then TooMany id (held H (transaction id txn)) else Settled id count)))
-good_settle day default H id txn moment login count good false eb s es f ef = good_quiet day default H _ _ refl refl (λ l d. refl) tt good
-good_settle day default H id txn moment login count good true eb true es f ef = good_quiet day default H _ _ refl refl (λ l d. refl) tt good
-good_settle day default H id txn moment login count good true eb false es true ef = good_quiet day default H _ _ refl refl (λ l d. refl) tt good
-good_settle day default H id txn moment login count good true eb false es false ef =
-    let t : Transaction = transaction id txn in
-    let have : held H t ≡ granted_in H t = rw es refl in
-    let enough : count ≤ held H t = grind (arith, nat_tests, ef) in
-    record {
-      within = within_settled day default H id id txn moment login count count (good.uniform t moment login eb) (neither_second (has_retired_run H t) (ended H t) es) (omega (arith, have, enough)) good.within;
-      uniform = uniform_push H (entry (Settle id txn moment login count) (Settled id count)) eb good.uniform;
-    }
-
-good_release : (day : ℕ → ℕ) (default : ℕ) (H : List Entry) (id : Id) (txn moment : ℕ) (login : List ℕ) → IsGood day default H → (b s : Bool) →
-    IsGoodWith day default H (Release id txn moment login) (if not b then Mismatch id else (if s then Closed id else Released id (held H (transaction id txn))))
-good_release day default H id txn moment login good false s = good_quiet day default H _ _ refl refl (λ l d. refl) tt good
-good_release day default H id txn moment login good true true = good_quiet day default H _ _ refl refl (λ l d. refl) tt good
-good_release day default H id txn moment login good true false = good_quiet day default H _ _ refl refl (λ l d. refl) tt good
-
-good_limit : (day : ℕ → ℕ) (default : ℕ) (H : List Entry) (id : Id) (from c : ℕ) (login : List ℕ) → IsGood day default H → (o : Option ℕ) → over day H login from c ≡ o → IsGoodWith day default H (Limit id from c login) (set_or_over day H id login o)
-good_limit day default H id from c login good None e = record {
-  within = within_limit day default H id id from c login e good.within;
-  uniform = uniform_push H (entry (Limit id from c login) (LimitSet id)) tt good.uniform;
-}
-good_limit day default H id from c login good (Some d) e = good_quiet day default H _ _ refl refl (λ l k. refl) tt good
-
 -- one more request keeps it
 pub good_step : (day : ℕ → ℕ) (default : ℕ) (H : List Entry) (r : Request) → IsGood day default H → IsGood day default (appended day default H r)
-good_step day default H (Reserve id txn moment login count) good = good_reserve day default H id txn moment login count good _ refl _ refl _ refl
-good_step day default H (Settle id txn moment login count) good = good_settle day default H id txn moment login count good _ refl _ refl _ refl
-good_step day default H (Release id txn moment login) good = good_release day default H id txn moment login good _ _
-good_step day default H (Limit id from c login) good = good_limit day default H id from c login good _ refl
-good_step day default H (Usage login d) good = good_quiet day default H _ _ refl refl (λ l d. refl) tt good
-good_step day default H (ListRequest d after) good = good_quiet day default H _ _ refl refl (λ l d. refl) tt good
-good_step day default H (Retire id) good = good_quiet day default H _ _ refl refl (λ l d. refl) tt good
+good_step day default H (Reserve id txn moment login count) good =
+    let P : Reply → Type 0 = IsGoodWith day default H (Reserve id txn moment login count) in
+    let n : ℕ = used day H login (day moment) in
+    let refused : (a : Reply) → granted (Reserve id txn moment login count) a ≡ 0 → IsAgreed H (Reserve id txn moment login count) a → P a = λ a none agreed. good_quiet day default H _ a none refl (λ l d. refl) agreed good in
+    let limit : ℕ = cap default H login (day moment) in
+    by_open P H id txn moment login (granted_or_full id n limit count) (refused (Mismatch id) refl tt) (refused (Closed id) refl tt) (λ o. by_room P id n limit count (refused (Full id n limit) refl tt) (λ room. record {
+      within = within_granted day default H id id txn moment login count (n + count) room good.within;
+      uniform = uniform_push H (entry (Reserve id txn moment login count) (Granted id (n + count))) o.agreed good.uniform;
+    }))
+good_step day default H (Settle id txn moment login count) good =
+    let P : Reply → Type 0 = IsGoodWith day default H (Settle id txn moment login count) in
+    let t : Transaction = transaction id txn in
+    let refused : (a : Reply) → counted (Settle id txn moment login count) a ≡ 0 → IsAgreed H (Settle id txn moment login count) a → P a = λ a none agreed. good_quiet day default H _ a refl none (λ l d. refl) agreed good in
+    by_open P H id txn moment login (settled_or_too_many id (held H t) count) (refused (Mismatch id) refl tt) (refused (Closed id) refl tt) (λ o. by_held P id (held H t) count (refused (TooMany id (held H t)) refl tt) (λ enough. (let have : held H t ≡ granted_in H t = rw o.open_still refl in record {
+      within = within_settled day default H id id txn moment login count count (good.uniform t moment login o.agreed) (neither_second (has_retired_run H t) (ended H t) o.open_still) (omega (arith, have, enough)) good.within;
+      uniform = uniform_push H (entry (Settle id txn moment login count) (Settled id count)) o.agreed good.uniform;
+    })))
+good_step day default H (Release id txn moment login) good =
+    let quiet : (a : Reply) → IsGoodWith day default H (Release id txn moment login) a = λ a. good_quiet day default H _ a refl refl (λ l d. refl) tt good in
+    by_open (IsGoodWith day default H (Release id txn moment login)) H id txn moment login (Released id (held H (transaction id txn))) (quiet (Mismatch id)) (quiet (Closed id)) (λ _. quiet (Released id (held H (transaction id txn))))
+good_step day default H (Limit id from c login) good = by_over (IsGoodWith day default H (Limit id from c login)) day H id from c login (λ none. record {
+  within = within_limit day default H id id from c login none good.within;
+  uniform = uniform_push H (entry (Limit id from c login) (LimitSet id)) tt good.uniform;
+}) (λ d _. good_quiet day default H _ _ refl refl (λ l k. refl) tt good)
+good_step day default H r good = good_quiet day default H _ _ refl refl (λ l d. refl) tt good
 
-good_steps : (day : ℕ → ℕ) (default : ℕ) (H : List Entry) (rs : List Request) → IsGood day default H → IsGood day default (fold (appended day default) H rs)
-good_steps day default H [] good = good
-good_steps day default H (r ∷ rs) good = good_steps day default (appended day default H r) rs (good_step day default H r good)
-
-good_empty : (day : ℕ → ℕ) (default : ℕ) → IsGood day default []
+pub legal_good : (day : ℕ → ℕ) (default : ℕ) (H : List Entry) → IsLegal day default H → IsGood day default H
 unfolding StaysWithin
-good_empty day default = record { within = λ l d. omega arith; uniform = λ t moment login ok. tt }
-
-pub good_build : (day : ℕ → ℕ) (default : ℕ) (rs : List Request) → IsGood day default (build day default rs)
-good_build day default rs = good_steps day default [] rs (good_empty day default)
+legal_good day default = of_legal day default (IsGood day default) (record { within = λ l d. omega arith; uniform = λ t moment login ok. tt }) (good_step day default)

@@ -7,6 +7,7 @@ pub mod Kept
 pub mod Leaving
 pub mod Legal
 pub mod Limits
+pub mod Outcome
 pub mod Over
 pub mod Page
 pub mod Rule

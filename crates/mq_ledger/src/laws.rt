@@ -4,7 +4,8 @@ ghost use Rattle.jiff.specs.Placed.{IsPosixZone};
 ghost use Rattle.jiff.specs.Words.{civil_nanos, epoch_day, nanos_of_seconds, offset_at};
 ghost use Rattle.jiff_core.specs.declared.civil.datetime.DateTime.{DateTime as AnyDateTime};
 ghost use Rattle.jiff_tz.specs.declared.timezone.TimeZone.{TimeZone as AnyTimeZone};
-ghost use Rattle.std.specs.Prelude.{◌≡◌, ◌≤◌, ◌<◌, ◌+◌, ◌*◌, ◌≤ℤ◌, ◌<ℤ◌, ◌+ℤ◌, ℕ, ℤ, pos, List, [], ◌∷◌, ◌++◌, Option, Some, None, All, true};
+ghost use Rattle.std.specs.Prelude.{◌≡◌, ◌≤◌, ◌<◌, ◌+◌, ◌*◌, ◌≤ℤ◌, ◌<ℤ◌, ◌+ℤ◌, ℕ, ℤ, pos, List, []};
+ghost use Rattle.std.specs.Prelude.{◌∷◌, ◌++◌, Option, Some, None, All, true};
 ghost use Rattle.std.specs.Prelude.{false, ◌&&◌, ◌||◌, find, nat_le, if◌then◌else◌, sum_by};
 ghost use Rattle.std.specs.Option.{option_or};
 ghost use Rattle.mq_request.specs.declared.message.Id.{Id};
@@ -13,15 +14,20 @@ ghost use Rattle.mq_request.specs.declared.message.Reply.TheVariants.{Old, Retir
 ghost use Rattle.mq_request.specs.Range.{IsRequest, IsReply, IsAmount, IsMoment};
 ghost use Rattle.mq_ledger.specs.declared.entry.Entry.{Entry as AnyEntry};
 ghost use Rattle.mq_ledger.specs.Answer.{answer, stored, reply, with_arrival, history_of};
-ghost use Rattle.mq_ledger.specs.Arrivals.{id_of, has_id, raised, greater, floor, IsFloor, is_below, first, is_first};
-ghost use Rattle.mq_ledger.specs.Day.{ByOffset, ByRule, IsOffset, IsZone, IsDayRule, clock, limited, day_of};
+ghost use Rattle.mq_ledger.specs.Arrivals.{id_of, has_id, raised, greater, floor, IsFloor};
+ghost use Rattle.mq_ledger.specs.Arrivals.{is_below, first, is_first};
+ghost use Rattle.mq_ledger.specs.Day.{ByOffset, ByRule, IsOffset, IsZone, IsDayRule, clock};
+ghost use Rattle.mq_ledger.specs.Day.{limited, day_of};
 ghost use Rattle.mq_ledger.specs.Day.{central_europe};
 ghost use Rattle.mq_ledger.specs.declared.zone.Zone.{Zone as AnyZone};
-ghost use Rattle.mq_ledger.specs.History.{requests, Transaction, transaction, same_transaction, is_of, named, agrees, closes};
-ghost use Rattle.mq_ledger.specs.History.{ended, retires, closed, granted, granted_in, counted, held, settled_in, reserved, settled};
+ghost use Rattle.mq_ledger.specs.History.{requests, Transaction, transaction, same_transaction};
+ghost use Rattle.mq_ledger.specs.History.{is_of, named, agrees, closes};
+ghost use Rattle.mq_ledger.specs.History.{ended, retires, closed, granted, granted_in, counted};
+ghost use Rattle.mq_ledger.specs.History.{held, settled_in, reserved, settled};
 ghost use Rattle.mq_ledger.specs.History.{used, gained, freed, settles};
 ghost use Rattle.mq_ledger.specs.Legal.{IsLegal};
-ghost use Rattle.mq_ledger.specs.Limits.{from_of, cap_of, governs, limits, latest, cap, sets_from, set_cap};
+ghost use Rattle.mq_ledger.specs.Limits.{from_of, cap_of, governs, limits, latest, cap, sets_from};
+ghost use Rattle.mq_ledger.specs.Limits.{set_cap};
 ghost use Rattle.mq_ledger.specs.Over.{over, IsLeastOver};
 ghost use Rattle.mq_ledger.specs.Page.{page, IsLoginPage, is_login, login_on, has_reserve};
 ghost use Rattle.mq_ledger.specs.Suits.{Suits};
@@ -41,8 +47,8 @@ pub fn built_is_legal()
         IsLegal day default (history_of day default A) }
 {}
 
-/// The first arrivals, in the order in which they came, are the numbered ones whose run isn't below the
-/// floor then and before which no arrival has their number. A number that is retired stays so.
+/// The first arrivals, in the order in which they came, are the numbered ones whose run isn't below
+/// the floor then and before which no arrival has their number. A number that is retired stays so.
 pub fn first_arrivals()
     ensures none { first [] ≡ [] }
     ensures one_more { (A : List AnyRequest) (r : AnyRequest) →
@@ -56,7 +62,8 @@ pub fn first_arrivals()
 /// What one more arrival does to a history.
 pub fn one_more_arrival()
     ensures arrived { (day : ℕ → ℕ) (default : ℕ) (A : List AnyRequest) (r : AnyRequest) →
-        history_of day default (A ++ r ∷ []) ≡ with_arrival day default (history_of day default A) r }
+        history_of day default (A ++ r ∷ []) ≡ with_arrival day default
+        (history_of day default A) r }
     ensures legal { (day : ℕ → ℕ) (default : ℕ) (H : List AnyEntry) (r : AnyRequest) →
         IsLegal day default H →
         history_of day default (requests H ++ r ∷ []) ≡ with_arrival day default H r }
@@ -80,8 +87,8 @@ pub fn floor_is_greatest()
     ensures only { (rs : List AnyRequest) (h : List ℕ) (n : ℕ) → IsFloor rs h n → n ≡ floor rs h }
 {}
 
-/// A number keeps its entry, and until it is retired the reply to each request that comes under it; from
-/// then on each gets Old, and adds nothing to the history.
+/// A number keeps its entry, and until it is retired the reply to each request that comes under it;
+/// from then on each gets Old, and adds nothing to the history.
 pub fn number_keeps_its_reply()
     ensures entry { (day : ℕ → ℕ) (default : ℕ) (A B : List AnyRequest) (id : Id) (e : AnyEntry) →
         stored (history_of day default A) id ≡ Some e →
@@ -95,10 +102,12 @@ pub fn number_keeps_its_reply()
         (id : Id) → id_of r ≡ Some id → is_below (first (A ++ r ∷ B)) id ≡ false →
         reply day default (history_of day default (A ++ r ∷ B)) r
         ≡ reply day default (history_of day default A) r }
-    ensures retired { (day : ℕ → ℕ) (default : ℕ) (A B : List AnyRequest) (r : AnyRequest) (id : Id) →
+    ensures retired { (day : ℕ → ℕ) (default : ℕ) (A B : List AnyRequest) (r : AnyRequest)
+        (id : Id) →
         id_of r ≡ Some id → is_below (first A) id ≡ true →
         reply day default (history_of day default (A ++ B)) r ≡ Old id }
-    ensures unchanged { (day : ℕ → ℕ) (default : ℕ) (A : List AnyRequest) (r : AnyRequest) (id : Id) →
+    ensures unchanged { (day : ℕ → ℕ) (default : ℕ) (A : List AnyRequest) (r : AnyRequest)
+        (id : Id) →
         id_of r ≡ Some id → is_below (first A) id ≡ true →
         history_of day default (A ++ r ∷ []) ≡ history_of day default A }
 {}
@@ -160,7 +169,8 @@ pub fn page_is_first()
         (ls : List (List ℕ)) → IsLoginPage day H d after ls → ls ≡ page day H d after }
 {}
 
-/// What one more entry does to a transaction, in any history; to what it settled the entry of an answer.
+/// What one more entry does to a transaction, in any history; to what it settled the entry of an
+/// answer.
 pub fn one_more_of_a_transaction()
     ensures named { (H : List AnyEntry) (e : AnyEntry) (t : Transaction) →
         named (H ++ e ∷ []) t ≡ option_or (named H t) (if is_of t e.request then Some e else None) }
@@ -171,15 +181,16 @@ pub fn one_more_of_a_transaction()
         held (H ++ e ∷ []) t
         ≡ (if retires e.request t || (closed H t || (is_of t e.request && closes e.reply)) then 0
         else held H t + (if is_of t e.request then granted e.request e.reply else 0)) }
-    ensures settled { (day : ℕ → ℕ) (default : ℕ) (H : List AnyEntry) (e : AnyEntry) (t : Transaction) →
+    ensures settled { (day : ℕ → ℕ) (default : ℕ) (H : List AnyEntry) (e : AnyEntry)
+        (t : Transaction) →
         e.reply ≡ answer day default H e.request → settled_in (H ++ e ∷ []) t
         ≡ settled_in H t + (if is_of t e.request then counted e.request e.reply else 0)
         + (if retires e.request t then held H t else 0) }
 {}
 
-/// A transaction with no entry wasn't settled or released, and holds and settled nothing; one that isn't closed settled
-/// nothing; what one was granted that wasn't settled or released it holds or settled.
-/// Host, run and number say which transaction it is.
+/// A transaction with no entry wasn't settled or released, and holds and settled nothing; one that
+/// isn't closed settled nothing; what one was granted that wasn't settled or released it holds or
+/// settled. Host, run and number say which transaction it is.
 pub fn open_transactions()
     ensures unheard { (H : List AnyEntry) (t : Transaction) → named H t ≡ None →
         (ended H t ≡ false) × (held H t ≡ 0) × (settled_in H t ≡ 0) }
@@ -192,15 +203,16 @@ pub fn open_transactions()
 {}
 
 /// What one more entry does to a login and day: in a legal history the entry of an answer, in any
-/// history that of an answer to what is settled, any entry to which logins have a granted reserve, and a
-/// retire to what is used: nothing.
+/// history that of an answer to what is settled, any entry to which logins have a granted reserve,
+/// and a retire to what is used: nothing.
 pub fn one_more_on_a_day()
     ensures reserved { (day : ℕ → ℕ) (default : ℕ) (H : List AnyEntry) (e : AnyEntry)
         (l : List ℕ) (d : ℕ) →
         IsLegal day default H → e.reply ≡ answer day default H e.request →
         reserved day (H ++ e ∷ []) l d + freed day H l d e.request e.reply
         ≡ reserved day H l d + gained day l d e.request e.reply }
-    ensures settled { (day : ℕ → ℕ) (default : ℕ) (H : List AnyEntry) (e : AnyEntry) (l : List ℕ) (d : ℕ) →
+    ensures settled { (day : ℕ → ℕ) (default : ℕ) (H : List AnyEntry) (e : AnyEntry) (l : List ℕ)
+        (d : ℕ) →
         e.reply ≡ answer day default H e.request →
         settled day (H ++ e ∷ []) l d ≡ settled day H l d + settles day H l d e.request e.reply }
     ensures retired { (day : ℕ → ℕ) (H : List AnyEntry) (id same : Id) (l : List ℕ) (d : ℕ) →
@@ -267,10 +279,12 @@ pub fn sums_over_transactions()
 /// is settled there, and only a login and day with a granted reserve has used any.
 pub fn used_where_reserved()
     ensures held { (day : ℕ → ℕ) (default : ℕ) (H : List AnyEntry) (t : Transaction)
-        (moment : ℕ) (login : List ℕ) → IsLegal day default H → agrees moment login (named H t) ≡ true →
+        (moment : ℕ) (login : List ℕ) → IsLegal day default H
+        → agrees moment login (named H t) ≡ true →
         held H t ≤ reserved day H login (day moment) }
     ensures settled { (day : ℕ → ℕ) (default : ℕ) (H : List AnyEntry) (t : Transaction)
-        (moment : ℕ) (login : List ℕ) → IsLegal day default H → agrees moment login (named H t) ≡ true →
+        (moment : ℕ) (login : List ℕ) → IsLegal day default H
+        → agrees moment login (named H t) ≡ true →
         settled_in H t ≤ settled day H login (day moment) }
     ensures none { (day : ℕ → ℕ) (default : ℕ) (H : List AnyEntry) (l : List ℕ) (d : ℕ) →
         IsLegal day default H → has_reserve day H d l ≡ false →

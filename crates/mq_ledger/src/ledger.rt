@@ -35,7 +35,7 @@ impl From<AllocError> for LedgerFault {
 
 /// One call of `apply`, as a ledger reports it: what was asked, and how it was answered.
 #[derive(Debug, Drop)]
-pub struct Told {
+pub struct ReportedCall {
     pub request: Request,
     pub answer: Result<Reply, LedgerFault>,
 }
@@ -49,10 +49,10 @@ pub struct Told {
 pub trait Ledger {
     ghost use Rattle.std.specs.Prelude.{◌∷◌, [], List, Option, None};
     ghost use Rattle.mq_ledger.specs.Told.{Tells};
-    ghost use Rattle.mq_ledger.specs.declared.ledger.Told.{Told};
+    ghost use Rattle.mq_ledger.specs.declared.ledger.ReportedCall.{ReportedCall};
 
     // The calls of `apply` so far, the oldest first, where the ledger reports them.
-    ghost told: { Self → Option (List Told) } = { λ _. None };
+    ghost told: { Self → Option (List ReportedCall) } = { λ _. None };
 
     /// Its zone, its default limit and its history.
     ghost book: { Self → Book };

@@ -70,7 +70,8 @@ impl PlainLedger {
 
 /// The reply to a request whose run is below the floor, or whose number is among the entries.
 fn known_reply(entries: &[Entry], request: &Request) -> Result<Option<Reply>, AllocError>
-    ensures { let known_so = known_by entries.now (id_of request.now) in IfOk result (λ known. MatchOption known
+    ensures { let known_so = known_by entries.now (id_of request.now) in IfOk result
+        (λ known. MatchOption known
         (known_so ≡ false)
         (λ r. (known_so ≡ true)
         × ((day : ℕ → ℕ) (default : ℕ) → r ≡ reply day default entries.now request.now))) }

@@ -1,9 +1,11 @@
 //! The zone of a ledger: on which day a moment lies, by a fixed offset or by a zone rule.
-ghost use Rattle.std.specs.Prelude.{◌≡◌, ◌↔◌, ◌≤◌, ◌-◌, ◌++◌, ◌+ℤ◌, length, replicate, IsOk, IfOk, IfErr, IsUtf8};
+ghost use Rattle.std.specs.Prelude.{◌≡◌, ◌↔◌, ◌≤◌, ◌-◌, ◌++◌, ◌+ℤ◌, length, replicate, IsOk, IfOk};
+ghost use Rattle.std.specs.Prelude.{IfErr, IsUtf8};
 ghost use Rattle.std.specs.Prelude.{option_map};
 ghost use Rattle.jiff.specs.Words.{civil_nanos, epoch_day, nanos_of_seconds};
 ghost use Rattle.mq_request.specs.Range.{IsMoment, IsDay};
-ghost use Rattle.mq_ledger.specs.Day.{IsOffset, IsRule, IsZone, ByOffset, ByRule, minutes_in, rule_in};
+ghost use Rattle.mq_ledger.specs.Day.{IsOffset, IsRule, IsZone, ByOffset, ByRule, minutes_in};
+ghost use Rattle.mq_ledger.specs.Day.{rule_in};
 ghost use Rattle.mq_ledger.specs.Day.{limited, day_of};
 ghost use Rattle.mq_ledger.specs.Rule.{ahead};
 
@@ -92,13 +94,15 @@ impl Eq for Zone {
 
 /// The ledger day of a moment on a clock so many minutes east of UTC.
 ///
-/// A ledger in memory asks for a day at each entry that it looks back at, so no civil date is made of it.
+/// A ledger in memory asks for a day at each entry that it looks back at, so no civil date is made
+/// of it.
 fn day_at_offset(minutes: i32, moment: u64) -> u32
     requires offset { IsOffset minutes }
     requires moment { IsMoment moment }
     ensures { result ≡ day_of (ByOffset minutes) moment }
 {
-    // (a moment lies a day or more after 1970-01-01, so no clock shows less than a minute since then)
+    // (a moment lies a day or more after 1970-01-01, so no clock shows less than a minute since
+    // then)
     let shown = moment as i64 + i64::from(minutes * 60);
     (shown / DAY_SECONDS) as u32
 }
@@ -106,7 +110,8 @@ fn day_at_offset(minutes: i32, moment: u64) -> u32
 /// What a clock that goes by the rule shows at the instant.
 fn shown_by_rule(text: &str, instant: Timestamp) -> DateTime
     requires { IsRule text.now }
-    ensures { civil_nanos result ≡ instant.nanosecond +ℤ nanos_of_seconds (ahead text.now instant.nanosecond) }
+    ensures { civil_nanos result ≡ instant.nanosecond +ℤ nanos_of_seconds
+        (ahead text.now instant.nanosecond) }
 {
     // (`Zone::of_rule` took the text only as `jiff` read it)
     let zone = TimeZone::posix(text).unwrap();

@@ -1,6 +1,8 @@
 //! A text that comes in pieces, and its lines.
-ghost use Rattle.std.specs.Prelude.{◌≡◌, ◌<◌, ◌≤◌, ◌+◌, ◌++◌, ◌∷◌, ◌↔◌, ◌≢◌, [], Err, IsOk, ℕ, List, length};
-ghost use Rattle.std.specs.Prelude.{slice_get, OnOk, OnErr, IfOk, IfErr, IfNone, MatchOption, MatchResult};
+ghost use Rattle.std.specs.Prelude.{◌≡◌, ◌<◌, ◌≤◌, ◌+◌, ◌++◌, ◌∷◌, ◌↔◌, ◌≢◌, [], Err, IsOk, ℕ};
+ghost use Rattle.std.specs.Prelude.{List, length};
+ghost use Rattle.std.specs.Prelude.{slice_get, OnOk, OnErr, IfOk, IfErr, IfNone, MatchOption};
+ghost use Rattle.std.specs.Prelude.{MatchResult};
 ghost use Rattle.std.specs.Option.{option_copied};
 ghost use Rattle.std.specs.Borrow.{sem};
 ghost use Rattle.std.specs.Io.BufRead.{Rests};
@@ -32,7 +34,8 @@ fn front_of(rest: &[u8], searched: usize) -> Front
     requires { IsSearched rest.now searched }
     ensures { IsFront rest.now result }
 {
-    // One byte more than a line has: without an LF up to there, none that comes later can end this line.
+    // One byte more than a line has: without an LF up to there, none that comes later can end this
+    // line.
     let end = rest.len().min(MAX_LINE + 1);
     let unsearched = &rest[searched..end];
     match unsearched.find_byte(b'\n') {
@@ -44,12 +47,13 @@ fn front_of(rest: &[u8], searched: usize) -> Front
 
 /// Takes a text in pieces and gives its lines: the bytes before each LF, at most 65,536 of them.
 ///
-/// A contract sees of a feed `rest`, the bytes that were fed and not taken, `held`, how many bytes it keeps,
-/// and `room`, for how many it has memory. However the text is cut into pieces, the lines are the same. What
-/// was taken leaves at the next `feed`, and then the rest moves to the front; what was searched for an LF
-/// isn't searched again. So a caller that takes lines until `None` before each `feed` pays for a text by its
-/// length, however short its pieces are, and the feed keeps at most 65,536 bytes and a piece. One that leaves
-/// whole lines there pays once more for them at each `feed` that follows a line.
+/// A contract sees of a feed `rest`, the bytes that were fed and not taken, `held`, how many bytes
+/// it keeps, and `room`, for how many it has memory. However the text is cut into pieces, the lines
+/// are the same. What was taken leaves at the next `feed`, and then the rest moves to the front;
+/// what was searched for an LF isn't searched again. So a caller that takes lines until `None`
+/// before each `feed` pays for a text by its length, however short its pieces are, and the feed
+/// keeps at most 65,536 bytes and a piece. One that leaves whole lines there pays once more for
+/// them at each `feed` that follows a line.
 #[derive(Drop)]
 pub struct LineFeed {
     // What was fed, from the first byte that wasn't taken before the last `feed`.
@@ -73,7 +77,8 @@ impl Model for LineFeed {
       room = vec_capacity f.bytes;
     } };
 
-    ghost invariant = { λ f. (f.start ≤ length f.bytes.items) × IsSearched (drop f.start f.bytes.items) f.searched };
+    ghost invariant = { λ f. (f.start ≤ length f.bytes.items)
+        × IsSearched (drop f.start f.bytes.items) f.searched };
 }
 
 impl LineFeed {
@@ -101,7 +106,8 @@ impl LineFeed {
         ensures held { OnOk result (self.new.held ≡ length self.new.rest) }
         ensures held_at_err { OnErr result (self.new.held ≤ self.old.held) }
 
-        // Memory is wanted only where there is no room for the rest and the piece, and room never shrinks.
+        // Memory is wanted only where there is no room for the rest and the piece, and room never
+        // shrinks.
         ensures full { OnErr result (self.old.room < length self.old.rest + length piece.now) }
         ensures room { self.old.room ≤ self.new.room }
     {
@@ -112,7 +118,8 @@ impl LineFeed {
         Ok(())
     }
 
-    /// How many bytes it keeps. After a `feed` that is what was fed and not taken before. It takes no memory.
+    /// How many bytes it keeps. After a `feed` that is what was fed and not taken before. It takes
+    /// no memory.
     pub fn held(&self) -> usize
         ensures held { result ≡ self.now.held }
         ensures rest { length self.now.rest ≤ result }
@@ -122,8 +129,8 @@ impl LineFeed {
 
     /// Takes the next whole line with its LF, and gives it without. `None` where none is whole yet.
     ///
-    /// `TooLong` where 65,537 bytes stand in front without an LF. The feed is then as before, and each later
-    /// call answers the same.
+    /// `TooLong` where 65,537 bytes stand in front without an LF. The feed is then as before, and
+    /// each later call answers the same.
     pub fn next_line(&mut self) -> Result<Option<&[u8]>, FeedFault>
         // Of whatever text was fed: the line after those that were taken, where there is one.
         ensures next { (text : List ℕ) (taken : List (List ℕ)) → Holds text taken self.old.rest →
@@ -164,13 +171,14 @@ impl LineFeed {
         }
     }
 
-    /// Ends the text: `Ok` where all bytes were taken. `TooLong` where `next_line` would answer it, and else
-    /// `CutLine`.
+    /// Ends the text: `Ok` where all bytes were taken. `TooLong` where `next_line` would answer it,
+    /// and else `CutLine`.
     pub fn finish(&self) -> Result<(), FeedFault>
         ensures ok { IsOk result ↔ (self.now.rest ≡ []) }
         ensures too_long { (result ≡ Err FeedFault.TooLong) ↔ IsTooLong self.now.rest }
         ensures all_taken { OnOk result (HasNoLine self.now.rest) }
-        ensures cut_line { result ≡ Err FeedFault.CutLine → (self.now.rest ≢ []) × ¬ IsTooLong self.now.rest }
+        ensures cut_line { result ≡ Err FeedFault.CutLine → (self.now.rest ≢ [])
+            × ¬ IsTooLong self.now.rest }
     {
         let rest = &self.bytes[self.start..];
         if rest.is_empty() {

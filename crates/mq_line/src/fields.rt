@@ -27,7 +27,8 @@ pub(crate) fn last_field<'a>(text: &'a [u8]) -> (&'a [u8], &'a [u8])
     }
 }
 
-/// The next field of what is left of a line, and what is left after it. `Short` where nothing is left.
+/// The next field of what is left of a line, and what is left after it. `Short` where nothing is
+/// left.
 pub(crate) fn next_field<'a>(
     left: Option<&'a [u8]>,
 ) -> Result<(&'a [u8], Option<&'a [u8]>), LineFault>
@@ -40,7 +41,8 @@ pub(crate) fn next_field<'a>(
     }
 }
 
-/// The next three fields of what is left of a line, and what is left after them. `Short` where fewer are left.
+/// The next three fields of what is left of a line, and what is left after them. `Short` where
+/// fewer are left.
 pub(crate) fn next_three<'a>(
     left: Option<&'a [u8]>,
 ) -> Result<(&'a [u8], &'a [u8], &'a [u8], Option<&'a [u8]>), LineFault>

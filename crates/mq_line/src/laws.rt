@@ -1,8 +1,10 @@
-//! Laws of the definitions in `specs/`. These functions compute nothing: the contract of each is the law.
+//! Laws of the definitions in `specs/`. These functions compute nothing: the contract of each is
+//! the law.
 ghost use Rattle.std.specs.Prelude.{◌≡◌, ◌++◌, ◌⊎◌, [], ℕ, List, None};
 ghost use Rattle.std.specs.List.{concat};
 ghost use Rattle.mq_line.specs.Grammar.{Meaning, Reads, fault};
-ghost use Rattle.mq_line.specs.Text.{IsLine, IsTooLong, Holds, lines, left, lines_by_piece, left_by_piece};
+ghost use Rattle.mq_line.specs.Text.{IsLine, IsTooLong, Holds, lines, left, lines_by_piece};
+ghost use Rattle.mq_line.specs.Text.{left_by_piece};
 
 /// No line has two meanings, and a line has a meaning exactly where it has no fault.
 pub fn one_meaning()
@@ -11,8 +13,8 @@ pub fn one_meaning()
     ensures total { (line : List ℕ) → fault line ≡ None → (m : Meaning) × Reads line m }
 {}
 
-/// A text is its lines, an LF after each, and what follows them: bytes that may become a line, or too
-/// many for one. No other lines are.
+/// A text is its lines, an LF after each, and what follows them: bytes that may become a line, or
+/// too many for one. No other lines are.
 pub fn one_splitting()
     ensures whole { (text : List ℕ) → Holds text (lines text) (left text) }
     ensures end { (text : List ℕ) → IsLine (left text) ⊎ IsTooLong (left text) }
@@ -32,5 +34,6 @@ pub fn any_cutting()
     ensures too_long { (rest more : List ℕ) → IsTooLong rest → IsTooLong (rest ++ more) }
     // Lines that are taken after each piece are those of the whole text.
     ensures pieces { (pieces : List (List ℕ)) →
-        (lines_by_piece [] pieces ≡ lines (concat pieces)) × (left_by_piece [] pieces ≡ left (concat pieces)) }
+        (lines_by_piece [] pieces ≡ lines (concat pieces))
+        × (left_by_piece [] pieces ≡ left (concat pieces)) }
 {}

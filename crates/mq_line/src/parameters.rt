@@ -2,7 +2,8 @@
 ghost use Rattle.std.specs.Prelude.{◌≡◌, Option};
 ghost use Rattle.std.specs.Option.{option_map, option_copied};
 ghost use Rattle.mq_line.specs.Pieces.{fields};
-ghost use Rattle.mq_line.specs.Parameters.{result_of as result_of_lem, auth_at_end as auth_at_end_lem, auth, message};
+ghost use Rattle.mq_line.specs.Parameters.{result_of as result_of_lem};
+ghost use Rattle.mq_line.specs.Parameters.{auth_at_end as auth_at_end_lem, auth, message};
 
 use crate::fields::{first_field, last_field, rest_of};
 
@@ -31,7 +32,8 @@ fn result_of(word: &[u8]) -> Option<AuthResult>
 
 /// The result and the user name where the result stands last.
 fn auth_at_end<'a>(params: &'a [u8]) -> Option<(AuthResult, &'a [u8])>
-    ensures { option_map (λ found. (found.0, found.1.now)) result ≡ auth_at_end_lem (fields params.now) }
+    ensures { option_map (λ found. (found.0, found.1.now)) result
+        ≡ auth_at_end_lem (fields params.now) }
 {
     let (name, last) = last_field(params);
     match result_of(last) {
@@ -42,9 +44,9 @@ fn auth_at_end<'a>(params: &'a [u8]) -> Option<(AuthResult, &'a [u8])>
 
 /// The result and the user name in the parameters of a link-auth, which may stand in either order.
 ///
-/// The result is the first field where that is `pass`, `fail` or `error`, and then the rest is the name.
-/// Else it is the last field where that is one of these, and the name is what stands before its bar. The
-/// name may be empty and may have bars in it. With neither, there is no answer.
+/// The result is the first field where that is `pass`, `fail` or `error`, and then the rest is the
+/// name. Else it is the last field where that is one of these, and the name is what stands before
+/// its bar. The name may be empty and may have bars in it. With neither, there is no answer.
 pub fn auth_of<'a>(params: &'a [u8]) -> Option<(AuthResult, &'a [u8])>
     ensures { option_map (λ found. (found.0, found.1.now)) result ≡ auth params.now }
 {
@@ -55,7 +57,8 @@ pub fn auth_of<'a>(params: &'a [u8]) -> Option<(AuthResult, &'a [u8])>
     }
 }
 
-/// The message id in the parameters of a report on a transaction: the first field, where it isn't empty.
+/// The message id in the parameters of a report on a transaction: the first field, where it isn't
+/// empty.
 pub fn message_of<'a>(params: &'a [u8]) -> Option<&'a [u8]>
     ensures { option_copied result ≡ message params.now }
 {

@@ -5,8 +5,10 @@ ghost use Rattle.std.specs.List.{list_all, list_any};
 ghost use Rattle.std.specs.Char.{is_ascii_digit};
 ghost use Rattle.mq_line.specs.Pieces.{fields_left};
 ghost use Rattle.mq_line.specs.Grammar.{Meaning, meaning, Means, Reads, fault as fault_lem};
-ghost use Rattle.mq_line.specs.Grammar.{is_number, max_fraction_digits, seconds_of as seconds_of_lem};
-ghost use Rattle.mq_line.specs.Grammar.{IsStamp, stamp_fault, config_fault, report_fault, filter_fault};
+ghost use Rattle.mq_line.specs.Grammar.{is_number, max_fraction_digits};
+ghost use Rattle.mq_line.specs.Grammar.{seconds_of as seconds_of_lem};
+ghost use Rattle.mq_line.specs.Grammar.{IsStamp, stamp_fault, config_fault, report_fault};
+ghost use Rattle.mq_line.specs.Grammar.{filter_fault};
 
 use crate::fault::LineFault;
 use crate::fields::{first_field, next_field, next_three, rest_of};
@@ -96,8 +98,8 @@ fn has_empty(names: &[&[u8]]) -> bool
     names.iter().any(|name| name.is_empty())
 }
 
-/// The seconds of a report or filter line with this version, this time and these names, none of which
-/// may be empty.
+/// The seconds of a report or filter line with this version, this time and these names, none of
+/// which may be empty.
 fn read_stamp(version: &[u8], time: &[u8], names: &[&[u8]]) -> Result<u64, LineFault>
     ensures { MatchResult result
         (λ seconds. IsStamp version.now time.now (map (λ name. name.now) names.now) seconds)
@@ -169,7 +171,8 @@ fn read_filter<'a>(left: Option<&'a [u8]>) -> Result<Line<'a>, LineFault>
 
 /// A line by its fields.
 fn read_fields<'a>(line: &'a [u8]) -> Result<Line<'a>, LineFault>
-    ensures { MatchResult result (λ v. Reads line.now (meaning v)) (λ e. fault_lem line.now ≡ Some e) }
+    ensures { MatchResult result (λ v. Reads line.now (meaning v))
+        (λ e. fault_lem line.now ≡ Some e) }
 {
     let (first, left) = first_field(line);
     if first == b"config".as_slice() {
@@ -185,9 +188,9 @@ fn read_fields<'a>(line: &'a [u8]) -> Result<Line<'a>, LineFault>
 
 /// Takes apart a line of smtpd, which stands without its LF.
 ///
-/// A line that begins with `config`, `report` or `filter` and has too few fields is `Short`. A report or
-/// filter line is then refused for its `Version`, its `Time` or an `EmptyField`, the first that applies. Any
-/// other line is read.
+/// A line that begins with `config`, `report` or `filter` and has too few fields is `Short`. A
+/// report or filter line is then refused for its `Version`, its `Time` or an `EmptyField`, the
+/// first that applies. Any other line is read.
 pub fn read_line<'a>(line: &'a [u8]) -> Result<Line<'a>, LineFault>
     // What is answered is what the line means.
     ensures found { IfOk result (λ v. Reads line.now (meaning v)) }

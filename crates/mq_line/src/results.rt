@@ -1,5 +1,6 @@
 //! What a filter writes to smtpd.
-ghost use Rattle.std.specs.Prelude.{◌≡◌, ◌+◌, ◌<◌, ◌++◌, OnOk, OnErr, length, vec_capacity, vec_len, take};
+ghost use Rattle.std.specs.Prelude.{◌≡◌, ◌+◌, ◌<◌, ◌++◌, OnOk, OnErr, length, vec_capacity};
+ghost use Rattle.std.specs.Prelude.{vec_len, take};
 ghost use Rattle.mq_line.specs.Results.{registration, answer as answer_lem, in_a_row, result_text};
 
 use std::alloc::AllocError;
@@ -37,8 +38,8 @@ register|filter|smtp-in|rcpt-to
 register|ready
 ";
 
-/// Appends the registration, the first that a filter writes, after `config|ready`. After an `Err` nothing
-/// is appended.
+/// Appends the registration, the first that a filter writes, after `config|ready`. After an `Err`
+/// nothing is appended.
 pub fn write_registration(out: &mut Vec<u8>) -> Result<(), AllocError>
     ensures ok { OnOk result (out.new.items ≡ out.old.items ++ registration) }
     ensures err { OnErr result (out.new.items ≡ out.old.items) }
@@ -53,7 +54,8 @@ pub fn write_registration(out: &mut Vec<u8>) -> Result<(), AllocError>
 fn push_parts(out: &mut Vec<u8>, parts: &[&[u8]]) -> Result<(), AllocError>
     ensures ok { OnOk result (out.new.items ≡ out.old.items ++ in_a_row parts.now) }
     ensures front { take (vec_len out.old) out.new.items ≡ out.old.items }
-    ensures full { OnErr result (vec_capacity out.old < vec_len out.old + length (in_a_row parts.now)) }
+    ensures full { OnErr result (vec_capacity out.old < vec_len out.old + length
+        (in_a_row parts.now)) }
 {
     for part in parts {
         out.extend_from_slice(part)?;
@@ -68,10 +70,12 @@ fn push_result<'a>(
     token: &'a [u8],
     decision: Decision,
 ) -> Result<(), AllocError>
-    ensures ok { OnOk result (out.new.items ≡ out.old.items ++ result_text session.now token.now decision) }
+    ensures ok { OnOk result (out.new.items ≡ out.old.items
+        ++ result_text session.now token.now decision) }
     ensures front { take (vec_len out.old) out.new.items ≡ out.old.items }
     ensures full { OnErr result
-        (vec_capacity out.old < vec_len out.old + length (result_text session.now token.now decision)) }
+        (vec_capacity out.old < vec_len out.old + length
+        (result_text session.now token.now decision)) }
 {
     let answer: &'a [u8] = answer_of(decision);
     push_parts(
@@ -80,19 +84,21 @@ fn push_result<'a>(
     )
 }
 
-/// Appends the answer to the filter line with this session and this token, `filter-result` in protocol 0.7.
-/// After an `Err` nothing is appended.
+/// Appends the answer to the filter line with this session and this token, `filter-result` in
+/// protocol 0.7. After an `Err` nothing is appended.
 pub fn write_result(
     session: &[u8],
     token: &[u8],
     decision: Decision,
     out: &mut Vec<u8>,
 ) -> Result<(), AllocError>
-    ensures ok { OnOk result (out.new.items ≡ out.old.items ++ result_text session.now token.now decision) }
+    ensures ok { OnOk result (out.new.items ≡ out.old.items
+        ++ result_text session.now token.now decision) }
     ensures err { OnErr result (out.new.items ≡ out.old.items) }
     // Memory is wanted only where the vector had to grow.
     ensures full { OnErr result
-        (vec_capacity out.old < vec_len out.old + length (result_text session.now token.now decision)) }
+        (vec_capacity out.old < vec_len out.old + length
+        (result_text session.now token.now decision)) }
 {
     let before = out.len();
     match push_result(out, session, token, decision) {

@@ -3,22 +3,22 @@ use Rattle.std.specs.Prelude.{◌≡◌, ℕ, List, ◌++◌, ⊤, Option, None,
 use Rattle.mq_request.specs.declared.message.Reply.{Reply}
 use Rattle.mq_frame.specs.Spelling.{SpellsReply}
 use Rattle.mq_link.specs.declared.link.LinkFault.{LinkFault}
-use Rattle.mq_link.specs.declared.link.Outcome.{Outcome}
-use Rattle.mq_link.specs.declared.link.Outcome.TheVariants.{Answered, Faulted}
-use Rattle.mq_link.specs.declared.link.Told.{Told}
+use Rattle.mq_link.specs.declared.link.ExchangeOutcome.{ExchangeOutcome}
+use Rattle.mq_link.specs.declared.link.ExchangeOutcome.TheVariants.{Answered, Faulted}
+use Rattle.mq_link.specs.declared.link.ReportedExchange.{ReportedExchange}
 
 -- how an exchange ended that answered this, with this reply body
-abbrev pub outcome_of : {X : Type 0} → Result X LinkFault → List ℕ → Outcome
+abbrev pub outcome_of : {X : Type 0} → Result X LinkFault → List ℕ → ExchangeOutcome
 outcome_of (Ok x) body = Answered body
 outcome_of (Err fault) body = Faulted fault
 
 -- an exchange that ended so brought a body that spells the reply
-abbrev pub Brings : Outcome → Reply → Type 0
+abbrev pub Brings : ExchangeOutcome → Reply → Type 0
 Brings (Answered body) reply = SpellsReply body reply
 Brings (Faulted fault) reply = ⊥
 
 -- the exchanges that a link reports have grown by these, where it still reports them afterwards
-abbrev pub Tells : Option (List Told) → Option (List Told) → List Told → Type 0
+abbrev pub Tells : Option (List ReportedExchange) → Option (List ReportedExchange) → List ReportedExchange → Type 0
 Tells (Some before) (Some after) more = after ≡ before ++ more
 Tells None (Some after) more = ⊥
 Tells before None more = ⊤

@@ -25,13 +25,17 @@ fn length_of(high: u8, low: u8) -> usize
     usize::from(u16::from_be_bytes([high, low]))
 }
 
-/// Reads one frame, and leaves its body of 1 to 65,535 bytes in `reply`. On a fault `reply` is empty. Where
-/// memory runs out, the head was read and no byte of the body, and `Empty` is a head that announces none.
+/// Reads one frame, and leaves its body of 1 to 65,535 bytes in `reply`. On a fault `reply` is
+/// empty. Where memory runs out, the head was read and no byte of the body, and `Empty` is a head
+/// that announces none.
 pub fn read_body<S: Read>(stream: &mut S, reply: &mut Vec<u8>) -> Result<(), BodyFault>
-    ensures body { OnOk result (IsReceived (S.remaining stream.old) (S.remaining stream.new) reply.new.items) }
+    ensures body { OnOk result (IsReceived (S.remaining stream.old)
+        (S.remaining stream.new) reply.new.items) }
     ensures empty { OnErr result (reply.new.items ≡ []) }
-    ensures memory { result ≡ Err BodyFault.Memory → IsHeadOnly (S.remaining stream.old) (S.remaining stream.new) }
-    ensures no_bytes { result ≡ Err BodyFault.Empty → IsEmptyHead (S.remaining stream.old) (S.remaining stream.new) }
+    ensures memory { result ≡ Err BodyFault.Memory → IsHeadOnly (S.remaining stream.old)
+        (S.remaining stream.new) }
+    ensures no_bytes { result ≡ Err BodyFault.Empty → IsEmptyHead (S.remaining stream.old)
+        (S.remaining stream.new) }
 {
     reply.clear();
     let mut head = [0u8; 2];

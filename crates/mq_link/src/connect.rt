@@ -40,7 +40,10 @@ impl<'a, R> Model for Connector<'a, R> {
 
     ghost Value = { Route };
 
-    ghost view = { λ connector. record { address = connector.address; timeout = connector.timeout } };
+    ghost view = { λ connector. record {
+      address = connector.address;
+      timeout = connector.timeout;
+    } };
 }
 
 impl<'a, R: Net> Connector<'a, R> {

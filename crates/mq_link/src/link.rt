@@ -15,7 +15,7 @@ pub enum LinkFault {
 
 /// How an exchange ended.
 #[derive(Debug, Drop)]
-pub enum Outcome {
+pub enum ExchangeOutcome {
     /// A body came, whatever it spells.
     Answered(Bytes),
     Faulted(LinkFault),
@@ -23,20 +23,20 @@ pub enum Outcome {
 
 /// One exchange, as a link reports it: the frame that was sent, and how it ended.
 #[derive(Debug, Drop)]
-pub struct Told {
+pub struct ReportedExchange {
     /// With the length of its body.
     pub frame: Bytes,
-    pub outcome: Outcome,
+    pub outcome: ExchangeOutcome,
 }
 
 /// A link to the quota server.
 pub trait Link {
     ghost use Rattle.std.specs.Prelude.{◌≡◌, ◌∷◌, [], List, Option, None, OnErr};
     ghost use Rattle.mq_link.specs.Link.{Tells, outcome_of};
-    ghost use Rattle.mq_link.specs.declared.link.Told.{Told};
+    ghost use Rattle.mq_link.specs.declared.link.ReportedExchange.{ReportedExchange};
 
     // The exchanges so far, the oldest first, where the link reports them.
-    ghost told: { Self → Option (List Told) } = { λ _. None };
+    ghost told: { Self → Option (List ReportedExchange) } = { λ _. None };
 
     /// Sends a frame, length included, and waits for the body of one reply. On a fault `reply` is
     /// empty.

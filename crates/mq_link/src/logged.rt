@@ -22,10 +22,11 @@ pub trait Explain {
     fn now(&self) -> Option<Instant>;
 }
 
-/// A link with a log of its outages: an error line once all exchanges of a request brought no answer, with what the last
-/// one met, and a warning where an answer comes again, with how many requests got none. So a server that is away costs
-/// two lines, however often it is asked, and at most one outage is logged in a second (`outage.rt`). Each of its
-/// exchanges is one of the link's, with the same frame and the same end; contracts see the link.
+/// A link with a log of its outages: an error line once all exchanges of a request brought no
+/// answer, with what the last one met, and a warning where an answer comes again, with how many
+/// requests got none. So a server that is away costs two lines, however often it is asked, and at
+/// most one outage is logged in a second (`outage.rt`). Each of its exchanges is one of the link's,
+/// with the same frame and the same end; contracts see the link.
 #[derive(Drop)]
 pub struct LoggedLink<'a, L, G> {
     link: L,
@@ -41,12 +42,12 @@ impl<'a, L, G> Model for LoggedLink<'a, L, G> {
 
 /// Why an exchange brought no answer: what went wrong, or what came in its place.
 #[derive(Clone, Copy)]
-struct Unanswered<'a> {
+struct UnansweredExchange<'a> {
     trouble: Option<&'a Trouble>,
     body: &'a [u8],
 }
 
-impl fmt::Display for Unanswered<'_> {
+impl fmt::Display for UnansweredExchange<'_> {
     fn fmt<W: fmt::Write>(&self, f: &mut fmt::Formatter<W>) -> fmt::Result {
         if let Some(trouble) = self.trouble {
             return trouble.fmt(f);
@@ -75,7 +76,8 @@ impl fmt::Display for Answers {
 impl<'a, L: Link + Explain, G: Log> LoggedLink<'a, L, G> {
     ghost use Rattle.std.specs.Prelude.{◌≡◌};
 
-    /// The link with a log of its outages. `tries` is how often a request is sent that gets no answer.
+    /// The link with a log of its outages. `tries` is how often a request is sent that gets no
+    /// answer.
     pub fn new(link: L, log: &'a G, tries: u32) -> LoggedLink<'a, L, G>
         ensures { result ≡ link }
     {
@@ -122,7 +124,7 @@ impl<'a, L: Link + Explain, G: Log> LoggedLink<'a, L, G> {
 
     /// Logs why the last exchange brought no answer.
     fn log_trouble(&self, body: &[u8]) {
-        let unanswered = Unanswered {
+        let unanswered = UnansweredExchange {
             trouble: self.link.trouble(),
             body,
         };

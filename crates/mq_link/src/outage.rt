@@ -1,6 +1,8 @@
-//! When an outage is logged: its beginning and its end, at most one outage a second, and what the end counts.
+//! When an outage is logged: its beginning and its end, at most one outage a second, and what the
+//! end counts.
 ghost use Rattle.std.specs.Prelude.{◌≡◌, ◌<◌, ◌↔◌, false, IsTrue, Some, None, if◌then◌else◌};
-ghost use Rattle.mq_link.specs.Outage.{is_due as is_due_lem, is_last_try, missed, is_beginning, begun, is_ending, ended, passed};
+ghost use Rattle.mq_link.specs.Outage.{is_due as is_due_lem, is_last_try, missed, is_beginning};
+ghost use Rattle.mq_link.specs.Outage.{begun, is_ending, ended, passed};
 
 use std::time::{Duration, Instant};
 
@@ -35,7 +37,13 @@ fn is_due(line: Option<Instant>, now: Option<Instant>) -> bool
 impl Outage {
     /// None so far, of requests that have so many exchanges.
     pub fn new(tries: u32) -> Outage
-        ensures { result ≡ record { tries = tries; left = tries; unanswered = 0; is_logged = false; line = None } }
+        ensures { result ≡ record {
+          tries = tries;
+          left = tries;
+          unanswered = 0;
+          is_logged = false;
+          line = None;
+        } }
     {
         Outage {
             tries,
@@ -64,7 +72,8 @@ impl Outage {
     /// Whether the beginning is to be logged now. Then it counts as logged.
     pub fn begin(&mut self, now: Option<Instant>) -> bool
         ensures logged { result ≡ is_beginning self.old now }
-        ensures noted { self.new ≡ (if is_beginning self.old now then begun self.old now else self.old) }
+        ensures noted { self.new ≡ (if is_beginning self.old now then begun self.old now else
+            self.old) }
     {
         if self.unanswered == 0 || self.is_logged || !is_due(self.line, now) {
             return false;
@@ -74,17 +83,21 @@ impl Outage {
         true
     }
 
-    /// Whether some request got no answer, which no line has counted yet. Without one `end` logs nothing, whatever the time.
+    /// Whether some request got no answer, which no line has counted yet. Without one `end` logs
+    /// nothing, whatever the time.
     pub fn counts_any(&self) -> bool
         ensures { IsTrue result ↔ (0 < self.now.unanswered) }
     {
         0 < self.unanswered
     }
 
-    /// Notes an exchange that brought an answer: how many requests got none until then, where that is to be logged now.
+    /// Notes an exchange that brought an answer: how many requests got none until then, where that
+    /// is to be logged now.
     pub fn end(&mut self, now: Option<Instant>) -> Option<u32>
-        ensures logged { result ≡ (if is_ending self.old now then Some self.old.unanswered else None) }
-        ensures noted { self.new ≡ (if is_ending self.old now then ended self.old now else passed self.old) }
+        ensures logged { result ≡ (if is_ending self.old now then Some self.old.unanswered else
+            None) }
+        ensures noted { self.new ≡ (if is_ending self.old now then ended self.old now else passed
+            self.old) }
     {
         self.left = self.tries;
         if self.unanswered == 0 || !(self.is_logged || is_due(self.line, now)) {

@@ -1,5 +1,6 @@
 //! The link to the quota server over TCP: a connection for each exchange.
-ghost use Rattle.std.specs.Prelude.{◌≡◌, ◌≢◌, ℕ, List, [], ◌∷◌, Option, None, IfSome, IfOk, Err, OnOk, option_map, suc};
+ghost use Rattle.std.specs.Prelude.{◌≡◌, ◌≢◌, ℕ, List, [], ◌∷◌, Option, None, IfSome, IfOk, Err};
+ghost use Rattle.std.specs.Prelude.{OnOk, option_map, suc};
 ghost use Rattle.std.specs.Prelude.{OnErr, IfErr, MatchOption};
 ghost use Rattle.std.specs.Io.KnownBytes.{Appends};
 ghost use Rattle.mq_link.specs.Link.{Tells, outcome_of};
@@ -10,7 +11,7 @@ use crate::body::read_body;
 use crate::connect::{Connect, Connector};
 use crate::link::{Link, LinkFault};
 use crate::logged::Explain;
-use crate::timed::{Timed, deadline_after};
+use crate::timed::{TimedStream, deadline_after};
 use crate::trouble::Trouble;
 use std::io;
 use std::io::{Read, Write};
@@ -24,19 +25,20 @@ fn timed<'a, K: Clock, S: OpenStream + Drop>(
     stream: S,
     clock: &'a K,
     timeout: Duration,
-) -> io::Result<Timed<'a, K, S>>
+) -> io::Result<TimedStream<'a, K, S>>
     ensures { IfOk result (λ timed. timed ≡ stream) }
 {
     let deadline = deadline_after(clock, timeout)?;
-    Ok(Timed::new(stream, clock, timeout, deadline))
+    Ok(TimedStream::new(stream, clock, timeout, deadline))
 }
 
 /// Writes a whole frame and ends the writing side.
 fn write_frame<K: Clock, S: Write + OpenStream + Drop>(
-    mut stream: Timed<'_, K, S>,
+    mut stream: TimedStream<'_, K, S>,
     frame: &[u8],
 ) -> io::Result<S>
-    ensures { IfOk result (λ written. Appends (S.contents stream.entry) (S.contents written) frame.now) }
+    ensures { IfOk result (λ written. Appends (S.contents stream.entry)
+        (S.contents written) frame.now) }
 {
     stream.write_all(frame)?;
     let stream = stream.into_inner();
@@ -52,10 +54,13 @@ fn read_within<K: Clock, S: Read + OpenStream + Drop>(
     timeout: Duration,
     reply: &mut Vec<u8>,
 ) -> Result<(), Trouble>
-    ensures body { OnOk result ((left : Option (List ℕ)) × IsReceived (S.remaining stream) left reply.new.items) }
+    ensures body { OnOk result ((left : Option (List ℕ))
+        × IsReceived (S.remaining stream) left reply.new.items) }
     ensures empty { OnErr result (reply.new.items ≡ []) }
-    ensures memory { result ≡ Err Trouble.Memory → (left : Option (List ℕ)) × IsHeadOnly (S.remaining stream) left }
-    ensures no_bytes { result ≡ Err Trouble.Empty → (left : Option (List ℕ)) × IsEmptyHead (S.remaining stream) left }
+    ensures memory { result ≡ Err Trouble.Memory → (left : Option (List ℕ))
+        × IsHeadOnly (S.remaining stream) left }
+    ensures no_bytes { result ≡ Err Trouble.Empty → (left : Option (List ℕ))
+        × IsEmptyHead (S.remaining stream) left }
     ensures connected { result ≢ Err Trouble.Unconnected }
 {
     reply.clear();
@@ -68,8 +73,8 @@ fn read_within<K: Clock, S: Read + OpenStream + Drop>(
     }
 }
 
-/// A link that makes a new connection for each frame. Contracts see what makes the connections, and the connection that
-/// is open.
+/// A link that makes a new connection for each frame. Contracts see what makes the connections, and
+/// the connection that is open.
 #[derive(Drop)]
 pub struct TcpLink<'a, K, C: Connect> {
     connector: C,
@@ -95,15 +100,18 @@ impl<'a, R: Net + Clock> TcpLink<'a, R, Connector<'a, R>> {
         address: SocketAddr,
         timeout: Duration,
     ) -> TcpLink<'a, R, Connector<'a, R>>
-        ensures { result ≡ record { connector = record { address = address; timeout = timeout }; stream = None } }
+        ensures { result ≡ record {
+          connector = record { address = address; timeout = timeout };
+          stream = None;
+        } }
     {
         TcpLink::over(Connector::new(net, address, timeout), net, timeout)
     }
 }
 
 impl<'a, K: Clock, C: Connect> TcpLink<'a, K, C> {
-    /// A link over the connections that are made so, with none yet. `timeout`, above 0, is how long it may take to
-    /// write a whole frame, and how long to read a whole reply.
+    /// A link over the connections that are made so, with none yet. `timeout`, above 0, is how long
+    /// it may take to write a whole frame, and how long to read a whole reply.
     pub fn over(connector: C, clock: &'a K, timeout: Duration) -> TcpLink<'a, K, C>
         ensures { result ≡ record { connector = connector; stream = None } }
     {
@@ -198,11 +206,15 @@ impl<K: Clock, C: Connect> Link for TcpLink<'_, K, C> {
     /// Sends the frame over a new connection and reads one body of 1 to 65,535 bytes; no connection
     /// is left.
     fn exchange(&mut self, frame: &[u8], reply: &mut Vec<u8>) -> Result<(), LinkFault>
-        ensures told { Tells None None (record { frame = frame.now; outcome = outcome_of result reply.new.items }
+        ensures told { Tells None None (record {
+          frame = frame.now;
+          outcome = outcome_of result reply.new.items;
+        }
             ∷ []) }
         ensures empty { OnErr result (reply.new.items ≡ []) }
         // The frame was written whole over a new connection, and the body is the one that was read.
-        ensures exchanged { OnOk result (IsExchange C.is_new C.Stream.contents C.Stream.remaining frame.now
+        ensures exchanged { OnOk result (IsExchange C.is_new C.Stream.contents C.Stream.remaining
+            frame.now
             reply.new.items) }
         // A connection is tried at each exchange.
         ensures tried { C.tried self.new.connector ≡ option_map suc (C.tried self.old.connector) }

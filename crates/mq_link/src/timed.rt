@@ -13,8 +13,8 @@ use std::net::OpenStream;
 use std::rt::Clock;
 use std::time::{Duration, Instant};
 
-/// How long a call may wait that begins at a moment: the timeout, and no longer than until the deadline. From the deadline
-/// on it fails as timed out.
+/// How long a call may wait that begins at a moment: the timeout, and no longer than until the
+/// deadline. From the deadline on it fails as timed out.
 fn wait_at(now: Instant, deadline: Instant, timeout: Duration) -> io::Result<Duration>
     ensures early { IsOk result ↔ (instant_nanos now < instant_nanos deadline) }
     ensures wait { IfOk result (λ wait. as_nanos wait ≡ min (as_nanos timeout)
@@ -39,7 +39,8 @@ fn wait_until(clock: &impl Clock, deadline: Instant, timeout: Duration) -> io::R
 /// The moment that is so long after another; it fails as a bad input where no clock shows that.
 fn moment_after(now: Instant, time: Duration) -> io::Result<Instant>
     ensures fits { IsOk result ↔ FitsClock (instant_nanos now + as_nanos time) }
-    ensures after { IfOk result (λ moment. instant_nanos moment ≡ instant_nanos now + as_nanos time) }
+    ensures after { IfOk result (λ moment. instant_nanos moment
+        ≡ instant_nanos now + as_nanos time) }
     ensures far { IfErr result (λ error. error_kind error ≡ InvalidInput) }
 {
     match now.checked_add(time) {
@@ -48,10 +49,11 @@ fn moment_after(now: Instant, time: Duration) -> io::Result<Instant>
     }
 }
 
-/// The moment that is so long from now. It fails as a bad input where no clock shows that moment, and with the clock's
-/// error where the clock can't be read.
+/// The moment that is so long from now. It fails as a bad input where no clock shows that moment,
+/// and with the clock's error where the clock can't be read.
 pub fn deadline_after(clock: &impl Clock, time: Duration) -> io::Result<Instant>
-    ensures { IfOk result (λ deadline. (now : Instant) × (instant_nanos deadline ≡ instant_nanos now + as_nanos time)) }
+    ensures { IfOk result (λ deadline. (now : Instant) ×
+        (instant_nanos deadline ≡ instant_nanos now + as_nanos time)) }
 {
     moment_after(Instant::now(clock)?, time)
 }
@@ -59,25 +61,30 @@ pub fn deadline_after(clock: &impl Clock, time: Duration) -> io::Result<Instant>
 /// A stream whose reads and writes wait for a timeout each at most, and never past a deadline: from
 /// then on they fail as timed out. Contracts see the stream.
 #[derive(Drop)]
-pub struct Timed<'a, C, S> {
+pub struct TimedStream<'a, C, S> {
     stream: S,
     clock: &'a C,
     timeout: Duration,
     deadline: Instant,
 }
 
-impl<'a, C, S> Model for Timed<'a, C, S> {
+impl<'a, C, S> Model for TimedStream<'a, C, S> {
     ghost Value = { S };
 
     ghost view = { λ timed. timed.stream };
 }
 
-impl<'a, C: Clock, S: OpenStream> Timed<'a, C, S> {
+impl<'a, C: Clock, S: OpenStream> TimedStream<'a, C, S> {
     /// The stream with a timeout for each call, above 0, and a deadline for all of them.
-    pub fn new(stream: S, clock: &'a C, timeout: Duration, deadline: Instant) -> Timed<'a, C, S>
+    pub fn new(
+        stream: S,
+        clock: &'a C,
+        timeout: Duration,
+        deadline: Instant,
+    ) -> TimedStream<'a, C, S>
         ensures { result ≡ stream }
     {
-        Timed {
+        TimedStream {
             stream,
             clock,
             timeout,
@@ -89,7 +96,7 @@ impl<'a, C: Clock, S: OpenStream> Timed<'a, C, S> {
     pub fn into_inner(self) -> S
         ensures { result ≡ self.entry }
     {
-        let Timed {
+        let TimedStream {
             stream,
             clock: _,
             timeout: _,
@@ -104,7 +111,7 @@ impl<'a, C: Clock, S: OpenStream> Timed<'a, C, S> {
     }
 }
 
-impl<C: Clock, S: Read + OpenStream> Read for Timed<'_, C, S> {
+impl<C: Clock, S: Read + OpenStream> Read for TimedStream<'_, C, S> {
     ghost remaining = { λ timed. S.remaining timed };
 
     fn read(&mut self, piece: &mut [u8]) -> io::Result<usize> {
@@ -113,7 +120,7 @@ impl<C: Clock, S: Read + OpenStream> Read for Timed<'_, C, S> {
     }
 }
 
-impl<C: Clock, S: Write + OpenStream> Write for Timed<'_, C, S> {
+impl<C: Clock, S: Write + OpenStream> Write for TimedStream<'_, C, S> {
     ghost contents = { λ timed. S.contents timed };
 
     fn write(&mut self, piece: &[u8]) -> io::Result<usize> {

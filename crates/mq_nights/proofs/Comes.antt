@@ -11,7 +11,7 @@ use Rattle.mq_ledger.specs.Legal.{Book, IsLegal, IsLegalBook}
 use Rattle.mq_ledger.specs.declared.entry.Entry.{Entry}
 use Rattle.mq_ledger.specs.declared.zone.Zone.{Zone}
 use Rattle.mq_chore.specs.Choring.{HasCome}
-use Rattle.mq_store.specs.declared.reached.Reached.{Reached}
+use Rattle.mq_store.specs.declared.reached.RenewalPlace.{RenewalPlace}
 use Rattle.mq_store.specs.Renewing.{HasCarried}
 use Rattle.mq_store.specs.Soundness.{HasKept}
 use Rattle.mq_store.proofs.Beside.{carried_since}
@@ -23,13 +23,13 @@ if_some (Some a) P Q R f p q = f a p q
 if_some None P Q R f p q = tt
 
 -- a renewal has the terms of a book, and so much of it where the new store was fresh
-abbrev pub Fits : Type 0 → Book → Zone → ℕ → ℕ → Reached → State → State → Type 0
+abbrev pub Fits : Type 0 → Book → Zone → ℕ → ℕ → RenewalPlace → State → State → Type 0
 Fits fresh b zone default day at new scratch = (zone ≡ b.zone) × (default ≡ b.default) × (fresh → IsUnderWay b day at new scratch)
 
-module _ (law : (zone : Zone) (default D : ℕ) (H : List Entry) (came : List Request) (at : Reached) (new scratch : Database) → IsLegal (day_of zone) default H → HasCarried zone default D H at new scratch
+module _ (law : (zone : Zone) (default D : ℕ) (H : List Entry) (came : List Request) (at : RenewalPlace) (new scratch : Database) → IsLegal (day_of zone) default H → HasCarried zone default D H at new scratch
     → HasCarried zone default D (history_of (day_of zone) default (requests H ++ came)) at new scratch) where
   -- what follows of it over the book to which requests came follows of what fitted before them
-  pub comes_on : (fresh Q : Type 0) (since now later : Book) (zone zone' : Zone) (default default' day : ℕ) (at : Reached) (new scratch : State)
+  pub comes_on : (fresh Q : Type 0) (since now later : Book) (zone zone' : Zone) (default default' day : ℕ) (at : RenewalPlace) (new scratch : State)
       → IsLegalBook since → HasCome since now → zone' ≡ zone → default' ≡ default → later.zone ≡ now.zone → later.default ≡ now.default
       → (IsUnderWay now day at new scratch → Q) → Fits fresh since zone default day at new scratch → (zone' ≡ later.zone) × (default' ≡ later.default) × (fresh → Q)
   comes_on fresh Q since now later zone zone' default default' day at new scratch legal come z d lz ld step f =

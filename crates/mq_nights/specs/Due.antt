@@ -6,8 +6,8 @@ use Rattle.mq_ledger.specs.Legal.{Book}
 use Rattle.mq_server.specs.Delivery.{HasGrown}
 use Rattle.mq_store.specs.Days.{AreReservedDays}
 use Rattle.mq_store.specs.declared.days.ReservedDays.{ReservedDays}
-use Rattle.mq_nights.specs.declared.due.Due.{Due}
-use Rattle.mq_nights.specs.declared.due.Due.TheVariants.{Nothing, Differs, Before}
+use Rattle.mq_nights.specs.declared.due.DueDays.{DueDays}
+use Rattle.mq_nights.specs.declared.due.DueDays.TheVariants.{Nothing, Differs, Before}
 
 -- the day that it was three hours ago, and none before the first: so a day begins at 03:00
 abbrev pub night_of : Days → ℕ → ℕ
@@ -22,18 +22,18 @@ abbrev pub first_kept : ℕ → ℕ → ℕ → ℕ
 first_kept keep night newest = min night newest - keep
 
 -- Nothing where no day is older than the first that is kept; and where one is, none is forgotten if the clock's day is far from the newest one.
-abbrev pub due_by : ℕ → ℕ → ℕ → ℕ → Due
+abbrev pub due_by : ℕ → ℕ → ℕ → ℕ → DueDays
 due_by keep night oldest newest =
     if nat_lt oldest (first_kept keep night newest)
     then (if are_far night newest then Differs newest else Before (first_kept keep night newest))
     else Nothing
 
-abbrev pub what_is_due : ℕ → ℕ → Option ReservedDays → Due
+abbrev pub what_is_due : ℕ → ℕ → Option ReservedDays → DueDays
 what_is_due keep night (Some days) = due_by keep night days.oldest days.newest
 what_is_due keep night None = Nothing
 
 -- this is due of a ledger that means this book, at this moment
-pub record IsDue (keep moment : ℕ) (b : Book) (is : Due) : Type 0 where
+pub record IsDue (keep moment : ℕ) (b : Book) (is : DueDays) : Type 0 where
   pub reserved : Option ReservedDays
   pub are_days : AreReservedDays (day_of b.zone) b.history reserved
   pub due : is ≡ what_is_due keep (night_of b.zone moment) reserved

@@ -6,10 +6,10 @@ use Rattle.mq_request.specs.Range.{IsMoment}
 use Rattle.mq_ledger.specs.Day.{day_of}
 use Rattle.mq_ledger.specs.Legal.{Book}
 use Rattle.mq_forget.specs.Remembered.{remembered}
-use Rattle.mq_store.specs.declared.reached.Reached.{Reached}
+use Rattle.mq_store.specs.declared.reached.RenewalPlace.{RenewalPlace}
 use Rattle.mq_store.specs.Renewing.{HasCarried}
 use Rattle.mq_store.specs.Soundness.{HasKept, IsSound, book_in}
-use Rattle.mq_nights.specs.declared.due.Due.TheVariants.{Before}
+use Rattle.mq_nights.specs.declared.due.DueDays.TheVariants.{Before}
 use Rattle.mq_nights.specs.declared.lookout.Sight.{Sight}
 use Rattle.mq_nights.specs.declared.lookout.Sight.TheVariants.{Nothing, Before as Seen}
 use Rattle.mq_nights.specs.Due.{IsDue}
@@ -20,7 +20,7 @@ FindsDue keep b (Nothing time) = ⊤
 FindsDue keep b (Seen day) = (moment : ℕ) × IsMoment moment × IsDue keep moment b (Before day)
 
 -- the new tables are those of what is remembered of the first entries of this book
-abbrev pub IsUnderWay : Book → ℕ → Reached → State → State → Type 0
+abbrev pub IsUnderWay : Book → ℕ → RenewalPlace → State → State → Type 0
 IsUnderWay b day reached new scratch =
     HasKept new → HasCarried b.zone b.default day b.history reached new.now scratch.now
 

@@ -14,17 +14,19 @@ const SMALL_HOURS: u64 = 10_800;
 
 /// What is due of a ledger that keeps so many days.
 #[derive(Clone, Copy, Debug, PartialEq, Eq)]
-pub enum Due {
+pub enum DueDays {
     /// There is no day to be forgotten.
     Nothing,
-    /// There is one, but the clock's day and the newest one on which something was reserved are more than a day apart: one of
-    /// them is wrong, or nothing was reserved for some days. Nothing is forgotten.
+    /// There is one, but the clock's day and the newest one on which something was reserved are
+    /// more than a day apart: one of them is wrong, or nothing was reserved for some days. Nothing
+    /// is forgotten.
     Differs { newest: u32 },
     /// The days before this one are to be forgotten.
     Before(u32),
 }
 
-/// The day that began last of those whose first three hours have passed: today from 03:00 on, and yesterday until then.
+/// The day that began last of those whose first three hours have passed: today from 03:00 on, and
+/// yesterday until then.
 ///
 /// `moment` is 86,400 to 32,503,680,000 seconds since 1970-01-01T00:00:00Z.
 pub fn night_of(zone: &Zone, moment: u64) -> u32
@@ -42,31 +44,33 @@ fn are_far(day: u32, today: u32) -> bool
 }
 
 /// What is due of a ledger on whose oldest day and newest one something was reserved.
-fn due_by(keep: u32, night: u32, oldest: u32, newest: u32) -> Due
+fn due_by(keep: u32, night: u32, oldest: u32, newest: u32) -> DueDays
     ensures { result ≡ due_by keep night oldest newest }
 {
     let first = night.min(newest).saturating_sub(keep);
     if oldest >= first {
-        return Due::Nothing;
+        return DueDays::Nothing;
     }
     if are_far(night, newest) {
-        Due::Differs { newest }
+        DueDays::Differs { newest }
     } else {
-        Due::Before(first)
+        DueDays::Before(first)
     }
 }
 
-/// What is due, this night, of a ledger on these days of which something was reserved, where it keeps today and so many
-/// days before.
-pub fn what_is_due(keep: u32, night: u32, reserved: Option<ReservedDays>) -> Due
+/// What is due, this night, of a ledger on these days of which something was reserved, where it
+/// keeps today and so many days before.
+pub fn what_is_due(keep: u32, night: u32, reserved: Option<ReservedDays>) -> DueDays
     ensures value { result ≡ what_is_due keep night reserved }
 
-    // Whatever the clock shows, what is forgotten lies so many days before the newest day too, and is no empty stretch.
-    ensures spares { (first : ℕ) (days : AnyDays) → reserved ≡ Some days → result ≡ Due.Before first →
+    // Whatever the clock shows, what is forgotten lies so many days before the newest day too, and
+    // is no empty stretch.
+    ensures spares { (first : ℕ) (days : AnyDays) → reserved ≡ Some days
+        → result ≡ DueDays.Before first →
         (first + keep ≤ night) × (first + keep ≤ days.newest) × (days.oldest < first) }
 {
     match reserved {
         Some(days) => due_by(keep, night, days.oldest, days.newest),
-        None => Due::Nothing,
+        None => DueDays::Nothing,
     }
 }

@@ -22,8 +22,8 @@ use std::time::Instant;
 /// How many steps a piece has, so that one costs a request that comes meanwhile at most 10 ms.
 const STEPS: u64 = 32;
 
-/// Begins to take over what a ledger of this zone and default remembers from a day on, into a new store. Why it doesn't is
-/// logged.
+/// Begins to take over what a ledger of this zone and default remembers from a day on, into a new
+/// store. Why it doesn't is logged.
 fn begin_renewal<N: Alter + Drop, P: Parts<N>, G: Log>(
     alloc: Global,
     log: &G,
@@ -33,7 +33,8 @@ fn begin_renewal<N: Alter + Drop, P: Parts<N>, G: Log>(
     day: u32,
 ) -> Option<Renewal<N>>
     requires { IsAmount default }
-    ensures lent { IfSome result (λ r. (r.made.zone ≡ zone) × (r.made.default ≡ default) × (r.day ≡ day)) }
+    ensures lent { IfSome result (λ r. (r.made.zone ≡ zone) × (r.made.default ≡ default)
+        × (r.day ≡ day)) }
     ensures begun { IfSome result (λ r. P.is_fresh → (H : List AnyEntry) →
         IsUnderWay (book_of zone default H) day r.reached (state N.Store r.made.connection)
         (state over_memory r.scratch.connection)) }
@@ -79,9 +80,12 @@ fn renew<N: Alter, S: Alter, G: Log>(
     ledger: &mut SqlLedger<S>,
 ) -> Result<bool, LedgerFault>
     ensures lent { (renewal.new.made.zone ≡ renewal.old.made.zone)
-        × (renewal.new.made.default ≡ renewal.old.made.default) × (renewal.new.day ≡ renewal.old.day) }
-    ensures old_lent { (ledger.new.zone ≡ ledger.old.zone) × (ledger.new.default ≡ ledger.old.default) }
-    ensures old_kept { HasKept (state S.Store ledger.new.connection) → HasKept (state S.Store ledger.old.connection) }
+        × (renewal.new.made.default ≡ renewal.old.made.default)
+        × (renewal.new.day ≡ renewal.old.day) }
+    ensures old_lent { (ledger.new.zone ≡ ledger.old.zone)
+        × (ledger.new.default ≡ ledger.old.default) }
+    ensures old_kept { HasKept (state S.Store ledger.new.connection)
+        → HasKept (state S.Store ledger.old.connection) }
     ensures old_same { HasKept (state S.Store ledger.new.connection)
         → (state S.Store ledger.new.connection).now ≡ (state S.Store ledger.old.connection).now }
     ensures old_sound { HasKept (state S.Store ledger.new.connection)
@@ -89,19 +93,23 @@ fn renew<N: Alter, S: Alter, G: Log>(
         → IsSound ledger.new.zone ledger.new.default (state S.Store ledger.new.connection) }
     ensures under_way { HasKept (state S.Store ledger.new.connection)
         → IsSound ledger.old.zone ledger.old.default (state S.Store ledger.old.connection)
-        → OnOk result (IsUnderWay (book_in ledger.old.zone ledger.old.default (state S.Store ledger.old.connection).now)
+        → OnOk result (IsUnderWay (book_in ledger.old.zone ledger.old.default
+        (state S.Store ledger.old.connection).now)
         renewal.old.day renewal.old.reached (state N.Store renewal.old.made.connection)
         (state over_memory renewal.old.scratch.connection)
-        → IsUnderWay (book_in ledger.new.zone ledger.new.default (state S.Store ledger.new.connection).now)
+        → IsUnderWay (book_in ledger.new.zone ledger.new.default
+        (state S.Store ledger.new.connection).now)
         renewal.new.day renewal.new.reached (state N.Store renewal.new.made.connection)
         (state over_memory renewal.new.scratch.connection)) }
     ensures through { HasKept (state S.Store ledger.new.connection)
         → IsSound ledger.old.zone ledger.old.default (state S.Store ledger.old.connection)
         → IfOk result (λ is_through. IsTrue is_through
-        → IsUnderWay (book_in ledger.old.zone ledger.old.default (state S.Store ledger.old.connection).now)
+        → IsUnderWay (book_in ledger.old.zone ledger.old.default
+        (state S.Store ledger.old.connection).now)
         renewal.old.day renewal.old.reached (state N.Store renewal.old.made.connection)
         (state over_memory renewal.old.scratch.connection)
-        → HasRenewed (book_in ledger.new.zone ledger.new.default (state S.Store ledger.new.connection).now)
+        → HasRenewed (book_in ledger.new.zone ledger.new.default
+        (state S.Store ledger.new.connection).now)
         renewal.new.day (state N.Store renewal.new.made.connection)) }
 {
     match renewal.go_on(ledger, STEPS) {
@@ -122,8 +130,8 @@ fn log_fault<N: Alter, G: Log>(log: &G, renewal: &Renewal<N>, fault: LedgerFault
     }
 }
 
-/// A renewal beside the requests to the old ledger, which begins once days are due to be forgotten. Where a store fails the
-/// renewal ends, not the serving, and another one begins an hour later.
+/// A renewal beside the requests to the old ledger, which begins once days are due to be forgotten.
+/// Where a store fails the renewal ends, not the serving, and another one begins an hour later.
 #[derive(Drop)]
 pub struct Evening<'a, C, G, N: Alter, P> {
     clock: &'a C,
@@ -138,7 +146,7 @@ pub struct Evening<'a, C, G, N: Alter, P> {
 
 /// A new ledger, with exactly what the old one remembers from a day on.
 #[derive(Drop)]
-pub struct Renewed<N: Alter> {
+pub struct RenewedLedger<N: Alter> {
     pub ledger: SqlLedger<N>,
     /// That day: days since 1970-01-01, by the ledger's zone.
     pub day: u32,
@@ -149,8 +157,8 @@ pub struct Renewed<N: Alter> {
 }
 
 impl<'a, C: Clock, G: Log, N: Alter + Drop, P: Parts<N> + Drop> Evening<'a, C, G, N, P> {
-    /// Nothing is renewed yet. Of the old ledger today stays, and so many days before: 1 to 366. In this night nothing is left
-    /// to do.
+    /// Nothing is renewed yet. Of the old ledger today stays, and so many days before: 1 to 366. In
+    /// this night nothing is left to do.
     pub fn new(
         clock: &'a C,
         log: &'a G,
@@ -174,7 +182,7 @@ impl<'a, C: Clock, G: Log, N: Alter + Drop, P: Parts<N> + Drop> Evening<'a, C, G
     }
 
     /// The new ledger, where a renewal has begun.
-    pub fn into_renewed(self) -> Option<Renewed<N>>
+    pub fn into_renewed(self) -> Option<RenewedLedger<N>>
         ensures { MatchOption self.entry.renewal (result ≡ None)
             (λ r. IfSome result (λ n. (n.ledger ≡ r.made) × (n.day ≡ r.day))) }
     {
@@ -190,7 +198,7 @@ impl<'a, C: Clock, G: Log, N: Alter + Drop, P: Parts<N> + Drop> Evening<'a, C, G
         let renewal = renewal?;
         let day = renewal.day();
         let ledger = renewal.into_ledger();
-        Some(Renewed {
+        Some(RenewedLedger {
             ledger,
             day,
             began,
@@ -202,7 +210,8 @@ impl<'a, C: Clock, G: Log, N: Alter + Drop, P: Parts<N> + Drop> Evening<'a, C, G
     fn begin(&mut self, zone: Zone, default: u32, day: u32) -> Piece
         requires { IsAmount default }
         ensures more { result ≡ Piece.Done → ⊥ }
-        ensures lent { IfSome self.new.renewal (λ r. (r.made.zone ≡ zone) × (r.made.default ≡ default) × (r.day ≡ day)) }
+        ensures lent { IfSome self.new.renewal (λ r. (r.made.zone ≡ zone)
+            × (r.made.default ≡ default) × (r.day ≡ day)) }
         ensures begun { IfSome self.new.renewal (λ r. P.is_fresh → (H : List AnyEntry) →
             IsUnderWay (book_of zone default H) r.day r.reached (state N.Store r.made.connection)
             (state over_memory r.scratch.connection)) }
@@ -220,16 +229,20 @@ impl<'a, C: Clock, G: Log, N: Alter + Drop, P: Parts<N> + Drop> Evening<'a, C, G
     fn look<S: Alter>(&mut self, ledger: &mut SqlLedger<S>) -> Piece
         requires { self.old.renewal ≡ None }
         ensures more { result ≡ Piece.Done → ⊥ }
-        ensures old_lent { (ledger.new.zone ≡ ledger.old.zone) × (ledger.new.default ≡ ledger.old.default) }
-        ensures old_kept { HasKept (state S.Store ledger.new.connection) → HasKept (state S.Store ledger.old.connection) }
+        ensures old_lent { (ledger.new.zone ≡ ledger.old.zone)
+            × (ledger.new.default ≡ ledger.old.default) }
+        ensures old_kept { HasKept (state S.Store ledger.new.connection)
+            → HasKept (state S.Store ledger.old.connection) }
         ensures old_same { HasKept (state S.Store ledger.new.connection)
-            → (state S.Store ledger.new.connection).now ≡ (state S.Store ledger.old.connection).now }
+            → (state S.Store ledger.new.connection).now
+            ≡ (state S.Store ledger.old.connection).now }
         ensures old_sound { HasKept (state S.Store ledger.new.connection)
             → IsSound ledger.old.zone ledger.old.default (state S.Store ledger.old.connection)
             → IsSound ledger.new.zone ledger.new.default (state S.Store ledger.new.connection) }
         ensures due { HasKept (state S.Store ledger.new.connection)
             → IsSound ledger.old.zone ledger.old.default (state S.Store ledger.old.connection)
-            → IfSome self.new.renewal (λ r. FindsDue self.old.lookout.keep (book_in ledger.old.zone ledger.old.default
+            → IfSome self.new.renewal (λ r. FindsDue self.old.lookout.keep
+            (book_in ledger.old.zone ledger.old.default
             (state S.Store ledger.old.connection).now) (Sight.Before r.day)) }
         ensures lent { IfSome self.new.renewal (λ r. (r.made.zone ≡ ledger.new.zone)
             × (r.made.default ≡ ledger.new.default)) }
@@ -258,11 +271,13 @@ impl<'a, C: Clock, G: Log, N: Alter + Drop, P: Parts<N> + Drop, S: Alter> Chore<
     ghost use Rattle.sqlite.specs.Steps.{over_memory};
     ghost use Rattle.mq_nights.specs.Nights.{HasRenewed, IsUnderWay};
 
-    ghost fits = { λ e b. IfSome e.renewal (λ r. (r.made.zone ≡ b.zone) × (r.made.default ≡ b.default)
+    ghost fits = { λ e b. IfSome e.renewal (λ r. (r.made.zone ≡ b.zone)
+        × (r.made.default ≡ b.default)
         × (P.is_fresh → IsUnderWay b r.day r.reached (state N.Store r.made.connection)
         (state over_memory r.scratch.connection))) };
 
-    ghost is_done = { λ e b. MatchOption e.renewal ⊥ (λ r. (r.made.zone ≡ b.zone) × (r.made.default ≡ b.default)
+    ghost is_done = { λ e b. MatchOption e.renewal ⊥ (λ r. (r.made.zone ≡ b.zone)
+        × (r.made.default ≡ b.default)
         × (P.is_fresh → HasRenewed b r.day (state N.Store r.made.connection))) };
 
     fn go_on(&mut self, ledger: &mut SqlLedger<S>) -> Piece {

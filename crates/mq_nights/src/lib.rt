@@ -1,8 +1,8 @@
 //! Days leave a ledger while its server serves.
 //!
-//! [`pass_night`] serves connections until days are due to be forgotten and a new ledger has exactly what stays, which it
-//! takes over between the rounds. [`what_is_due`] says which days those are, and [`Parts`] makes the store of the new
-//! ledger. From `mq_program/src/nights.rt`:
+//! [`pass_night`] serves connections until days are due to be forgotten and a new ledger has
+//! exactly what stays, which it takes over between the rounds. [`what_is_due`] says which days
+//! those are, and [`Parts`] makes the store of the new ledger. From `mq_program/src/nights.rt`:
 //!
 //!     match pass_night(
 //!         rt,
@@ -17,10 +17,10 @@
 //!         left,
 //!     ) {
 //!
-//! It stands on `mq_request`, `mq_ledger`, `mq_forget`, `mq_chore`, `mq_server`, `mq_link`, `mq_watch`, `mq_store` and
-//! `mq_connections`: it knows when a renewal is due and goes on with it, and neither files nor how the one ledger takes the
-//! other's place. Begin with `specs/Due.antt`, which days are due, and `night.rt`; `evening.rt` is the chore beside the
-//! serving.
+//! It stands on `mq_request`, `mq_ledger`, `mq_forget`, `mq_chore`, `mq_server`, `mq_link`,
+//! `mq_watch`, `mq_store` and `mq_connections`: it knows when a renewal is due and goes on with it,
+//! and neither files nor how the one ledger takes the other's place. Begin with `specs/Due.antt`,
+//! which days are due, and `night.rt`; `evening.rt` is the chore beside the serving.
 #![tactic(auto)]
 
 mod due;
@@ -29,8 +29,8 @@ mod lookout;
 mod night;
 mod parts;
 
-pub use due::{Due, night_of, what_is_due};
-pub use evening::{Evening, Renewed};
+pub use due::{DueDays, night_of, what_is_due};
+pub use evening::{Evening, RenewedLedger};
 pub use lookout::due_at;
 pub use night::pass_night;
 pub use parts::{NoPart, Parts};

@@ -1,5 +1,5 @@
 //! Looking out for days that are due to be forgotten.
-ghost use Rattle.std.specs.Prelude.{◌≡◌, ◌-◌, ◌*◌, ◌%◌, IfOk, IfSome};
+ghost use Rattle.std.specs.Prelude.{◌≡◌, ◌-◌, ◌*◌, ◌%◌, Some, None, IfOk, IfSome};
 ghost use Rattle.std.specs.Duration.{as_nanos};
 ghost use Rattle.sqlite.specs.Held.{state};
 ghost use Rattle.mq_request.specs.Range.{IsMoment};
@@ -7,7 +7,7 @@ ghost use Rattle.mq_store.specs.Soundness.{book_in, HasKept, IsSound};
 ghost use Rattle.mq_nights.specs.Due.{IsDue};
 ghost use Rattle.mq_nights.specs.Nights.{FindsDue};
 
-use crate::due::{Due, night_of, what_is_due};
+use crate::due::{DueDays, night_of, what_is_due};
 use log::{Log, warn};
 use mq_ledger::{Ledger, LedgerFault};
 use mq_link::deadline_after;
@@ -32,8 +32,8 @@ pub enum Sight {
     Before(u32),
 }
 
-/// The moment that the clock shows, in seconds since 1970-01-01T00:00:00Z, where it can be read and shows one of those of
-/// a ledger.
+/// The moment that the clock shows, in seconds since 1970-01-01T00:00:00Z, where it can be read and
+/// shows one of those of a ledger.
 fn moment_of(clock: &impl Clock) -> Option<u64>
     ensures { IfSome result IsMoment }
 {
@@ -52,15 +52,17 @@ fn time_to_quarter(moment: u64) -> Duration
     Duration::from_secs(QUARTER - moment % QUARTER)
 }
 
-/// What is due of a ledger that keeps today and so many days before, at a moment. Nothing is written.
+/// What is due of a ledger that keeps today and so many days before, at a moment. Nothing is
+/// written.
 pub fn due_at<S: Alter>(
     ledger: &mut SqlLedger<S>,
     keep: u32,
     moment: u64,
-) -> Result<Due, LedgerFault>
+) -> Result<DueDays, LedgerFault>
     requires { IsMoment moment }
     ensures lent { (ledger.new.zone ≡ ledger.old.zone) × (ledger.new.default ≡ ledger.old.default) }
-    ensures kept { HasKept (state S.Store ledger.new.connection) → HasKept (state S.Store ledger.old.connection) }
+    ensures kept { HasKept (state S.Store ledger.new.connection)
+        → HasKept (state S.Store ledger.old.connection) }
     ensures same { HasKept (state S.Store ledger.new.connection)
         → (state S.Store ledger.new.connection).now ≡ (state S.Store ledger.old.connection).now }
     ensures sound { HasKept (state S.Store ledger.new.connection)
@@ -92,7 +94,8 @@ pub struct Lookout<'a, C, G> {
 impl<'a, C: Clock, G: Log> Lookout<'a, C, G> {
     /// So many days before today are kept, and in this night nothing is left to do.
     pub fn new(clock: &'a C, log: &'a G, keep: u32, done: Option<u32>) -> Lookout<'a, C, G>
-        ensures { result.keep ≡ keep }
+        ensures keep { result.keep ≡ keep }
+        ensures done { result.done ≡ done }
     {
         Lookout {
             clock,
@@ -111,14 +114,17 @@ impl<'a, C: Clock, G: Log> Lookout<'a, C, G> {
 
     /// It doesn't look for so long.
     pub fn rest(&mut self, time: Duration)
-        ensures { self.new.keep ≡ self.old.keep }
+        ensures keep { self.new.keep ≡ self.old.keep }
+        ensures done { self.new.done ≡ self.old.done }
     {
         self.next = deadline_after(self.clock, time).ok();
     }
 
     /// It looks again in an hour, also in the same night.
     pub fn rest_an_hour(&mut self) -> Duration
-        ensures { self.new.keep ≡ self.old.keep }
+        ensures keep { self.new.keep ≡ self.old.keep }
+        ensures again { self.new.done ≡ None }
+        ensures hour { as_nanos result ≡ 3_600 * 1_000_000_000 }
     {
         self.done = None;
         let time = Duration::from_secs(HOUR);
@@ -128,7 +134,8 @@ impl<'a, C: Clock, G: Log> Lookout<'a, C, G> {
 
     /// There is nothing to do this night.
     fn rest_a_night(&mut self, night: u32, moment: u64) -> Duration
-        ensures { self.new.keep ≡ self.old.keep }
+        ensures keep { self.new.keep ≡ self.old.keep }
+        ensures done { self.new.done ≡ Some night }
     {
         self.done = Some(night);
         let time = time_to_quarter(moment);
@@ -140,10 +147,13 @@ impl<'a, C: Clock, G: Log> Lookout<'a, C, G> {
     fn look_at<S: Alter>(&mut self, ledger: &mut SqlLedger<S>, moment: u64) -> Sight
         requires { IsMoment moment }
         ensures keep { self.new.keep ≡ self.old.keep }
-        ensures lent { (ledger.new.zone ≡ ledger.old.zone) × (ledger.new.default ≡ ledger.old.default) }
-        ensures kept { HasKept (state S.Store ledger.new.connection) → HasKept (state S.Store ledger.old.connection) }
+        ensures lent { (ledger.new.zone ≡ ledger.old.zone)
+            × (ledger.new.default ≡ ledger.old.default) }
+        ensures kept { HasKept (state S.Store ledger.new.connection)
+            → HasKept (state S.Store ledger.old.connection) }
         ensures same { HasKept (state S.Store ledger.new.connection)
-            → (state S.Store ledger.new.connection).now ≡ (state S.Store ledger.old.connection).now }
+            → (state S.Store ledger.new.connection).now
+            ≡ (state S.Store ledger.old.connection).now }
         ensures sound { HasKept (state S.Store ledger.new.connection)
             → IsSound ledger.old.zone ledger.old.default (state S.Store ledger.old.connection)
             → IsSound ledger.new.zone ledger.new.default (state S.Store ledger.new.connection) }
@@ -157,12 +167,12 @@ impl<'a, C: Clock, G: Log> Lookout<'a, C, G> {
             return Sight::Nothing(self.rest_a_night(night, moment));
         }
         match due_at(ledger, self.keep, moment) {
-            Ok(Due::Before(day)) => {
+            Ok(DueDays::Before(day)) => {
                 self.done = Some(night);
                 Sight::Before(day)
             }
-            Ok(Due::Nothing) => Sight::Nothing(self.rest_a_night(night, moment)),
-            Ok(Due::Differs { newest }) => {
+            Ok(DueDays::Nothing) => Sight::Nothing(self.rest_a_night(night, moment)),
+            Ok(DueDays::Differs { newest }) => {
                 warn!(
                     self.log;
                     "nothing is forgotten: it is day {night}, and something was reserved on day {newest} last"
@@ -178,15 +188,19 @@ impl<'a, C: Clock, G: Log> Lookout<'a, C, G> {
 
     /// Looks whether days of a ledger are due, unless it is to rest still. Nothing is written.
     ///
-    /// Days are due at once, or as a night begins: at 03:00, which it looks for each quarter of an hour. A night in which they
-    /// were due is done, whatever comes to earlier days later in it, from a host whose clock is slow. After a fault it rests
-    /// for an hour. Where clock and newest day differ that is logged, once a night.
+    /// Days are due at once, or as a night begins: at 03:00, which it looks for each quarter of an
+    /// hour. A night in which they were due is done, whatever comes to earlier days later in it,
+    /// from a host whose clock is slow. After a fault it rests for an hour. Where clock and newest
+    /// day differ that is logged, once a night.
     pub fn look<S: Alter>(&mut self, ledger: &mut SqlLedger<S>) -> Sight
         ensures keep { self.new.keep ≡ self.old.keep }
-        ensures lent { (ledger.new.zone ≡ ledger.old.zone) × (ledger.new.default ≡ ledger.old.default) }
-        ensures kept { HasKept (state S.Store ledger.new.connection) → HasKept (state S.Store ledger.old.connection) }
+        ensures lent { (ledger.new.zone ≡ ledger.old.zone)
+            × (ledger.new.default ≡ ledger.old.default) }
+        ensures kept { HasKept (state S.Store ledger.new.connection)
+            → HasKept (state S.Store ledger.old.connection) }
         ensures same { HasKept (state S.Store ledger.new.connection)
-            → (state S.Store ledger.new.connection).now ≡ (state S.Store ledger.old.connection).now }
+            → (state S.Store ledger.new.connection).now
+            ≡ (state S.Store ledger.old.connection).now }
         ensures sound { HasKept (state S.Store ledger.new.connection)
             → IsSound ledger.old.zone ledger.old.default (state S.Store ledger.old.connection)
             → IsSound ledger.new.zone ledger.new.default (state S.Store ledger.new.connection) }

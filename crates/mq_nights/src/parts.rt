@@ -18,9 +18,11 @@ pub trait Parts<N: Alter> {
     /// What is supposed of a store that was just made.
     ghost is_fresh: { Type 0 } = { ⊤ };
 
-    /// A connection to an empty store, in place of one that was made before. Why there is none is logged.
+    /// A connection to an empty store, in place of one that was made before. Why there is none is
+    /// logged.
     fn part(&mut self) -> Result<Connection<N>, NoPart>
-        ensures { IfOk result (λ c. is_fresh → HasCleanDisk (state N.Store c) → IsFree (state N.Store c).now) };
+        ensures { IfOk result (λ c. is_fresh → HasCleanDisk (state N.Store c)
+            → IsFree (state N.Store c).now) };
 
     /// Removes what the last call of `part` made: its connection is gone, and it is of no use.
     fn discard(&mut self);

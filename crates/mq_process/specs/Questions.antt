@@ -1,7 +1,7 @@
 -- What a quota server may be asked once, and what that leads to.
 use Rattle.std.specs.Prelude.{⊤, ℕ, List, Option, Result}
 use Rattle.mq_request.specs.Range.{IsHost, IsRun}
-use Rattle.mq_link.specs.declared.link.Told.{Told}
+use Rattle.mq_link.specs.declared.link.ReportedExchange.{ReportedExchange}
 use Rattle.mq_command.specs.Orders.{Prints}
 use Rattle.mq_command.specs.Probing.{AsksHost, Checks, PrintsAnswer, Probes, taken_lines}
 use Rattle.mq_command.specs.declared.ask.AskFault.{AskFault}
@@ -16,7 +16,7 @@ IsQuestion (Host host now) = IsHost host.now × IsRun now
 IsQuestion (Check host now) = IsHost host.now × IsRun now
 
 -- a question was put once to the server of this name, and what came of it was printed, with this status
-abbrev pub Puts : List ℕ → Question → ℕ → Option (List Told) → Option (List Told) → Option (List ℕ) → Option (List ℕ) → Type 0
+abbrev pub Puts : List ℕ → Question → ℕ → Option (List ReportedExchange) → Option (List ReportedExchange) → Option (List ℕ) → Option (List ℕ) → Type 0
 Puts server Status status old new output output' =
     (ended : Result (Unit {0}) AskFault) × Probes old new ended × PrintsAnswer server output output' ended status
 Puts server (Host host now) status old new output output' =

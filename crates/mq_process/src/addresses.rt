@@ -3,7 +3,8 @@ ghost use Rattle.std.specs.Prelude.{◌≡◌, List, ℕ, length, map};
 
 use std::marker::Model;
 
-/// The servers that a command asks in turn: the numeric address and port of each, as the words give them.
+/// The servers that a command asks in turn: the numeric address and port of each, as the words give
+/// them.
 #[derive(Drop)]
 pub struct Servers<'a> {
     addresses: Vec<&'a str>,

@@ -173,7 +173,8 @@ pub struct ResumeArguments<'a> {
     pub login: LoginArgument<'a>,
     /// The day from which on the login has more again; a given number is 0 to 376,199.
     pub day: DayArgument,
-    /// How many recipients more it has on that day, and on each later day, 0 to 1,000,000, or the limit that it had.
+    /// How many recipients more it has on that day, and on each later day, 0 to 1,000,000, or the
+    /// limit that it had.
     pub cap: Option<u32>,
 }
 
@@ -182,7 +183,8 @@ pub struct ResumeArguments<'a> {
 pub struct DayArguments<'a> {
     /// The file of the server's settings.
     pub config: &'a str,
-    /// The second since 1970-01-01T00:00:00Z whose day is asked for, 86,400 to 32,503,680,000, or the clock's.
+    /// The second since 1970-01-01T00:00:00Z whose day is asked for, 86,400 to 32,503,680,000, or
+    /// the clock's.
     pub moment: Option<u64>,
 }
 
@@ -195,7 +197,8 @@ pub struct RetireArguments<'a> {
     pub config: Option<&'a str>,
     /// The host whose runs are given up, or that of the filter's settings.
     pub host: Option<&'a str>,
-    /// The number of the run below which they are given up, 1 to 281,474,976,710,655, or the clock's.
+    /// The number of the run below which they are given up, 1 to 281,474,976,710,655, or the
+    /// clock's.
     pub run: Option<u64>,
 }
 

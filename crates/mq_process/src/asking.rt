@@ -1,9 +1,11 @@
-//! What the subcommands that ask a server have in common: their words checked, the link, and the first number of a run.
+//! What the subcommands that ask a server have in common: their words checked, the link, and the
+//! first number of a run.
 ghost use Rattle.std.specs.Prelude.{◌≡◌, Err, IfErr, IfOk, MatchBool, MatchResult, None, map};
 ghost use Rattle.mq_command.specs.Vis.{note_of};
 ghost use Rattle.std.specs.Net.Grammar.{IsSocketText};
 ghost use Rattle.mq_request.specs.Range.{IsHost, IsLogin};
-ghost use Rattle.mq_process.specs.Refusals.{HasNoAddress, IsNoAddress, Names, NamesLogin, OrderRefuses};
+ghost use Rattle.mq_process.specs.Refusals.{HasNoAddress, IsNoAddress, Names, NamesLogin};
+ghost use Rattle.mq_process.specs.Refusals.{OrderRefuses};
 
 use crate::arguments::LoginArgument;
 use crate::dialing::Dial;
@@ -13,7 +15,7 @@ use log::sink::Console;
 use log::{LevelFilter, Log, Logged, error};
 use mq_command::{TRIES, is_login_text, login_of_text, note_of};
 use mq_link::LoggedLink;
-use mq_request::{Escaped, Host, Id, Login, is_host, is_login};
+use mq_request::{EscapedText, Host, Id, Login, is_host, is_login};
 use mq_settings::address_flaw;
 use std::alloc::{AllocError, Global};
 use std::io::Write;
@@ -27,7 +29,7 @@ fn refused_address<R: Eprint>(rt: &R, text: &str) -> ProcessFault
     ensures { result ≡ ProcessFault.Address }
 {
     let logged = Logged::new(rt, LevelFilter::Error, Console(rt));
-    let shown = Escaped(text.as_bytes());
+    let shown = EscapedText(text.as_bytes());
     let flaw = address_flaw(text);
     error!(logged; "address {shown}: {flaw}");
     ProcessFault::Address
@@ -77,7 +79,8 @@ pub fn checked<R: Eprint>(
     login: LoginArgument<'_>,
     servers: &[&str],
 ) -> Result<(), ProcessFault>
-    ensures refuses { OrderRefuses host.now login.entry (map (λ s. s.now) servers.now) (λ fault. result ≡ Err fault) }
+    ensures refuses { OrderRefuses host.now login.entry (map (λ s. s.now) servers.now)
+        (λ fault. result ≡ Err fault) }
     ensures host { IfOk result (λ _. IsHost host.now) }
     ensures login { IfOk result (λ _. NamesLogin login.entry) }
     ensures addresses { IfOk result (λ _. ¬ HasNoAddress (map (λ s. s.now) servers.now)) }

@@ -44,8 +44,8 @@ pub fn elapsed(rt: &impl Clock, since: Option<Instant>) -> Option<Duration> {
     since?.elapsed(rt).ok()
 }
 
-/// The given number of a run, 1 to 281,474,976,710,655, or the clock's milliseconds since 1970. It fails with `NoRun`
-/// where the clock can't be read, or its milliseconds can't be such a number.
+/// The given number of a run, 1 to 281,474,976,710,655, or the clock's milliseconds since 1970. It
+/// fails with `NoRun` where the clock can't be read, or its milliseconds can't be such a number.
 pub fn run_number(rt: &impl Clock, given: Option<u64>) -> Result<u64, ProcessFault>
     requires { IfSome given IsRun }
     ensures run { IfOk result IsRun }

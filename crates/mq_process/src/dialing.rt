@@ -13,11 +13,12 @@ pub trait Dial {
 
     type Link: Link + Explain + Drop;
 
-    // The link leads to this address, and so many milliseconds may pass over each step of an exchange.
+    // The link leads to this address, and so many milliseconds may pass over each step of an
+    // exchange.
     ghost leads: { Self.Link → SocketAddr → ℕ → Type 0 };
 
-    /// A link to the server at this address, over which nothing went yet. `timeout`, above 0, is how many milliseconds it
-    /// may take to connect, to write a request and to read its reply.
+    /// A link to the server at this address, over which nothing went yet. `timeout`, above 0, is
+    /// how many milliseconds it may take to connect, to write a request and to read its reply.
     fn link(&self, address: SocketAddr, timeout: u64) -> Self::Link
         ensures { leads result address timeout };
 }

@@ -5,7 +5,8 @@ use mq_settings::{FileFault, SettingsFault};
 use std::alloc::{AllocError, AllocFailed};
 use thiserror::Error;
 
-/// Why a subcommand isn't done before it asks a server or opens a ledger. Its text is printed after `mailquota: `.
+/// Why a subcommand isn't done before it asks a server or opens a ledger. Its text is printed after
+/// `mailquota: `.
 #[derive(Debug, Drop, Error)]
 pub enum ProcessFault {
     #[error("bad host")]
@@ -17,7 +18,8 @@ pub enum ProcessFault {
     /// The words name no server, and no settings are where they belong.
     #[error("no server is named; use --server, or copy the server's settings to /etc/mailquota/server.toml or the filter's to /etc/mailquota/filter.toml")]
     NoServer,
-    /// The words name no day, and no settings of a server are where they belong, which have the zone of today.
+    /// The words name no day, and no settings of a server are where they belong, which have the
+    /// zone of today.
     #[error("no day is named; use --day or --from, or copy the server's settings to /etc/mailquota/server.toml")]
     NoDay,
     /// The words name no host, and no settings of a filter are where they belong.
@@ -32,10 +34,12 @@ pub enum ProcessFault {
     /// The clock can't be read, or its milliseconds can't be a run's number.
     #[error("run number unavailable")]
     NoRun,
-    /// The clock can't be read, or what it shows is before 1970-01-02 or after 3000-01-01T00:00:00Z.
+    /// The clock can't be read, or what it shows is before 1970-01-02 or after
+    /// 3000-01-01T00:00:00Z.
     #[error("day unavailable")]
     NoMoment,
-    /// The day that is given isn't today, which is the second one: by the zone of the settings, or in UTC where none are given.
+    /// The day that is given isn't today, which is the second one: by the zone of the settings, or
+    /// in UTC where none are given.
     #[error("day {0} is not today, which is day {1}; use --force")]
     NotToday(u32, u32),
 }

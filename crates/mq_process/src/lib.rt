@@ -1,16 +1,18 @@
-//! What the subcommands have in common before they ask a server or open a ledger: what each is given, as types, their settings,
-//! the clock, the words checked, the link, and whether a server answers.
+//! What the subcommands have in common before they ask a server or open a ledger: what each is
+//! given, as types, their settings, the clock, the words checked, the link, and whether a server
+//! answers.
 //!
-//! `mq_words` makes an [`Arguments`] of the words of a command line, and `mq_remote` and `mq_program` do what it asks for: so a
-//! change of the words proves neither again. Each fault here is a [`ProcessFault`], which has its exit status. From
-//! `mq_remote/src/subcommands/limit.rt`:
+//! `mq_words` makes an [`Arguments`] of the words of a command line, and `mq_remote` and
+//! `mq_program` do what it asks for: so a change of the words proves neither again. Each fault here
+//! is a [`ProcessFault`], which has its exit status. From `mq_remote/src/subcommands/limit.rt`:
 //!
 //!     let words = given.servers.as_slice();
 //!     checked(rt, given.host, given.login, words)?;
 //!
-//! It stands on `mq_request`, `mq_ledger`, `mq_settings`, `mq_link` and `mq_command`. Begin with `arguments.rt`, `settings.rt` and
-//! `asking.rt`; `specs/Arguments.antt` has the ranges that `mq_words` proves, `specs/Refusals.antt` says which words are refused,
-//! and in which order, and `specs/Whom.antt` whom a command asks.
+//! It stands on `mq_request`, `mq_ledger`, `mq_settings`, `mq_link` and `mq_command`. Begin with
+//! `arguments.rt`, `settings.rt` and `asking.rt`; `specs/Arguments.antt` has the ranges that
+//! `mq_words` proves, `specs/Refusals.antt` says which words are refused, and in which order, and
+//! `specs/Whom.antt` whom a command asks.
 #![tactic(auto)]
 
 mod addresses;

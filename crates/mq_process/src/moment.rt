@@ -17,7 +17,8 @@ use std::time::Duration;
 
 /// The whole seconds of a time, where they can be a moment.
 fn moment_of(time: Duration) -> Option<u64>
-    ensures { SomeIff result (IsMoment (as_nanos time / 1_000_000_000)) (as_nanos time / 1_000_000_000) }
+    ensures { SomeIff result (IsMoment (as_nanos time / 1_000_000_000))
+        (as_nanos time / 1_000_000_000) }
 {
     let seconds = time.as_secs();
     if is_moment(seconds) {
@@ -34,8 +35,8 @@ fn moment_of_clock(rt: &impl Clock) -> Option<u64>
     moment_of(time_of_clock(rt)?)
 }
 
-/// The given moment, 86,400 to 32,503,680,000 seconds since 1970-01-01T00:00:00Z, or the clock's. It fails with
-/// `NoMoment` where the clock can't be read, or what it shows is out of this range.
+/// The given moment, 86,400 to 32,503,680,000 seconds since 1970-01-01T00:00:00Z, or the clock's.
+/// It fails with `NoMoment` where the clock can't be read, or what it shows is out of this range.
 pub fn moment_or_now(rt: &impl Clock, given: Option<u64>) -> Result<u64, ProcessFault>
     requires { IfSome given IsMoment }
     ensures moment { IfOk result IsMoment }
@@ -51,7 +52,8 @@ pub fn moment_or_now(rt: &impl Clock, given: Option<u64>) -> Result<u64, Process
     }
 }
 
-/// `day`: prints the day number of the moment that is given, or of now, in the zone of a server's settings.
+/// `day`: prints the day number of the moment that is given, or of now, in the zone of a server's
+/// settings.
 pub fn day<R: Files + Clock + Eprint + AllocGlobal, W: Write, E: Write>(
     rt: &R,
     given: DayArguments<'_>,
@@ -59,7 +61,8 @@ pub fn day<R: Files + Clock + Eprint + AllocGlobal, W: Write, E: Write>(
     errors: &mut E,
 ) -> Result<u8, ProcessFault>
     requires { IfSome given.moment IsMoment }
-    ensures { PrintsDay R.File.remaining given.entry.moment (W.contents output.old) (W.contents output.new) result }
+    ensures { PrintsDay R.File.remaining given.entry.moment (W.contents output.old)
+        (W.contents output.new) result }
 {
     let settings = match server_settings(rt, given.config) {
         Ok(settings) => settings,

@@ -27,8 +27,9 @@ pub enum Question<'a> {
     Check(&'a Host, u64),
 }
 
-/// Asks the server at this address once, and prints what it answers. The status is 1 where it doesn't answer, or doesn't take
-/// the requests of the host that is asked about. It fails with `Memory` before it asks.
+/// Asks the server at this address once, and prints what it answers. The status is 1 where it
+/// doesn't answer, or doesn't take the requests of the host that is asked about. It fails with
+/// `Memory` before it asks.
 pub fn probe<R: Print + Eprint + AllocGlobal, D: Dial, E: Write>(
     rt: &R,
     dial: &D,
@@ -44,8 +45,9 @@ pub fn probe<R: Print + Eprint + AllocGlobal, D: Dial, E: Write>(
     ask_once(rt, dial, address, TIMEOUT, question, errors)
 }
 
-/// Asks the server at this address once, with so many milliseconds to connect, to write and to read, and prints what it
-/// answers. Why it doesn't is logged. It fails with `Memory` before it asks.
+/// Asks the server at this address once, with so many milliseconds to connect, to write and to
+/// read, and prints what it answers. Why it doesn't is logged. It fails with `Memory` before it
+/// asks.
 pub fn ask_once<R: Print + Eprint + AllocGlobal, D: Dial, E: Write>(
     rt: &R,
     dial: &D,
@@ -65,7 +67,8 @@ pub fn ask_once<R: Print + Eprint + AllocGlobal, D: Dial, E: Write>(
     Ok(put(rt, &mut link, server.as_str(), question, errors))
 }
 
-/// Puts a question once over a link, and prints what comes of it. `server` is how the server is named there.
+/// Puts a question once over a link, and prints what comes of it. `server` is how the server is
+/// named there.
 fn put<R: Print + AllocGlobal, K: Link, E: Write>(
     rt: &R,
     link: &mut K,

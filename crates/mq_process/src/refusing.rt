@@ -16,7 +16,8 @@ pub fn refuse<F: Display, E: Write>(fault: &F, status: u8, errors: &mut E) -> u8
 
 /// Prints why a subcommand that opens no ledger isn't done, if it isn't, and gives the exit status.
 pub fn end_process<E: Write>(outcome: Result<u8, ProcessFault>, errors: &mut E) -> u8
-    ensures { MatchResult outcome (λ status. result ≡ status) (λ fault. result ≡ process_status fault) }
+    ensures { MatchResult outcome (λ status. result ≡ status)
+        (λ fault. result ≡ process_status fault) }
 {
     match outcome {
         Ok(status) => status,

@@ -10,7 +10,8 @@ use std::io;
 use std::io::Write;
 use std::net::SocketAddr;
 
-/// Refuses texts of which one is no numeric address with a port. What the first such text lacks is logged.
+/// Refuses texts of which one is no numeric address with a port. What the first such text lacks is
+/// logged.
 pub fn check_addresses<R: Eprint>(rt: &R, servers: &[&str]) -> Result<(), ProcessFault>
     ensures { MatchResult result (λ _. ¬ HasNoAddress (map (λ s. s.now) servers.now))
         (λ fault. (fault ≡ ProcessFault.Address) × HasNoAddress (map (λ s. s.now) servers.now)) }
@@ -21,9 +22,9 @@ pub fn check_addresses<R: Eprint>(rt: &R, servers: &[&str]) -> Result<(), Proces
     Ok(())
 }
 
-/// Asks the server at each of these addresses in turn, whatever came of those before. Where there is more than one, its
-/// address is printed above what it answers, and said again on `errors` where it didn't do what was asked. The result is
-/// the exit status, 0 where each did.
+/// Asks the server at each of these addresses in turn, whatever came of those before. Where there
+/// is more than one, its address is printed above what it answers, and said again on `errors` where
+/// it didn't do what was asked. The result is the exit status, 0 where each did.
 pub fn ask_each<R: Print + Eprint + AllocGlobal, E: Write, F: FnMut(SocketAddr, &mut E) -> u8>(
     rt: &R,
     servers: &[&str],
@@ -32,7 +33,8 @@ pub fn ask_each<R: Print + Eprint + AllocGlobal, E: Write, F: FnMut(SocketAddr, 
 ) -> u8
     requires callable { F.IsAlwaysCallable ask }
     requires addresses { ¬ HasNoAddress (map (λ s. s.now) servers.now) }
-    ensures { (last : F) × AsksEach (λ f address said g. (old new : _) × F.step f address old said new g)
+    ensures { (last : F) × AsksEach (λ f address said g. (old new : _)
+        × F.step f address old said new g)
         (length servers.now == 1) last result ask (map (λ s. s.now) servers.now) 0 }
 {
     let is_alone = servers.len() == 1;
@@ -56,8 +58,8 @@ pub fn ask_each<R: Print + Eprint + AllocGlobal, E: Write, F: FnMut(SocketAddr, 
     status
 }
 
-/// Asks the server at each of these addresses in turn, up to the first that says yes. The result is whether one does. Nothing is
-/// printed.
+/// Asks the server at each of these addresses in turn, up to the first that says yes. The result is
+/// whether one does. Nothing is printed.
 pub fn ask_until<R: Eprint, F: FnMut(SocketAddr) -> bool>(
     rt: &R,
     servers: &[&str],

@@ -1,7 +1,8 @@
 //! The settings of the filter and of the server, read from their files.
 ghost use Rattle.std.specs.Prelude.{◌≡◌, IfErr, IfOk, IfSome, Err, Ok};
 ghost use Rattle.mq_settings.specs.Files.{IsText};
-ghost use Rattle.mq_process.specs.Settings.{AreInRange, CanAsk, IsFileFault, ReadsFilter, ReadsServer, RefusesFilter};
+ghost use Rattle.mq_process.specs.Settings.{AreInRange, CanAsk, IsFileFault, ReadsFilter};
+ghost use Rattle.mq_process.specs.Settings.{ReadsServer, RefusesFilter};
 ghost use Rattle.mq_process.specs.Settings.{RefusesServer, SpellsFilter, SpellsServer};
 
 use crate::fault::ProcessFault;
@@ -14,7 +15,8 @@ use mq_settings::{
 use std::io::ErrorKind;
 use std::rt::Files;
 
-/// Logs why a file of settings can't be used, and gives it back. No level is set before the file is read.
+/// Logs why a file of settings can't be used, and gives it back. No level is set before the file is
+/// read.
 fn logged_of<R: Eprint>(rt: &R, file: &str, fault: ProcessFault) -> ProcessFault
     ensures { result ≡ fault }
 {
@@ -36,7 +38,8 @@ fn logged_of<R: Eprint>(rt: &R, file: &str, fault: ProcessFault) -> ProcessFault
 
 /// All that a file of settings gives. Why it can't be read is logged.
 fn text_of<R: Files + Eprint + AllocGlobal>(rt: &R, file: &str) -> Result<Vec<u8>, ProcessFault>
-    ensures text { IfOk result (λ text. (opened : R.File) × IsText (R.File.remaining opened) text.items) }
+    ensures text { IfOk result (λ text. (opened : R.File)
+        × IsText (R.File.remaining opened) text.items) }
     ensures fault { IfErr result IsFileFault }
 {
     match read_file(rt, file) {
@@ -45,12 +48,14 @@ fn text_of<R: Files + Eprint + AllocGlobal>(rt: &R, file: &str) -> Result<Vec<u8
     }
 }
 
-/// All that a file of settings gives, or nothing where there is no such file. Why another one can't be read is logged.
+/// All that a file of settings gives, or nothing where there is no such file. Why another one can't
+/// be read is logged.
 fn text_if_there<R: Files + Eprint + AllocGlobal>(
     rt: &R,
     file: &str,
 ) -> Result<Option<Vec<u8>>, ProcessFault>
-    ensures text { IfOk result (λ found. IfSome found (λ text. (opened : R.File) × IsText (R.File.remaining opened) text.items)) }
+    ensures text { IfOk result (λ found. IfSome found (λ text. (opened : R.File)
+        × IsText (R.File.remaining opened) text.items)) }
     ensures fault { IfErr result IsFileFault }
 {
     match read_file(rt, file) {
@@ -72,7 +77,8 @@ fn is_missing(fault: &FileFault) -> bool {
     }
 }
 
-/// The filter's settings that a text spells, which a file of this name has. Why they can't be used is logged.
+/// The filter's settings that a text spells, which a file of this name has. Why they can't be used
+/// is logged.
 fn filter_settings_of<R: Eprint + AllocGlobal>(
     rt: &R,
     file: &str,
@@ -102,7 +108,8 @@ pub fn filter_settings<R: Files + Eprint + AllocGlobal>(
     }
 }
 
-/// The server's settings that a text spells, which a file of this name has. Why they can't be used is logged.
+/// The server's settings that a text spells, which a file of this name has. Why they can't be used
+/// is logged.
 fn server_settings_of<R: Eprint + AllocGlobal>(
     rt: &R,
     file: &str,
@@ -137,7 +144,8 @@ pub fn server_settings_if_there<R: Files + Eprint + AllocGlobal>(
     rt: &R,
     file: &str,
 ) -> Result<Option<ServerSettings>, ProcessFault>
-    ensures reads { IfOk result (λ found. IfSome found (λ settings. ReadsServer R.File.remaining (Ok settings))) }
+    ensures reads { IfOk result (λ found. IfSome found (λ settings. ReadsServer R.File.remaining
+        (Ok settings))) }
     ensures fault { IfErr result (λ fault. ReadsServer R.File.remaining (Err fault)) }
 {
     match text_if_there(rt, file) {
@@ -155,7 +163,8 @@ pub fn filter_settings_if_there<R: Files + Eprint + AllocGlobal>(
     rt: &R,
     file: &str,
 ) -> Result<Option<FilterSettings>, ProcessFault>
-    ensures reads { IfOk result (λ found. IfSome found (λ settings. ReadsFilter R.File.remaining (Ok settings))) }
+    ensures reads { IfOk result (λ found. IfSome found (λ settings. ReadsFilter R.File.remaining
+        (Ok settings))) }
     ensures in_range { IfOk result (λ found. IfSome found CanAsk) }
     ensures fault { IfErr result (λ fault. ReadsFilter R.File.remaining (Err fault)) }
 {

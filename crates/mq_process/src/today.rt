@@ -1,9 +1,11 @@
-//! The day that words name, and the one from which a login is stopped, which is today unless it is forced.
+//! The day that words name, and the one from which a login is stopped, which is today unless it is
+//! forced.
 ghost use Rattle.std.specs.Prelude.{◌≡◌, ◌/◌, ◌+◌, ◌≤◌, ℕ, IfErr, IfOk, MatchResult, option_map};
 ghost use Rattle.mq_request.specs.Range.{IsMoment, IsWithin};
 ghost use Rattle.mq_process.specs.Arguments.{IsDayUpTo};
 ghost use Rattle.mq_ledger.specs.Day.{day_of};
-ghost use Rattle.mq_process.specs.Today.{ChoosesBy, ChoosesDay, ChoosesNow, IsDaysAgo, IsNoDay, NamesDay, RefusesAgo, StopsFrom};
+ghost use Rattle.mq_process.specs.Today.{ChoosesBy, ChoosesDay, ChoosesNow, IsDaysAgo, IsNoDay};
+ghost use Rattle.mq_process.specs.Today.{NamesDay, RefusesAgo, StopsFrom};
 ghost use Rattle.mq_process.specs.Today.{is_today, today_of};
 
 use crate::arguments::DayArgument;
@@ -29,7 +31,8 @@ fn today_of(zone: Option<&Zone>, moment: u64) -> u32
     }
 }
 
-/// Whether a day can be today: by the zone, or in some zone where none is known, since these are a day apart at most.
+/// Whether a day can be today: by the zone, or in some zone where none is known, since these are a
+/// day apart at most.
 fn is_today(zone: Option<&Zone>, moment: u64, day: u32) -> bool
     requires { IsMoment moment }
     ensures { result ≡ is_today (option_map (λ z. z.now) zone.entry) moment day }
@@ -77,11 +80,12 @@ fn days_ago<R: Files + Clock + Eprint + AllocGlobal>(
     }
 }
 
-/// The day that words name, by its number, or by today in the zone of the server's settings: of those in the file that the words
-/// name, or else in their place.
+/// The day that words name, by its number, or by today in the zone of the server's settings: of
+/// those in the file that the words name, or else in their place.
 ///
-/// It fails with `NoDay` where it is named by today and no settings are there, and with `NoMoment` where the clock can't be read, or
-/// the day would be before day 0 or after the last one. `last` is the greatest number that may be given.
+/// It fails with `NoDay` where it is named by today and no settings are there, and with `NoMoment`
+/// where the clock can't be read, or the day would be before day 0 or after the last one. `last` is
+/// the greatest number that may be given.
 pub fn day_named<R: Files + Clock + Eprint + AllocGlobal>(
     rt: &R,
     given: DayArgument,
@@ -122,7 +126,8 @@ fn day_by_clock(rt: &impl Clock, zone: Option<&Zone>, day: u32) -> Result<u32, P
     }
 }
 
-/// The day that is given, where it can be today by the zone of the settings in a file, or in some zone where none is named.
+/// The day that is given, where it can be today by the zone of the settings in a file, or in some
+/// zone where none is named.
 fn day_by_settings<R: Files + Clock + Eprint + AllocGlobal>(
     rt: &R,
     day: u32,
@@ -161,11 +166,12 @@ fn day_not_ago<R: Files + Clock + Eprint + AllocGlobal>(
     }
 }
 
-/// The day from which a login is stopped: that of the words, where it is forced, or is today by the clock and the zone of the
-/// server's settings. A day that is given by its number, where the words name no settings, has to be today in some zone.
+/// The day from which a login is stopped: that of the words, where it is forced, or is today by the
+/// clock and the zone of the server's settings. A day that is given by its number, where the words
+/// name no settings, has to be today in some zone.
 ///
-/// It fails with `NotToday` for another day, with `NoDay` and `NoMoment` as [`day_named`] does, and where the settings can't be
-/// used.
+/// It fails with `NotToday` for another day, with `NoDay` and `NoMoment` as [`day_named`] does, and
+/// where the settings can't be used.
 pub fn day_to_stop<R: Files + Clock + Eprint + AllocGlobal>(
     rt: &R,
     given: DayArgument,

@@ -1,5 +1,6 @@
 //! Whom a command asks: the servers of its words, or else the one of settings.
-ghost use Rattle.std.specs.Prelude.{◌≡◌, ◌⊎◌, [], IfErr, IfOk, IfSome, IsSome, MatchResult, Ok, Err, map, string_bytes};
+ghost use Rattle.std.specs.Prelude.{◌≡◌, ◌⊎◌, [], IfErr, IfOk, IfSome, IsSome, MatchResult, Ok};
+ghost use Rattle.std.specs.Prelude.{Err, map, string_bytes};
 ghost use Rattle.std.specs.Net.Text.{socket_text};
 ghost use Rattle.std.specs.declared.net.SocketAddr.{SocketAddr as AnyAddress};
 ghost use Rattle.mq_process.specs.Refusals.{HasNoAddress, IsNoAddress};
@@ -15,13 +16,14 @@ use std::alloc::{AllocError, Global};
 use std::net::SocketAddr;
 use std::rt::Files;
 
-/// The server's settings in the file that the words name, or those in their place, if they are there. Why they can't be used is
-/// logged.
+/// The server's settings in the file that the words name, or those in their place, if they are
+/// there. Why they can't be used is logged.
 pub fn named_settings<R: Files + Eprint + AllocGlobal>(
     rt: &R,
     config: Option<&str>,
 ) -> Result<Option<ServerSettings>, ProcessFault>
-    ensures reads { IfOk result (λ found. IfSome found (λ settings. ReadsServer R.File.remaining (Ok settings))) }
+    ensures reads { IfOk result (λ found. IfSome found (λ settings. ReadsServer R.File.remaining
+        (Ok settings))) }
     ensures named { IfSome config.entry (λ _. IfOk result IsSome) }
     ensures fault { IfErr result (λ fault. ReadsServer R.File.remaining (Err fault)) }
 {
@@ -38,7 +40,8 @@ pub fn named_settings<R: Files + Eprint + AllocGlobal>(
 pub fn filter_settings_in_place<R: Files + Eprint + AllocGlobal>(
     rt: &R,
 ) -> Result<Option<FilterSettings>, ProcessFault>
-    ensures reads { IfOk result (λ found. IfSome found (λ settings. ReadsFilter R.File.remaining (Ok settings))) }
+    ensures reads { IfOk result (λ found. IfSome found (λ settings. ReadsFilter R.File.remaining
+        (Ok settings))) }
     ensures in_range { IfOk result (λ found. IfSome found CanAsk) }
     ensures fault { IfErr result (λ fault. ReadsFilter R.File.remaining (Err fault)) }
 {
@@ -57,8 +60,8 @@ fn address_of_filter<R: Files + Eprint + AllocGlobal>(rt: &R) -> Result<SocketAd
     }
 }
 
-/// The address that settings have: of the server's that the words name, else of those in their place, else of the filter's in
-/// theirs. It fails with `NoServer` where neither are there.
+/// The address that settings have: of the server's that the words name, else of those in their
+/// place, else of the filter's in theirs. It fails with `NoServer` where neither are there.
 pub fn address_found<R: Files + Eprint + AllocGlobal>(
     rt: &R,
     config: Option<&str>,
@@ -86,17 +89,20 @@ fn text_of_address<R: Eprint + AllocGlobal>(
     Ok(text)
 }
 
-/// The address of the server that a command asks whose words name none, as text: it listens as the settings say that the words
-/// name, or as those in their place say, or it is the one that the filter asks by the settings in their place. Where the words
-/// name servers, nothing is read, and the text is empty.
+/// The address of the server that a command asks whose words name none, as text: it listens as the
+/// settings say that the words name, or as those in their place say, or it is the one that the
+/// filter asks by the settings in their place. Where the words name servers, nothing is read, and
+/// the text is empty.
 pub fn found_server<R: Files + Eprint + AllocGlobal>(
     rt: &R,
     given: &[&str],
     config: Option<&str>,
 ) -> Result<String, ProcessFault>
     ensures found { IfOk result (λ text. map (λ s. s.now) given.now ≡ [] → (address : AnyAddress)
-        × FindsAddress R.File.remaining config.entry (Ok address) × (string_bytes text ≡ socket_text address)) }
-    ensures address { IfOk result (λ text. map (λ s. s.now) given.now ≡ [] → ¬ IsNoAddress (string_bytes text)) }
+        × FindsAddress R.File.remaining config.entry (Ok address)
+        × (string_bytes text ≡ socket_text address)) }
+    ensures address { IfOk result (λ text. map (λ s. s.now) given.now ≡ []
+        → ¬ IsNoAddress (string_bytes text)) }
 {
     if !given.is_empty() {
         return Ok(String::new(rt.alloc()));

@@ -8,7 +8,7 @@ use Rattle.mq_ledger.specs.Legal.{Book}
 use Rattle.mq_rows.specs.Audit.{Figures}
 use Rattle.mq_tables.specs.Figures.{HasFigures}
 use Rattle.mq_program.specs.Opened.{KeepsBook}
-use Rattle.mq_program.specs.declared.forgetting.Kept.{Kept}
+use Rattle.mq_program.specs.declared.forgetting.KeptCounts.{KeptCounts}
 
 -- how many answers are kept of how many, and how many limits
 abbrev pub kept_line : ℕ → ℕ → ℕ → List ℕ
@@ -33,7 +33,7 @@ abbrev pub CountsLimits : Database → ℕ → Type 0
 CountsLimits db count = (f : Figures) → HasFigures db f → count ≡ length f.limits
 
 -- they are the answers of the new book and of the old one, and the limits of the new tables
-pub record Counts (old new : Book) (db : Database) (kept : Kept) : Type 0 where
+pub record Counts (old new : Book) (db : Database) (kept : KeptCounts) : Type 0 where
   pub answers : kept.answers ≡ length new.history
   pub all : kept.all ≡ length old.history
   pub limits : CountsLimits db kept.limits

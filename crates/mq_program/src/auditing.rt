@@ -21,8 +21,9 @@ use sqlite::{Alter, FileFrom, FileStore, Start};
 use std::alloc::{AllocError, Global};
 use std::io::Write;
 
-/// Opens the ledger in the file of the settings, which checks its books, and prints how much they hold. Books that are wrong
-/// are the fault, with the least login and day that are. `start` stands for what the file and its log hold before the call.
+/// Opens the ledger in the file of the settings, which checks its books, and prints how much they
+/// hold. Books that are wrong are the fault, with the least login and day that are. `start` stands
+/// for what the file and its log hold before the call.
 pub fn audit<W: Write, S: Start>(
     rt: &HostRuntime,
     given: AuditArguments<'_>,
@@ -30,9 +31,11 @@ pub fn audit<W: Write, S: Start>(
     output: &mut W,
 ) -> Result<u8, ProgramFault>
     ensures status { IfOk result (λ status. status ≡ 0) }
-    ensures printed { IfOk result (λ _. PrintsSound (W.contents output.old) (W.contents output.new)) }
+    ensures printed { IfOk result (λ _. PrintsSound (W.contents output.old)
+        (W.contents output.new)) }
     // Of books that are wrong, and of a ledger that can't be opened, nothing is printed.
-    ensures silent { IfErr result (λ fault. fault ≢ ProgramFault.Write → Keeps (W.contents output.old) (W.contents output.new)) }
+    ensures silent { IfErr result (λ fault. fault ≢ ProgramFault.Write
+        → Keeps (W.contents output.old) (W.contents output.new)) }
 {
     let settings = server_settings(rt, given.config)?;
     let_go(audit_file(rt, &settings, start, output))
@@ -46,15 +49,20 @@ fn audit_file<W: Write, S: Start>(
     output: &mut W,
 ) -> Result<SqlLedger<FileStore<FileFrom<S>>>, ProgramFault>
     requires { AreInRange settings.now }
-    ensures printed { IfOk result (λ _. PrintsSound (W.contents output.old) (W.contents output.new)) }
-
-    // It is the ledger whose rows the files hold, and the counts are those of an audit of these rows.
-    ensures rows { IfOk result (λ ledger. HasKept (file_state ledger.connection)
-        → MeansFile settings.now.zone settings.now.default (image_at S.Start) (file_state ledger.connection)) }
-    ensures audited { IfOk result (λ ledger. HasKept (file_state ledger.connection)
-        → PrintsAudit settings.now.zone settings.now.default (image_at S.Start) (W.contents output.old)
+    ensures printed { IfOk result (λ _. PrintsSound (W.contents output.old)
         (W.contents output.new)) }
-    ensures silent { IfErr result (λ fault. fault ≢ ProgramFault.Write → Keeps (W.contents output.old) (W.contents output.new)) }
+
+    // It is the ledger whose rows the files hold, and the counts are those of an audit of these
+    // rows.
+    ensures rows { IfOk result (λ ledger. HasKept (file_state ledger.connection)
+        → MeansFile settings.now.zone settings.now.default (image_at S.Start)
+        (file_state ledger.connection)) }
+    ensures audited { IfOk result (λ ledger. HasKept (file_state ledger.connection)
+        → PrintsAudit settings.now.zone settings.now.default (image_at S.Start)
+        (W.contents output.old)
+        (W.contents output.new)) }
+    ensures silent { IfErr result (λ fault. fault ≢ ProgramFault.Write
+        → Keeps (W.contents output.old) (W.contents output.new)) }
 {
     let logged = Logged::new(rt, settings.log, Console(rt));
     let ledger = ledger_of_settings(rt, &logged, settings, false, start)?;
@@ -62,7 +70,8 @@ fn audit_file<W: Write, S: Start>(
     Ok(ledger)
 }
 
-/// Audits a ledger, which comes back. It goes over any store, since a proof over the file's own takes far longer.
+/// Audits a ledger, which comes back. It goes over any store, since a proof over the file's own
+/// takes far longer.
 fn audit_whole<S: Alter + Drop, W: Write>(
     alloc: Global,
     ledger: SqlLedger<S>,
@@ -71,15 +80,16 @@ fn audit_whole<S: Alter + Drop, W: Write>(
     ensures same { IfOk result (λ back. back ≡ ledger) }
     ensures printed { OnOk result (Appends (W.contents output.old) (W.contents output.new)
         (sound_line ledger.found.days ledger.found.transactions)) }
-    ensures unprinted { IfErr result (FailsAfter (sound_line ledger.found.days ledger.found.transactions)
+    ensures unprinted { IfErr result (FailsAfter (sound_line ledger.found.days
+        ledger.found.transactions)
         (W.contents output.old) (W.contents output.new)) }
 {
     audit_ledger(alloc, &ledger, output)?;
     Ok(ledger)
 }
 
-/// Prints that the books of a ledger are right, and how many days of logins and how many transactions they were found to
-/// have as it was opened, which checked them.
+/// Prints that the books of a ledger are right, and how many days of logins and how many
+/// transactions they were found to have as it was opened, which checked them.
 #[tactic(auto, using(crate::proofs::ListingSteps::nothing_written))]
 pub fn audit_ledger<S: Alter, W: Write>(
     alloc: Global,
@@ -88,7 +98,8 @@ pub fn audit_ledger<S: Alter, W: Write>(
 ) -> Result<(), ProgramFault>
     ensures printed { OnOk result (Appends (W.contents output.old) (W.contents output.new)
         (sound_line ledger.now.found.days ledger.now.found.transactions)) }
-    ensures unprinted { IfErr result (FailsAfter (sound_line ledger.now.found.days ledger.now.found.transactions)
+    ensures unprinted { IfErr result (FailsAfter (sound_line ledger.now.found.days
+        ledger.now.found.transactions)
         (W.contents output.old) (W.contents output.new)) }
 {
     let found = ledger.found();
@@ -98,7 +109,8 @@ pub fn audit_ledger<S: Alter, W: Write>(
 
 /// Writes all bytes, or a prefix of them before a write fails.
 pub(crate) fn print<W: Write>(output: &mut W, bytes: &[u8]) -> Result<(), ProgramFault>
-    ensures whole { OnOk result (Appends (W.contents output.old) (W.contents output.new) bytes.now) }
+    ensures whole { OnOk result (Appends (W.contents output.old)
+        (W.contents output.new) bytes.now) }
     ensures front { AppendsFront (W.contents output.old) (W.contents output.new) bytes.now }
     ensures fault { IfErr result (λ fault. fault ≡ ProgramFault.Write) }
 {

@@ -3,13 +3,15 @@ ghost use Rattle.std.specs.Prelude.{◌≡◌, ◌≢◌, ◌⊎◌, IfErr, IfOk
 ghost use Rattle.std.specs.Io.KnownBytes.{Keeps};
 ghost use Rattle.sqlite.specs.Held.{state};
 ghost use Rattle.mq_store.specs.Soundness.{HasKept, IsSound};
-ghost use Rattle.mq_program.specs.Describing.{AreCounts, Describes, DescribesFront, counts_line, file_line, ledger_text};
-ghost use Rattle.mq_program.specs.Describing.{offset_line, start_line, start_megabytes, start_seconds, terms_line};
+ghost use Rattle.mq_program.specs.Describing.{AreCounts, Describes, DescribesFront, counts_line};
+ghost use Rattle.mq_program.specs.Describing.{file_line, ledger_text};
+ghost use Rattle.mq_program.specs.Describing.{offset_line, start_line, start_megabytes};
+ghost use Rattle.mq_program.specs.Describing.{start_seconds, terms_line};
 
 use crate::auditing::print;
 use crate::fault::ProgramFault;
 use mq_ledger::{Ledger, Zone};
-use mq_request::Escaped;
+use mq_request::EscapedText;
 use mq_rows::VERSION;
 use mq_store::SqlLedger;
 use sqlite::Alter;
@@ -29,14 +31,16 @@ pub struct LedgerCounts {
     pub limits: u64,
 }
 
-/// The seconds that a start takes at most over so many answers, by the last figures: 37 us an answer.
+/// The seconds that a start takes at most over so many answers, by the last figures: 37 us an
+/// answer.
 fn start_seconds(answers: u64) -> u64
     ensures { result ≡ start_seconds answers }
 {
     answers / 27_000 + 1
 }
 
-/// The megabytes that a start takes at most over so many answers, by the last figures: 90 for each 100,000.
+/// The megabytes that a start takes at most over so many answers, by the last figures: 90 for each
+/// 100,000.
 fn start_megabytes(answers: u64) -> u64
     ensures { result ≡ start_megabytes answers }
 {
@@ -47,7 +51,8 @@ fn start_megabytes(answers: u64) -> u64
 fn count_ledger<S: Alter>(ledger: &mut SqlLedger<S>) -> Result<LedgerCounts, ProgramFault>
     ensures same { HasKept (state S.Store ledger.new.connection)
         → (state S.Store ledger.new.connection).now ≡ (state S.Store ledger.old.connection).now }
-    ensures kept { HasKept (state S.Store ledger.new.connection) → HasKept (state S.Store ledger.old.connection) }
+    ensures kept { HasKept (state S.Store ledger.new.connection)
+        → HasKept (state S.Store ledger.old.connection) }
     ensures counted { HasKept (state S.Store ledger.new.connection)
         → IsSound ledger.old.zone ledger.old.default (state S.Store ledger.old.connection)
         → IfOk result (λ counts. AreCounts ledger.old.zone ledger.old.default
@@ -91,7 +96,7 @@ fn terms_line(alloc: Global, zone: &Zone, default: u32) -> Result<String, AllocE
 {
     match zone.rule() {
         Some(rule) => {
-            let rule = Escaped(rule);
+            let rule = EscapedText(rule);
             format!(in alloc; "default {default}, rule {rule}\n")
         }
         None => offset_line(alloc, default, zone.minutes()),
@@ -120,7 +125,8 @@ fn start_line(alloc: Global, seconds: u64, megabytes: u64) -> Result<String, All
 
 /// The line that says what a start over so many answers takes at most.
 fn start_over(alloc: Global, answers: u64) -> Result<String, AllocError>
-    ensures { IfOk result (λ line. string_bytes line ≡ start_line (start_seconds answers) (start_megabytes answers)) }
+    ensures { IfOk result (λ line. string_bytes line ≡ start_line (start_seconds answers)
+        (start_megabytes answers)) }
 {
     start_line(alloc, start_seconds(answers), start_megabytes(answers))
 }
@@ -134,7 +140,8 @@ fn ledger_text(
     default: u32,
     counts: LedgerCounts,
 ) -> Result<String, AllocError>
-    ensures { IfOk result (λ text. string_bytes text ≡ ledger_text path.now bytes zone.now default counts) }
+    ensures { IfOk result (λ text. string_bytes text ≡ ledger_text path.now bytes zone.now default
+        counts) }
 {
     let LedgerCounts {
         answers,
@@ -149,8 +156,9 @@ fn ledger_text(
     Ok(text)
 }
 
-/// Prints what a ledger holds that is in the file at a path, of so many bytes, and what a start over it takes. Nothing is
-/// written to it, and nothing is printed where it fails before the output does.
+/// Prints what a ledger holds that is in the file at a path, of so many bytes, and what a start
+/// over it takes. Nothing is written to it, and nothing is printed where it fails before the output
+/// does.
 #[tactic(auto, using(crate::proofs::ListingSteps::nothing_written))]
 pub fn describe_ledger<S: Alter, W: Write>(
     alloc: Global,
@@ -174,7 +182,8 @@ pub fn describe_ledger<S: Alter, W: Write>(
         (W.contents output.new)) }
     ensures same { HasKept (state S.Store ledger.new.connection)
         → (state S.Store ledger.new.connection).now ≡ (state S.Store ledger.old.connection).now }
-    ensures kept { HasKept (state S.Store ledger.new.connection) → HasKept (state S.Store ledger.old.connection) }
+    ensures kept { HasKept (state S.Store ledger.new.connection)
+        → HasKept (state S.Store ledger.old.connection) }
 {
     let zone = *ledger.zone();
     let default = ledger.default_cap();

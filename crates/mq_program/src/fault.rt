@@ -149,7 +149,8 @@ pub fn or_memory(error: &io::Error, fault: ProgramFault) -> ProgramFault
 
 /// Prints why a subcommand over a ledger isn't done, if it isn't, and gives the exit status.
 pub fn end_program<E: Write>(outcome: Result<u8, ProgramFault>, errors: &mut E) -> u8
-    ensures { MatchResult outcome (λ status. result ≡ status) (λ fault. result ≡ fault_status fault) }
+    ensures { MatchResult outcome (λ status. result ≡ status)
+        (λ fault. result ≡ fault_status fault) }
 {
     match outcome {
         Ok(status) => status,

@@ -4,7 +4,8 @@ ghost use Rattle.std.specs.Io.KnownBytes.{Appends};
 ghost use Rattle.sqlite.specs.Files.{file_state};
 ghost use Rattle.sqlite.specs.Held.{state};
 ghost use Rattle.sqlite.specs.WalFiles.{image_at};
-ghost use Rattle.mq_program.specs.Forgetting.{Counts, CountsLimits, PrintsKept, PrintsKeptOf, PrintsKeptOfFile, kept_line};
+ghost use Rattle.mq_program.specs.Forgetting.{Counts, CountsLimits, PrintsKept, PrintsKeptOf};
+ghost use Rattle.mq_program.specs.Forgetting.{PrintsKeptOfFile, kept_line};
 ghost use Rattle.mq_program.specs.Opened.{MeansFile};
 ghost use Rattle.mq_process.specs.Settings.{AreInRange};
 ghost use Rattle.mq_store.specs.Forgetting.{IsFree, IsRemembered};
@@ -12,7 +13,7 @@ ghost use Rattle.mq_store.specs.Soundness.{HasKept, IsSound, book_in};
 
 use crate::auditing::print;
 use crate::fault::ProgramFault;
-use crate::progress::{Progress, Terminal};
+use crate::progress::{ProgressListener, Terminal};
 use crate::store::{close_file, connect_new, ledger_of_settings, let_go, make_new_file, path_of};
 use log::sink::Console;
 use log::{Log, Logged, error, info};
@@ -27,7 +28,7 @@ use std::rt::Clock;
 
 /// How many answers a new ledger has, of all that the old one has, and how many limits.
 #[derive(Clone, Copy)]
-pub struct Kept {
+pub struct KeptCounts {
     /// The answers of the new ledger.
     pub answers: u64,
     /// The answers of the old one.
@@ -43,12 +44,14 @@ fn kept_line(alloc: Global, answers: u64, all: u64, limits: u64) -> Result<Strin
     format!(in alloc; "kept answers={answers} of {all}, limits={limits}\n")
 }
 
-/// Counts the answers and the limits of a new ledger that was made of one with so many answers. Nothing is written.
-fn count_kept<S: Alter>(new: &mut SqlLedger<S>, all: u64) -> Result<Kept, ProgramFault>
+/// Counts the answers and the limits of a new ledger that was made of one with so many answers.
+/// Nothing is written.
+fn count_kept<S: Alter>(new: &mut SqlLedger<S>, all: u64) -> Result<KeptCounts, ProgramFault>
     ensures lent { (new.new.zone ≡ new.old.zone) × (new.new.default ≡ new.old.default) }
     ensures same { HasKept (state S.Store new.new.connection)
         → (state S.Store new.new.connection).now ≡ (state S.Store new.old.connection).now }
-    ensures kept { HasKept (state S.Store new.new.connection) → HasKept (state S.Store new.old.connection) }
+    ensures kept { HasKept (state S.Store new.new.connection)
+        → HasKept (state S.Store new.old.connection) }
     ensures sound { HasKept (state S.Store new.new.connection)
         → IsSound new.old.zone new.old.default (state S.Store new.old.connection)
         → IsSound new.new.zone new.new.default (state S.Store new.new.connection) }
@@ -56,30 +59,33 @@ fn count_kept<S: Alter>(new: &mut SqlLedger<S>, all: u64) -> Result<Kept, Progra
     ensures answers { HasKept (state S.Store new.new.connection)
         → IsSound new.old.zone new.old.default (state S.Store new.old.connection)
         → IfOk result (λ kept. kept.answers
-        ≡ length (book_in new.old.zone new.old.default (state S.Store new.old.connection).now).history) }
+        ≡ length (book_in new.old.zone new.old.default (state S.Store
+        new.old.connection).now).history) }
     ensures limits { HasKept (state S.Store new.new.connection)
         → IfOk result (λ kept. CountsLimits (state S.Store new.old.connection).now kept.limits) }
 {
     let answers = new.count_answers()?;
     let limits = new.limits()?;
-    Ok(Kept {
+    Ok(KeptCounts {
         answers,
         all,
         limits: limits.len() as u64,
     })
 }
 
-/// Makes, over a connection, a new ledger that has what the old one remembers from a day on, and counts the answers
-/// of both and the limits. The old one isn't written. `progress` hears how many answers there are to look through.
-pub fn carry_over<S: Alter + Drop, T: Alter, P: Progress>(
+/// Makes, over a connection, a new ledger that has what the old one remembers from a day on, and
+/// counts the answers of both and the limits. The old one isn't written. `progress` hears how many
+/// answers there are to look through.
+pub fn carry_over<S: Alter + Drop, T: Alter, P: ProgressListener>(
     alloc: Global,
     old: &mut SqlLedger<T>,
     into: Connection<S>,
     day: u32,
     progress: &P,
-) -> Result<(SqlLedger<S>, Kept), ProgramFault>
+) -> Result<(SqlLedger<S>, KeptCounts), ProgramFault>
     ensures old_lent { (old.new.zone ≡ old.old.zone) × (old.new.default ≡ old.old.default) }
-    ensures old_kept { HasKept (state T.Store old.new.connection) → HasKept (state T.Store old.old.connection) }
+    ensures old_kept { HasKept (state T.Store old.new.connection)
+        → HasKept (state T.Store old.old.connection) }
     ensures old_same { HasKept (state T.Store old.new.connection)
         → (state T.Store old.new.connection).now ≡ (state T.Store old.old.connection).now }
     ensures remembered { IfOk result (λ made. HasKept (state T.Store old.new.connection)
@@ -99,7 +105,8 @@ pub fn carry_over<S: Alter + Drop, T: Alter, P: Progress>(
     // How many answers the old one has doesn't depend on the new store.
     ensures all { IfOk result (λ made. HasKept (state T.Store old.new.connection)
         → IsSound old.old.zone old.old.default (state T.Store old.old.connection)
-        → made.1.all ≡ length (book_in old.old.zone old.old.default (state T.Store old.old.connection).now).history) }
+        → made.1.all ≡ length (book_in old.old.zone old.old.default
+        (state T.Store old.old.connection).now).history) }
 {
     let all = old.count_answers()?;
     progress.begin(all);
@@ -129,40 +136,47 @@ fn with_cause<S: Alter>(ledger: &SqlLedger<S>, fault: ProgramFault) -> ProgramFa
 
 /// A database that was filled with what a ledger remembers, the ledger, and how much that is.
 #[derive(Drop)]
-struct Filled<S: Alter, T: Alter> {
+struct FilledFile<S: Alter, T: Alter> {
     old: SqlLedger<T>,
     into: Connection<S>,
-    kept: Kept,
+    kept: KeptCounts,
 }
 
-/// Puts what a ledger remembers into the database of another connection; both come back. It goes over any store, since a
-/// proof over the file's own takes far longer.
-fn fill<S: Alter + Drop, T: Alter + Drop, P: Progress>(
+/// Puts what a ledger remembers into the database of another connection; both come back. It goes
+/// over any store, since a proof over the file's own takes far longer.
+fn fill<S: Alter + Drop, T: Alter + Drop, P: ProgressListener>(
     alloc: Global,
     old: SqlLedger<T>,
     into: Connection<S>,
     day: u32,
     progress: &P,
-) -> Result<Filled<S, T>, ProgramFault>
+) -> Result<FilledFile<S, T>, ProgramFault>
     ensures old_lent { IfOk result (λ f. (f.old.zone ≡ old.zone) × (f.old.default ≡ old.default)) }
     ensures old_kept { IfOk result (λ f. HasKept (state T.Store f.old.connection)
         → HasKept (state T.Store old.connection)) }
     ensures old_same { IfOk result (λ f. HasKept (state T.Store f.old.connection)
         → (state T.Store f.old.connection).now ≡ (state T.Store old.connection).now) }
-    ensures remembered { IfOk result (λ f. HasKept (state T.Store f.old.connection) → HasKept (state S.Store f.into)
-        → IsSound old.zone old.default (state T.Store old.connection) → IsFree (state S.Store into).now
-        → IsRemembered old.zone old.default day (state T.Store old.connection).now (state S.Store f.into)) }
-    ensures counted { IfOk result (λ f. HasKept (state T.Store f.old.connection) → HasKept (state S.Store f.into)
-        → IsSound old.zone old.default (state T.Store old.connection) → IsFree (state S.Store into).now
+    ensures remembered { IfOk result (λ f. HasKept (state T.Store f.old.connection)
+        → HasKept (state S.Store f.into)
+        → IsSound old.zone old.default (state T.Store old.connection)
+        → IsFree (state S.Store into).now
+        → IsRemembered old.zone old.default day (state T.Store old.connection).now
+        (state S.Store f.into)) }
+    ensures counted { IfOk result (λ f. HasKept (state T.Store f.old.connection)
+        → HasKept (state S.Store f.into)
+        → IsSound old.zone old.default (state T.Store old.connection)
+        → IsFree (state S.Store into).now
         → Counts (book_in old.zone old.default (state T.Store old.connection).now)
-        (book_in old.zone old.default (state S.Store f.into).now) (state S.Store f.into).now f.kept) }
+        (book_in old.zone old.default (state S.Store f.into).now)
+        (state S.Store f.into).now f.kept) }
     ensures all { IfOk result (λ f. HasKept (state T.Store f.old.connection)
         → IsSound old.zone old.default (state T.Store old.connection)
-        → f.kept.all ≡ length (book_in old.zone old.default (state T.Store old.connection).now).history) }
+        → f.kept.all ≡ length (book_in old.zone old.default
+        (state T.Store old.connection).now).history) }
 {
     let mut old = old;
     match carry_over(alloc, &mut old, into, day, progress) {
-        Ok((new, kept)) => Ok(Filled {
+        Ok((new, kept)) => Ok(FilledFile {
             old,
             into: new.into_connection(),
             kept,
@@ -173,12 +187,13 @@ fn fill<S: Alter + Drop, T: Alter + Drop, P: Progress>(
 
 /// A ledger of which a new file was made, and how much that has.
 #[derive(Drop)]
-struct Forgotten<T: Alter> {
+struct SupersededLedger<T: Alter> {
     old: SqlLedger<T>,
-    kept: Kept,
+    kept: KeptCounts,
 }
 
-/// Puts what a ledger remembers into an empty file, which is then closed. The ledger comes back as it was.
+/// Puts what a ledger remembers into an empty file, which is then closed. The ledger comes back as
+/// it was.
 ///
 /// `start` stands for what the empty file and its log hold.
 fn fill_file<G: Log, T: Alter + Drop, S: Start>(
@@ -188,7 +203,7 @@ fn fill_file<G: Log, T: Alter + Drop, S: Start>(
     name: &str,
     start: S,
     day: u32,
-) -> Result<Forgotten<T>, ProgramFault>
+) -> Result<SupersededLedger<T>, ProgramFault>
     ensures lent { IfOk result (λ f. (f.old.zone ≡ old.zone) × (f.old.default ≡ old.default)) }
     ensures kept { IfOk result (λ f. HasKept (state T.Store f.old.connection)
         → HasKept (state T.Store old.connection)) }
@@ -196,18 +211,20 @@ fn fill_file<G: Log, T: Alter + Drop, S: Start>(
         → (state T.Store f.old.connection).now ≡ (state T.Store old.connection).now) }
     ensures all { IfOk result (λ f. HasKept (state T.Store f.old.connection)
         → IsSound old.zone old.default (state T.Store old.connection)
-        → f.kept.all ≡ length (book_in old.zone old.default (state T.Store old.connection).now).history) }
+        → f.kept.all ≡ length (book_in old.zone old.default
+        (state T.Store old.connection).now).history) }
 {
     let into = connect_new(rt, log, name, start)?;
     let progress = Terminal::new(rt);
-    let Filled { old, into, kept } = fill(rt.alloc(), old, into, day, &progress)?;
+    let FilledFile { old, into, kept } = fill(rt.alloc(), old, into, day, &progress)?;
     close_file(log, name, into)?;
     progress.end(kept.answers, kept.all);
-    Ok(Forgotten { old, kept })
+    Ok(SupersededLedger { old, kept })
 }
 
-/// Makes a new file, puts what a ledger remembers into it, and prints how much that is. The ledger comes back as it was. After
-/// a fault the new file is of no use, which is logged. `start` stands for what a file that is just made and its log hold.
+/// Makes a new file, puts what a ledger remembers into it, and prints how much that is. The ledger
+/// comes back as it was. After a fault the new file is of no use, which is logged. `start` stands
+/// for what a file that is just made and its log hold.
 fn forget_into<G: Log, T: Alter + Drop, S: Start, W: Write>(
     rt: &HostRuntime,
     log: &G,
@@ -223,16 +240,18 @@ fn forget_into<G: Log, T: Alter + Drop, S: Start, W: Write>(
         → HasKept (state T.Store old.connection)) }
     ensures same { IfOk result (λ back. HasKept (state T.Store back.connection)
         → (state T.Store back.connection).now ≡ (state T.Store old.connection).now) }
-    ensures printed { IfOk result (λ _. PrintsKept (W.contents output.old) (W.contents output.new)) }
+    ensures printed { IfOk result (λ _. PrintsKept (W.contents output.old)
+        (W.contents output.new)) }
     ensures counted { IfOk result (λ back. HasKept (state T.Store back.connection)
         → IsSound old.zone old.default (state T.Store old.connection)
-        → PrintsKeptOf (length (book_in old.zone old.default (state T.Store old.connection).now).history)
+        → PrintsKeptOf (length (book_in old.zone old.default
+        (state T.Store old.connection).now).history)
         (W.contents output.old) (W.contents output.new)) }
 {
     make_new_file(rt, log, name)?;
     info!(log; "{name} takes over what {path} has from day {day} on");
     match fill_file(rt, log, old, name, start, day) {
-        Ok(Forgotten { old, kept }) => match print_kept(rt.alloc(), kept, output) {
+        Ok(SupersededLedger { old, kept }) => match print_kept(rt.alloc(), kept, output) {
             Ok(()) => Ok(old),
             Err(fault) => {
                 // (nobody else knows of the new file)
@@ -256,7 +275,7 @@ fn log_left<G: Log>(log: &G, name: &str) {
 }
 
 /// Prints how many answers and limits are kept.
-fn print_kept<W: Write>(alloc: Global, kept: Kept, output: &mut W) -> Result<(), ProgramFault>
+fn print_kept<W: Write>(alloc: Global, kept: KeptCounts, output: &mut W) -> Result<(), ProgramFault>
     ensures { OnOk result (Appends (W.contents output.old) (W.contents output.new)
         (kept_line kept.answers kept.all kept.limits)) }
 {
@@ -264,8 +283,8 @@ fn print_kept<W: Write>(alloc: Global, kept: Kept, output: &mut W) -> Result<(),
     print(output, line.as_bytes())
 }
 
-/// Puts what the ledger of the settings remembers into the new file of the words, and prints how much that is. The ledger
-/// comes back as it was.
+/// Puts what the ledger of the settings remembers into the new file of the words, and prints how
+/// much that is. The ledger comes back as it was.
 fn forget_file<W: Write, S: Start, N: Start>(
     rt: &HostRuntime,
     settings: &ServerSettings,
@@ -275,11 +294,14 @@ fn forget_file<W: Write, S: Start, N: Start>(
     output: &mut W,
 ) -> Result<SqlLedger<FileStore<FileFrom<S>>>, ProgramFault>
     requires { AreInRange settings.now }
-    ensures printed { IfOk result (λ _. PrintsKept (W.contents output.old) (W.contents output.new)) }
+    ensures printed { IfOk result (λ _. PrintsKept (W.contents output.old)
+        (W.contents output.new)) }
 
-    // It is the ledger whose rows the files hold, and where these are the rows of a history, so many answers it has.
+    // It is the ledger whose rows the files hold, and where these are the rows of a history, so
+    // many answers it has.
     ensures rows { IfOk result (λ ledger. HasKept (file_state ledger.connection)
-        → MeansFile settings.now.zone settings.now.default (image_at S.Start) (file_state ledger.connection)) }
+        → MeansFile settings.now.zone settings.now.default (image_at S.Start)
+        (file_state ledger.connection)) }
     ensures counted { IfOk result (λ ledger. HasKept (file_state ledger.connection)
         → PrintsKeptOfFile (image_at S.Start) (W.contents output.old) (W.contents output.new)) }
 {
@@ -299,11 +321,12 @@ fn forget_file<W: Write, S: Start, N: Start>(
     Ok(old)
 }
 
-/// Makes a new ledger file that has what the ledger of the settings remembers from a day on, and prints how many
-/// answers that is. The ledger of the settings stays as it is. A day after today is refused, and a file that is there.
+/// Makes a new ledger file that has what the ledger of the settings remembers from a day on, and
+/// prints how many answers that is. The ledger of the settings stays as it is. A day after today is
+/// refused, and a file that is there.
 ///
-/// `start` stands for what the file of the settings and its log hold before the call, and `new` for what a file that is
-/// just made and its log hold.
+/// `start` stands for what the file of the settings and its log hold before the call, and `new` for
+/// what a file that is just made and its log hold.
 pub fn forget<W: Write, S: Start, N: Start>(
     rt: &HostRuntime,
     given: ForgetArguments<'_>,
@@ -312,7 +335,8 @@ pub fn forget<W: Write, S: Start, N: Start>(
     output: &mut W,
 ) -> Result<u8, ProgramFault>
     ensures status { IfOk result (λ status. status ≡ 0) }
-    ensures printed { IfOk result (λ _. PrintsKept (W.contents output.old) (W.contents output.new)) }
+    ensures printed { IfOk result (λ _. PrintsKept (W.contents output.old)
+        (W.contents output.new)) }
 {
     let settings = server_settings(rt, given.config)?;
     check_day(rt, &settings.zone, given.before)?;

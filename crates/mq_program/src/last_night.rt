@@ -1,6 +1,7 @@
-//! What a server's last night did, which it notes in a file beside the ledger, `LEDGER.night`, for who asks later.
+//! What a server's last night did, which it notes in a file beside the ledger, `LEDGER.night`, for
+//! who asks later.
 
-use crate::serving::Took;
+use crate::serving::Elapsed;
 use log::{Log, warn};
 use mq_ledger::Zone;
 use mq_process::moment_or_now;
@@ -13,7 +14,7 @@ fn note_path(alloc: Global, ledger: &str) -> Result<String, AllocError> {
 }
 
 /// The note: which days were forgotten, on which one, by the ledger's zone, and how long that took.
-fn note_of(rt: &HostRuntime, zone: Zone, day: u32, took: Took) -> Result<String, AllocError> {
+fn note_of(rt: &HostRuntime, zone: Zone, day: u32, took: Elapsed) -> Result<String, AllocError> {
     match moment_or_now(rt, None) {
         Ok(moment) => {
             let today = zone.day_at(moment);
@@ -24,20 +25,27 @@ fn note_of(rt: &HostRuntime, zone: Zone, day: u32, took: Took) -> Result<String,
 }
 
 /// Writes the note of a night, in place of the one before.
-fn write_note(rt: &HostRuntime, ledger: &str, zone: Zone, day: u32, took: Took) -> io::Result<()> {
+fn write_note(
+    rt: &HostRuntime,
+    ledger: &str,
+    zone: Zone,
+    day: u32,
+    took: Elapsed,
+) -> io::Result<()> {
     let path = note_path(rt.alloc(), ledger)?;
     let note = note_of(rt, zone, day, took)?;
     fs::write(rt, path.as_str(), note.as_str())
 }
 
-/// Notes that the days before this one were forgotten. A note that can't be written is logged, and does no harm.
+/// Notes that the days before this one were forgotten. A note that can't be written is logged, and
+/// does no harm.
 pub fn note_night<G: Log>(
     rt: &HostRuntime,
     log: &G,
     ledger: &str,
     zone: Zone,
     day: u32,
-    took: Took,
+    took: Elapsed,
 ) {
     if let Err(cause) = write_note(rt, ledger, zone, day, took) {
         warn!(log; "{ledger}.night: {cause}");
@@ -51,7 +59,8 @@ pub fn drop_note(rt: &HostRuntime, ledger: &str) {
     }
 }
 
-/// What the last night did, as it was noted; `None` where nothing is, or this process may not read it.
+/// What the last night did, as it was noted; `None` where nothing is, or this process may not read
+/// it.
 pub fn last_night(rt: &HostRuntime, ledger: &str) -> Option<String> {
     let path = note_path(rt.alloc(), ledger).ok()?;
     let note = fs::read_to_string(rt, path.as_str()).ok()?;

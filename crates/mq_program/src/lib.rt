@@ -1,14 +1,17 @@
-//! The subcommands over a ledger: `server`, `init`, `status`, `limits`, `audit`, `forget` and `replay`.
+//! The subcommands over a ledger: `server`, `init`, `status`, `limits`, `audit`, `forget` and
+//! `replay`.
 //!
-//! Each opens the ledger that it needs, and gives the exit status, or a [`ProgramFault`]. From `mailquota/src/subcommand.rt`:
+//! Each opens the ledger that it needs, and gives the exit status, or a [`ProgramFault`]. From
+//! `mailquota/src/subcommand.rt`:
 //!
 //!     Arguments::Server(given) => end_program(server(rt, given, start), errors),
 //!
-//! Those that need no ledger, the filter among them, are `mq_remote`'s. It stands on `mq_request`, `mq_stream`,
-//! `mq_frame`, `mq_ledger`, `mq_chore`, `mq_forget`, `mq_rows`, `mq_tables`, `mq_server`, `mq_settings`,
-//! `mq_connections`, `mq_watch`, `mq_command`, `mq_replay`, `mq_process`, `mq_store` and `mq_nights`. It knows no words of
-//! the command line, and decides nothing by itself. Begin with `serving.rt`, where the server is put together, then
-//! `store.rt`, then `nights.rt`.
+//! Those that need no ledger, the filter among them, are `mq_remote`'s. It stands on `mq_request`,
+//! `mq_stream`, `mq_frame`, `mq_ledger`, `mq_chore`, `mq_forget`, `mq_rows`, `mq_tables`,
+//! `mq_server`, `mq_settings`, `mq_connections`, `mq_watch`, `mq_command`, `mq_replay`,
+//! `mq_process`, `mq_store` and `mq_nights`. It knows no words of the command line, and decides
+//! nothing by itself. Begin with `serving.rt`, where the server is put together, then `store.rt`,
+//! then `nights.rt`.
 #![tactic(auto)]
 
 mod auditing;

@@ -8,7 +8,8 @@ ghost use Rattle.sqlite.specs.Held.{state};
 ghost use Rattle.sqlite.specs.WalFiles.{image_at};
 ghost use Rattle.mq_rows.specs.Pair.{pair_cmp};
 ghost use Rattle.mq_store.specs.Soundness.{HasKept, IsSound, book_in};
-ghost use Rattle.mq_program.specs.Listing.{PrintsFrontOfLimits, PrintsLimits, PrintsLimitsOf, PrintsSome, limit_line, limit_lines, limit_text};
+ghost use Rattle.mq_program.specs.Listing.{PrintsFrontOfLimits, PrintsLimits, PrintsLimitsOf};
+ghost use Rattle.mq_program.specs.Listing.{PrintsSome, limit_line, limit_lines, limit_text};
 ghost use Rattle.mq_program.specs.Opened.{MeansFile};
 ghost use Rattle.mq_process.specs.Settings.{AreInRange};
 
@@ -27,9 +28,9 @@ use std::alloc::{AllocError, Global};
 use std::cmp::Ordering;
 use std::io::Write;
 
-/// Opens the ledger in the file of the settings, and prints a line for each limit that is set. Nothing is written to it,
-/// but that one of an older version is given the current one. `start` stands for what the file and its log hold before
-/// the call.
+/// Opens the ledger in the file of the settings, and prints a line for each limit that is set.
+/// Nothing is written to it, but that one of an older version is given the current one. `start`
+/// stands for what the file and its log hold before the call.
 pub fn limits<W: Write, S: Start>(
     rt: &HostRuntime,
     given: LimitsArguments<'_>,
@@ -37,7 +38,8 @@ pub fn limits<W: Write, S: Start>(
     output: &mut W,
 ) -> Result<u8, ProgramFault>
     ensures status { IfOk result (λ status. status ≡ 0) }
-    ensures printed { IfOk result (λ _. PrintsSome (W.contents output.old) (W.contents output.new)) }
+    ensures printed { IfOk result (λ _. PrintsSome (W.contents output.old)
+        (W.contents output.new)) }
 {
     let settings = server_settings(rt, given.config)?;
     let_go(limits_file(rt, &settings, start, output))
@@ -51,13 +53,16 @@ fn limits_file<W: Write, S: Start>(
     output: &mut W,
 ) -> Result<SqlLedger<FileStore<FileFrom<S>>>, ProgramFault>
     requires { AreInRange settings.now }
-    ensures printed { IfOk result (λ _. PrintsSome (W.contents output.old) (W.contents output.new)) }
+    ensures printed { IfOk result (λ _. PrintsSome (W.contents output.old)
+        (W.contents output.new)) }
 
     // It is the ledger whose rows the files hold, and the lines are those of its limits.
     ensures rows { IfOk result (λ ledger. HasKept (file_state ledger.connection)
-        → MeansFile settings.now.zone settings.now.default (image_at S.Start) (file_state ledger.connection)) }
+        → MeansFile settings.now.zone settings.now.default (image_at S.Start)
+        (file_state ledger.connection)) }
     ensures listed { IfOk result (λ ledger. HasKept (file_state ledger.connection)
-        → PrintsLimits (file_state ledger.connection).now (W.contents output.old) (W.contents output.new)) }
+        → PrintsLimits (file_state ledger.connection).now (W.contents output.old)
+        (W.contents output.new)) }
 {
     let path = path_of(settings)?;
     let logged = Logged::new(rt, settings.log, Console(rt));
@@ -66,8 +71,8 @@ fn limits_file<W: Write, S: Start>(
     Ok(ledger)
 }
 
-/// Prints the limits of a ledger, which comes back as it was. It goes over any store, since a proof over the file's own
-/// takes far longer.
+/// Prints the limits of a ledger, which comes back as it was. It goes over any store, since a proof
+/// over the file's own takes far longer.
 fn list_whole<G: Log, S: Alter + Drop, W: Write>(
     alloc: Global,
     log: &G,
@@ -75,9 +80,11 @@ fn list_whole<G: Log, S: Alter + Drop, W: Write>(
     ledger: SqlLedger<S>,
     output: &mut W,
 ) -> Result<SqlLedger<S>, ProgramFault>
-    ensures printed { IfOk result (λ _. PrintsSome (W.contents output.old) (W.contents output.new)) }
+    ensures printed { IfOk result (λ _. PrintsSome (W.contents output.old)
+        (W.contents output.new)) }
     ensures listed { IfOk result (λ back. HasKept (state S.Store back.connection)
-        → PrintsLimits (state S.Store ledger.connection).now (W.contents output.old) (W.contents output.new)) }
+        → PrintsLimits (state S.Store ledger.connection).now (W.contents output.old)
+        (W.contents output.new)) }
     ensures same { IfOk result (λ back. HasKept (state S.Store back.connection)
         → (state S.Store back.connection).now ≡ (state S.Store ledger.connection).now) }
     ensures kept { IfOk result (λ back. HasKept (state S.Store back.connection)
@@ -93,22 +100,26 @@ fn list_whole<G: Log, S: Alter + Drop, W: Write>(
     }
 }
 
-/// Prints a line for each limit of a ledger, by the bytes of the logins, then by the days. They are all limits that its
-/// tables have; over a sound store those of its history. Nothing is printed where it fails before the output does.
+/// Prints a line for each limit of a ledger, by the bytes of the logins, then by the days. They are
+/// all limits that its tables have; over a sound store those of its history. Nothing is printed
+/// where it fails before the output does.
 #[tactic(auto, using(crate::proofs::ListingSteps::nothing_written))]
 pub fn list_limits<S: Alter, W: Write>(
     alloc: Global,
     ledger: &mut SqlLedger<S>,
     output: &mut W,
 ) -> Result<(), ProgramFault>
-    ensures printed { IfOk result (λ _. PrintsSome (W.contents output.old) (W.contents output.new)) }
+    ensures printed { IfOk result (λ _. PrintsSome (W.contents output.old)
+        (W.contents output.new)) }
     ensures listed { HasKept (state S.Store ledger.new.connection)
-        → IfOk result (λ _. PrintsLimits (state S.Store ledger.old.connection).now (W.contents output.old)
+        → IfOk result (λ _. PrintsLimits (state S.Store ledger.old.connection).now
+        (W.contents output.old)
         (W.contents output.new)) }
     ensures set { HasKept (state S.Store ledger.new.connection)
         → IsSound ledger.old.zone ledger.old.default (state S.Store ledger.old.connection)
         → IfOk result (λ _. PrintsLimitsOf (book_in ledger.old.zone ledger.old.default
-        (state S.Store ledger.old.connection).now).history (W.contents output.old) (W.contents output.new)) }
+        (state S.Store ledger.old.connection).now).history (W.contents output.old)
+        (W.contents output.new)) }
     ensures unprinted { IfErr result (λ fault. (fault ≡ ProgramFault.Write)
         ⊎ Keeps (W.contents output.old) (W.contents output.new)) }
     ensures front { HasKept (state S.Store ledger.new.connection)

@@ -19,8 +19,9 @@ use sqlite::{Alter, FileFrom, FileStore, Start};
 use std::alloc::{AllocError, Global};
 use std::io::Write;
 
-/// Makes the ledger in the file of the settings, prints the file's path, and lets the ledger go. A file that has a ledger
-/// already is refused and stays as it is. `start` stands for what the file and its log hold before the call.
+/// Makes the ledger in the file of the settings, prints the file's path, and lets the ledger go. A
+/// file that has a ledger already is refused and stays as it is. `start` stands for what the file
+/// and its log hold before the call.
 #[tactic(auto, using(crate::proofs::MakingSteps::some_path))]
 pub fn init<W: Write, S: Start>(
     rt: &HostRuntime,
@@ -29,7 +30,8 @@ pub fn init<W: Write, S: Start>(
     output: &mut W,
 ) -> Result<u8, ProgramFault>
     ensures status { IfOk result (λ status. status ≡ 0) }
-    ensures printed { IfOk result (λ _. PrintsMade (W.contents output.old) (W.contents output.new)) }
+    ensures printed { IfOk result (λ _. PrintsMade (W.contents output.old)
+        (W.contents output.new)) }
 {
     let settings = server_settings(rt, given.config)?;
     let_go(init_file(rt, &settings, start, output))
@@ -44,13 +46,17 @@ fn init_file<W: Write, S: Start>(
     output: &mut W,
 ) -> Result<SqlLedger<FileStore<FileFrom<S>>>, ProgramFault>
     requires { AreInRange settings.now }
-    ensures printed { IfOk result (λ _. PrintsMadeIn (path_in settings.now.store) (W.contents output.old)
+    ensures printed { IfOk result (λ _. PrintsMadeIn (path_in settings.now.store)
+        (W.contents output.old)
         (W.contents output.new)) }
     ensures made { IfOk result (λ ledger. HasKept (file_state ledger.connection)
-        → IsMadeIn settings.now.zone settings.now.default (image_at S.Start) (file_state ledger.connection)) }
+        → IsMadeIn settings.now.zone settings.now.default (image_at S.Start)
+        (file_state ledger.connection)) }
 
-    // Nothing else is printed: a part of this line where the output fails, and nothing before any other fault.
-    ensures unprinted { IfErr result (λ fault. MadeFails (path_in settings.now.store) (W.contents output.old)
+    // Nothing else is printed: a part of this line where the output fails, and nothing before any
+    // other fault.
+    ensures unprinted { IfErr result (λ fault. MadeFails (path_in settings.now.store)
+        (W.contents output.old)
         (W.contents output.new) fault) }
 {
     let path = path_of(settings)?;
@@ -60,8 +66,8 @@ fn init_file<W: Write, S: Start>(
     Ok(ledger)
 }
 
-/// Prints the path of a ledger that was made, and which comes back. It goes over any store, since a proof over the file's own
-/// takes far longer.
+/// Prints the path of a ledger that was made, and which comes back. It goes over any store, since a
+/// proof over the file's own takes far longer.
 #[tactic(auto, using(crate::proofs::ListingSteps::nothing_written))]
 fn print_made<S: Alter + Drop, W: Write>(
     alloc: Global,
@@ -70,7 +76,8 @@ fn print_made<S: Alter + Drop, W: Write>(
     output: &mut W,
 ) -> Result<SqlLedger<S>, ProgramFault>
     ensures same { IfOk result (λ back. back ≡ ledger) }
-    ensures printed { IfOk result (λ _. PrintsMadeIn (Some path.now) (W.contents output.old) (W.contents output.new)) }
+    ensures printed { IfOk result (λ _. PrintsMadeIn (Some path.now) (W.contents output.old)
+        (W.contents output.new)) }
     ensures unprinted { IfErr result (λ fault. MadeFails (Some path.now) (W.contents output.old)
         (W.contents output.new) fault) }
 {

@@ -11,7 +11,8 @@ use std::fs;
 /// Which group of the system's a process is in.
 const GROUP: &str = "/proc/self/cgroup";
 
-/// The megabytes that a start takes at most over a file of so many bytes, by the last figures: three times as many.
+/// The megabytes that a start takes at most over a file of so many bytes, by the last figures:
+/// three times as many.
 fn megabytes_over(bytes: u64) -> u64
     ensures { result ≡ megabytes_over bytes }
 {
@@ -25,7 +26,8 @@ fn may_not_fit(bytes: u64, limit: u64) -> bool
     limit / 1_000_000 < megabytes_over(bytes)
 }
 
-/// How many bytes of memory a group's processes may have, by its `memory.max`: no number where there is no limit.
+/// How many bytes of memory a group's processes may have, by its `memory.max`: no number where
+/// there is no limit.
 fn limit_in(text: &str) -> Option<u64>
     ensures { SomeIff result (IsNumeral 10 (without_leading_plus (trim_end text.now))
         × (digits_value 10 (without_leading_plus (trim_end text.now)) < 2 ^ 64))
@@ -48,8 +50,8 @@ fn memory_limit(rt: &HostRuntime) -> Option<u64> {
     limit_in(limit.as_str())
 }
 
-/// Warns that a start over the file at a path may take more memory than this process may have: the system then kills it, and
-/// nothing else would say why.
+/// Warns that a start over the file at a path may take more memory than this process may have: the
+/// system then kills it, and nothing else would say why.
 pub fn warn_of_memory<G: Log>(rt: &HostRuntime, log: &G, path: &str) {
     let Ok(found) = fs::metadata(rt, path) else {
         return;

@@ -9,25 +9,25 @@ ghost use Rattle.mq_program.specs.Nights.{AreKept, AreServed, HasDawned, HasPass
 
 use crate::fault::ProgramFault;
 use crate::last_night::{last_night, note_night};
-use crate::serving::{Crowd, Served, Took, bind, log_ledger};
+use crate::serving::{Crowd, Elapsed, EndedServing, bind, log_ledger};
 use crate::store::{ledger_of_settings, log_cause, path_of};
 use crate::switching::{Names, PartStore, discard_part, make_part, switch};
 use log::{Log, info};
 use mq_connections::Connections;
 use mq_connections::laws::nothing_is_served;
 use mq_ledger::{Ledger, LedgerFault, Zone};
-use mq_nights::{NoPart, Parts, Renewed, pass_night};
+use mq_nights::{NoPart, Parts, RenewedLedger, pass_night};
 use mq_process::elapsed;
 use mq_settings::ServerSettings;
 use mq_store::SqlLedger;
-use mq_watch::Watched;
+use mq_watch::WatchedLedger;
 use sqlite::{Alter, Connection, Unknown};
 use std::alloc::AllocError;
 use std::net::TcpListener;
 use std::time::{Duration, Instant};
 
 /// A ledger with the log of what comes to it.
-type Serving<'a, S, G> = Watched<'a, SqlLedger<S>, HostRuntime, G>;
+type Serving<'a, S, G> = WatchedLedger<'a, SqlLedger<S>, HostRuntime, G>;
 
 /// What all nights of a server have in common.
 #[derive(Drop)]
@@ -43,16 +43,19 @@ struct Nights<'a, G> {
     connections: Connections,
 }
 
-/// Lets ledgers that renewals made take the place of former ones, to which there are connections `C`.
+/// Lets ledgers that renewals made take the place of former ones, to which there are connections
+/// `C`.
 trait Switch<C> {
     ghost use Rattle.std.specs.Prelude.{List, Option, None};
     ghost use Rattle.mq_program.specs.Nights.{Closes};
 
-    /// The connections that it has closed, where it can tell: of a file that is closed nothing is known any more.
+    /// The connections that it has closed, where it can tell: of a file that is closed nothing is
+    /// known any more.
     ghost closed: { Self → Option (List C) } = { λ _. None };
 
-    /// Closes the former ledger's file once it has another name, gives that of it to the new one, and logs and notes which
-    /// days were forgotten. `zone` is the ledger's, and `began` when the renewal began.
+    /// Closes the former ledger's file once it has another name, gives that of it to the new one,
+    /// and logs and notes which days were forgotten. `zone` is the ledger's, and `began` when the
+    /// renewal began.
     fn take_place(
         &mut self,
         former: C,
@@ -106,8 +109,8 @@ impl<G: Log> Switch<Connection<PartStore>> for NightFiles<'_, G> {
         let since = Instant::now(self.rt).ok();
         switch(self.rt, self.log, self.names, former)?;
         let ledger = self.names.ledger.as_str();
-        let took = Took(elapsed(self.rt, began));
-        let switched = Took(elapsed(self.rt, since));
+        let took = Elapsed(elapsed(self.rt, began));
+        let switched = Elapsed(elapsed(self.rt, since));
         info!(
             self.log;
             "ledger {ledger}: the days before {day} are forgotten, in {took}, the last {switched} without an answer"
@@ -129,26 +132,28 @@ struct Dawn<'a, N: Alter, G> {
     night: Option<u32>,
 }
 
-/// A night that is over: the ledger that it began with, and the one that is served from then on, if there is one.
+/// A night that is over: the ledger that it began with, and the one that is served from then on, if
+/// there is one.
 #[derive(Drop)]
-struct Passed<'a, S: Alter, N: Alter, G> {
+struct PassedNight<'a, S: Alter, N: Alter, G> {
     ledger: SqlLedger<S>,
     outcome: Result<Option<Dawn<'a, N, G>>, ProgramFault>,
 }
 
-/// The end of a night without a fault: a renewed ledger is served from then on, by who served the former one.
+/// The end of a night without a fault: a renewed ledger is served from then on, by who served the
+/// former one.
 fn end_night<'a, G: Log, S: Alter + Drop, N: Alter + Drop>(
     nights: &Nights<'a, G>,
     serving: Serving<'a, S, G>,
-    night: Option<Renewed<N>>,
-) -> Passed<'a, S, N, G>
+    night: Option<RenewedLedger<N>>,
+) -> PassedNight<'a, S, N, G>
     ensures former { result.ledger ≡ serving.entry }
     ensures next { IfOk result.outcome (λ dawn. IfSome dawn (λ d.
         IsSomeAnd night (λ n. (d.serving ≡ n.ledger) × (d.day ≡ n.day)))) }
 {
     match night {
         Some(renewed) => {
-            let Renewed {
+            let RenewedLedger {
                 ledger,
                 day,
                 began,
@@ -161,7 +166,7 @@ fn end_night<'a, G: Log, S: Alter + Drop, N: Alter + Drop>(
                 began,
                 night,
             };
-            Passed {
+            PassedNight {
                 ledger,
                 outcome: Ok(Some(dawn)),
             }
@@ -169,7 +174,7 @@ fn end_night<'a, G: Log, S: Alter + Drop, N: Alter + Drop>(
         None => {
             let crowd = Crowd(nights.connections);
             info!(nights.log; "ending after {crowd}");
-            Passed {
+            PassedNight {
                 ledger: serving.into_inner(),
                 outcome: Ok(None),
             }
@@ -177,8 +182,8 @@ fn end_night<'a, G: Log, S: Alter + Drop, N: Alter + Drop>(
     }
 }
 
-/// Serves a ledger until a renewal of it is through, or the serving is over. It goes over any stores, since a proof over the
-/// file's own takes far longer.
+/// Serves a ledger until a renewal of it is through, or the serving is over. It goes over any
+/// stores, since a proof over the file's own takes far longer.
 fn pass<'a, G: Log, S: Alter + Drop, N: Alter + Drop, P: Parts<N> + Drop>(
     nights: &Nights<'a, G>,
     listener: &TcpListener,
@@ -186,22 +191,29 @@ fn pass<'a, G: Log, S: Alter + Drop, N: Alter + Drop, P: Parts<N> + Drop>(
     parts: P,
     serving: Serving<'a, S, G>,
     left: &mut Connections,
-) -> Passed<'a, S, N, G>
-    ensures lent { (result.ledger.zone ≡ serving.entry.zone) × (result.ledger.default ≡ serving.entry.default) }
-    ensures kept { HasKept (state S.Store result.ledger.connection) → HasKept (state S.Store serving.entry.connection) }
+) -> PassedNight<'a, S, N, G>
+    ensures lent { (result.ledger.zone ≡ serving.entry.zone)
+        × (result.ledger.default ≡ serving.entry.default) }
+    ensures kept { HasKept (state S.Store result.ledger.connection)
+        → HasKept (state S.Store serving.entry.connection) }
 
     // The ledger gained what was served, and nothing else.
     ensures sound { HasKept (state S.Store result.ledger.connection)
         → IsSound serving.entry.zone serving.entry.default (state S.Store serving.entry.connection)
-        → IsSound result.ledger.zone result.ledger.default (state S.Store result.ledger.connection) }
+        → IsSound result.ledger.zone result.ledger.default
+        (state S.Store result.ledger.connection) }
     ensures grown { HasKept (state S.Store result.ledger.connection)
         → IsSound serving.entry.zone serving.entry.default (state S.Store serving.entry.connection)
-        → HasGrown (book_in serving.entry.zone serving.entry.default (state S.Store serving.entry.connection).now)
-        (book_in result.ledger.zone result.ledger.default (state S.Store result.ledger.connection).now) }
+        → HasGrown (book_in serving.entry.zone serving.entry.default
+        (state S.Store serving.entry.connection).now)
+        (book_in result.ledger.zone result.ledger.default
+        (state S.Store result.ledger.connection).now) }
     ensures serves { HasKept (state S.Store result.ledger.connection)
         → IsSound serving.entry.zone serving.entry.default (state S.Store serving.entry.connection)
-        → AreServed (book_in serving.entry.zone serving.entry.default (state S.Store serving.entry.connection).now)
-        (book_in result.ledger.zone result.ledger.default (state S.Store result.ledger.connection).now) }
+        → AreServed (book_in serving.entry.zone serving.entry.default
+        (state S.Store serving.entry.connection).now)
+        (book_in result.ledger.zone result.ledger.default
+        (state S.Store result.ledger.connection).now) }
 
     // The next one has exactly what is remembered of it.
     ensures next_lent { HasKept (state S.Store result.ledger.connection)
@@ -210,8 +222,10 @@ fn pass<'a, G: Log, S: Alter + Drop, N: Alter + Drop, P: Parts<N> + Drop>(
         × (d.serving.default ≡ serving.entry.default))) }
     ensures remembered { HasKept (state S.Store result.ledger.connection)
         → IsSound serving.entry.zone serving.entry.default (state S.Store serving.entry.connection)
-        → IfOk result.outcome (λ dawn. IfSome dawn (λ d. P.is_fresh → HasKept (state N.Store d.serving.connection)
-        → IsRemembered serving.entry.zone serving.entry.default d.day (state S.Store result.ledger.connection).now
+        → IfOk result.outcome (λ dawn. IfSome dawn (λ d. P.is_fresh
+        → HasKept (state N.Store d.serving.connection)
+        → IsRemembered serving.entry.zone serving.entry.default d.day
+        (state S.Store result.ledger.connection).now
         (state N.Store d.serving.connection))) }
 {
     let mut serving = serving;
@@ -233,7 +247,7 @@ fn pass<'a, G: Log, S: Alter + Drop, N: Alter + Drop, P: Parts<N> + Drop>(
         Err(fault) => {
             let ledger = serving.into_inner();
             log_cause(log, nights.path, &ledger);
-            Passed {
+            PassedNight {
                 ledger,
                 outcome: Err(ProgramFault::Serve(fault)),
             }
@@ -241,8 +255,8 @@ fn pass<'a, G: Log, S: Alter + Drop, N: Alter + Drop, P: Parts<N> + Drop>(
     }
 }
 
-/// Serves a ledger until a renewal of it is through, and the new one has taken its place. Where the server ends before, it gives
-/// the ledger that was served last.
+/// Serves a ledger until a renewal of it is through, and the new one has taken its place. Where the
+/// server ends before, it gives the ledger that was served last.
 fn serve_to_dawn<'a, G: Log, N: Alter + Drop, F: Parts<N> + Switch<Connection<N>> + Copy + Drop>(
     nights: &Nights<'a, G>,
     listener: &TcpListener,
@@ -250,7 +264,7 @@ fn serve_to_dawn<'a, G: Log, N: Alter + Drop, F: Parts<N> + Switch<Connection<N>
     files: &mut F,
     serving: Serving<'a, N, G>,
     left: &mut Connections,
-) -> Result<Dawn<'a, N, G>, Served<N>>
+) -> Result<Dawn<'a, N, G>, EndedServing<N>>
     ensures closed { AreKept (λ c. HasKept (state N.Store c)) (F.closed files.new)
         → AreKept (λ c. HasKept (state N.Store c)) (F.closed files.old) }
     ensures kept { AreKept (λ c. HasKept (state N.Store c)) (F.closed files.new)
@@ -261,33 +275,35 @@ fn serve_to_dawn<'a, G: Log, N: Alter + Drop, F: Parts<N> + Switch<Connection<N>
         → IfOk result (λ d. HasKept (state N.Store d.serving.connection)
         → (d.serving.zone ≡ serving.entry.zone) × (d.serving.default ≡ serving.entry.default)
         × HasDawned serving.entry.zone serving.entry.default
-        (book_in serving.entry.zone serving.entry.default (state N.Store serving.entry.connection).now)
+        (book_in serving.entry.zone serving.entry.default
+        (state N.Store serving.entry.connection).now)
         (state N.Store d.serving.connection)) }
     ensures end { AreKept (λ c. HasKept (state N.Store c)) (F.closed files.new) → F.is_fresh
         → IsSound serving.entry.zone serving.entry.default (state N.Store serving.entry.connection)
         → IfErr result (λ s. HasKept (state N.Store s.ledger.connection)
         → HasPassed serving.entry.zone serving.entry.default
-        (book_in serving.entry.zone serving.entry.default (state N.Store serving.entry.connection).now)
+        (book_in serving.entry.zone serving.entry.default
+        (state N.Store serving.entry.connection).now)
         (state N.Store s.ledger.connection)) }
 {
     nothing_is_served();
-    let Passed { ledger, outcome } = pass(nights, listener, done, *files, serving, left);
+    let PassedNight { ledger, outcome } = pass(nights, listener, done, *files, serving, left);
     match outcome {
         Ok(Some(dawn)) => {
             let zone = *ledger.zone();
             match files.take_place(ledger.into_connection(), zone, dawn.day, dawn.began) {
                 Ok(()) => Ok(dawn),
-                Err(fault) => Err(Served {
+                Err(fault) => Err(EndedServing {
                     ledger: dawn.serving.into_inner(),
                     outcome: Err(fault),
                 }),
             }
         }
-        Ok(None) => Err(Served {
+        Ok(None) => Err(EndedServing {
             ledger,
             outcome: Ok(0),
         }),
-        Err(fault) => Err(Served {
+        Err(fault) => Err(EndedServing {
             ledger,
             outcome: Err(fault),
         }),
@@ -300,12 +316,14 @@ fn pass_nights<G: Log, N: Alter + Drop, F: Parts<N> + Switch<Connection<N>> + Co
     listener: &TcpListener,
     files: &mut F,
     ledger: SqlLedger<N>,
-) -> Served<N>
+) -> EndedServing<N>
     ensures kept { AreKept (λ c. HasKept (state N.Store c)) (F.closed files.new)
-        → HasKept (state N.Store result.ledger.connection) → HasKept (state N.Store ledger.connection) }
+        → HasKept (state N.Store result.ledger.connection)
+        → HasKept (state N.Store ledger.connection) }
 
-    // Where each ledger that was closed had kept its premise, and so has the last one: night after night connections were
-    // served, and what isn't remembered was forgotten, and nothing else came to what the ledger means.
+    // Where each ledger that was closed had kept its premise, and so has the last one: night after
+    // night connections were served, and what isn't remembered was forgotten, and nothing else came
+    // to what the ledger means.
     ensures nights { AreKept (λ c. HasKept (state N.Store c)) (F.closed files.new) → F.is_fresh
         → IsSound ledger.zone ledger.default (state N.Store ledger.connection)
         → HasKept (state N.Store result.ledger.connection)
@@ -316,7 +334,7 @@ fn pass_nights<G: Log, N: Alter + Drop, F: Parts<N> + Switch<Connection<N>> + Co
     nothing_is_served();
     let rt = nights.rt;
     let mut left = nights.connections;
-    let mut serving = Watched::new(rt, nights.log, rt.alloc(), ledger);
+    let mut serving = WatchedLedger::new(rt, nights.log, rt.alloc(), ledger);
     let mut done = None;
     // (there are fewer nights than that)
     for _night in 0..u64::MAX {
@@ -328,7 +346,7 @@ fn pass_nights<G: Log, N: Alter + Drop, F: Parts<N> + Switch<Connection<N>> + Co
             Err(served) => return served,
         }
     }
-    Served {
+    EndedServing {
         ledger: serving.into_inner(),
         outcome: Ok(0),
     }
@@ -342,7 +360,8 @@ fn log_keep<G: Log, S: Alter>(
     keep: u32,
 ) -> Result<(), LedgerFault>
     ensures lent { (ledger.new.zone ≡ ledger.old.zone) × (ledger.new.default ≡ ledger.old.default) }
-    ensures kept { HasKept (state S.Store ledger.new.connection) → HasKept (state S.Store ledger.old.connection) }
+    ensures kept { HasKept (state S.Store ledger.new.connection)
+        → HasKept (state S.Store ledger.old.connection) }
     ensures sound { HasKept (state S.Store ledger.new.connection)
         → IsSound ledger.old.zone ledger.old.default (state S.Store ledger.old.connection)
         → IsSound ledger.new.zone ledger.new.default (state S.Store ledger.new.connection) }
@@ -363,10 +382,11 @@ fn log_keep<G: Log, S: Alter>(
 fn log_start<G: Log, S: Alter>(
     nights: &Nights<'_, G>,
     ledger: &mut SqlLedger<S>,
-    took: Took,
+    took: Elapsed,
 ) -> Result<(), LedgerFault>
     ensures lent { (ledger.new.zone ≡ ledger.old.zone) × (ledger.new.default ≡ ledger.old.default) }
-    ensures kept { HasKept (state S.Store ledger.new.connection) → HasKept (state S.Store ledger.old.connection) }
+    ensures kept { HasKept (state S.Store ledger.new.connection)
+        → HasKept (state S.Store ledger.old.connection) }
     ensures sound { HasKept (state S.Store ledger.new.connection)
         → IsSound ledger.old.zone ledger.old.default (state S.Store ledger.old.connection)
         → IsSound ledger.new.zone ledger.new.default (state S.Store ledger.new.connection) }
@@ -377,14 +397,16 @@ fn log_start<G: Log, S: Alter>(
     log_keep(nights.log, nights.path, ledger, nights.keep)
 }
 
-/// Logs the start over a ledger, with what its last night did, and listens at the address of the settings.
+/// Logs the start over a ledger, with what its last night did, and listens at the address of the
+/// settings.
 fn prepare<G: Log, S: Alter>(
     nights: &Nights<'_, G>,
     ledger: &mut SqlLedger<S>,
-    took: Took,
+    took: Elapsed,
 ) -> Result<TcpListener, ProgramFault>
     ensures lent { (ledger.new.zone ≡ ledger.old.zone) × (ledger.new.default ≡ ledger.old.default) }
-    ensures kept { HasKept (state S.Store ledger.new.connection) → HasKept (state S.Store ledger.old.connection) }
+    ensures kept { HasKept (state S.Store ledger.new.connection)
+        → HasKept (state S.Store ledger.old.connection) }
     ensures sound { HasKept (state S.Store ledger.new.connection)
         → IsSound ledger.old.zone ledger.old.default (state S.Store ledger.old.connection)
         → IsSound ledger.new.zone ledger.new.default (state S.Store ledger.new.connection) }
@@ -402,14 +424,15 @@ fn prepare<G: Log, S: Alter>(
     bind(nights.rt, log, nights.settings.listen)
 }
 
-/// Serves a ledger, and each that a renewal makes of it. The start, the end and what prevents it are logged. It goes over any
-/// store, as all above does: each way out of a function that owns a ledger over the file's own store takes long to prove.
+/// Serves a ledger, and each that a renewal makes of it. The start, the end and what prevents it
+/// are logged. It goes over any store, as all above does: each way out of a function that owns a
+/// ledger over the file's own store takes long to prove.
 fn begin_nights<G: Log, N: Alter + Drop, F: Parts<N> + Switch<Connection<N>> + Copy + Drop>(
     nights: &Nights<'_, G>,
     files: &mut F,
     ledger: SqlLedger<N>,
-    took: Took,
-) -> Served<N>
+    took: Elapsed,
+) -> EndedServing<N>
     ensures { AreKept (λ c. HasKept (state N.Store c)) (F.closed files.new) → F.is_fresh
         → IsSound ledger.zone ledger.default (state N.Store ledger.connection)
         → HasKept (state N.Store result.ledger.connection)
@@ -426,15 +449,15 @@ fn begin_nights<G: Log, N: Alter + Drop, F: Parts<N> + Switch<Connection<N>> + C
             info!(nights.log; "listening on {address} for {crowd}");
             pass_nights(nights, &listener, files, ledger)
         }
-        Err(fault) => Served {
+        Err(fault) => EndedServing {
             ledger,
             outcome: Err(fault),
         },
     }
 }
 
-/// Serves so many connections over the ledger in the file of the settings, with `create` over a new one. Meanwhile days leave
-/// it, but today and so many before.
+/// Serves so many connections over the ledger in the file of the settings, with `create` over a new
+/// one. Meanwhile days leave it, but today and so many before.
 pub fn listen_by_night<G: Log>(
     rt: &HostRuntime,
     log: &G,
@@ -462,7 +485,7 @@ pub fn listen_by_night<G: Log>(
     };
     // (the files of nights have one type, and of one that a renewal makes nothing is known before)
     let ledger = ledger_of_settings(rt, log, settings, create, Unknown)?;
-    let took = Took(elapsed(rt, since));
-    let Served { ledger: _, outcome } = begin_nights(&nights, &mut files, ledger, took);
+    let took = Elapsed(elapsed(rt, since));
+    let EndedServing { ledger: _, outcome } = begin_nights(&nights, &mut files, ledger, took);
     outcome
 }

@@ -25,8 +25,9 @@ use std::{fs, io};
 /// The exit status where no server answers and none has the ledger's file open.
 const NOT_RUNNING: u8 = 3;
 
-/// `status` of settings: asks their quota server once, and prints that it answers. Where it doesn't, and no server has the file
-/// of its ledger open, prints what that holds; the status is 3 then. Last it prints which days the server forgot last.
+/// `status` of settings: asks their quota server once, and prints that it answers. Where it
+/// doesn't, and no server has the file of its ledger open, prints what that holds; the status is 3
+/// then. Last it prints which days the server forgot last.
 ///
 /// `start` stands for what the file of the settings and its log hold before the call.
 pub fn status<E: Write, S: Start>(
@@ -69,7 +70,8 @@ fn print_last_night<W: Write>(
     print(output, line.as_bytes())
 }
 
-/// Prints what the ledger in the file of these settings holds, which it opens as a server does, and which comes back.
+/// Prints what the ledger in the file of these settings holds, which it opens as a server does, and
+/// which comes back.
 fn describe_file<W: Write, S: Start>(
     rt: &HostRuntime,
     settings: &ServerSettings,
@@ -78,12 +80,14 @@ fn describe_file<W: Write, S: Start>(
 ) -> Result<SqlLedger<FileStore<FileFrom<S>>>, ProgramFault>
     requires { AreInRange settings.now }
 
-    // It is the ledger whose rows the files hold, and where these are the rows of a history, the lines are those of its
-    // ledger.
+    // It is the ledger whose rows the files hold, and where these are the rows of a history, the
+    // lines are those of its ledger.
     ensures rows { IfOk result (λ ledger. HasKept (file_state ledger.connection)
-        → MeansFile settings.now.zone settings.now.default (image_at S.Start) (file_state ledger.connection)) }
+        → MeansFile settings.now.zone settings.now.default (image_at S.Start)
+        (file_state ledger.connection)) }
     ensures described { IfOk result (λ ledger. HasKept (file_state ledger.connection)
-        → DescribesFile settings.now.zone settings.now.default (image_at S.Start) (path_in settings.now.store)
+        → DescribesFile settings.now.zone settings.now.default (image_at S.Start)
+        (path_in settings.now.store)
         (file_state ledger.connection).now (W.contents output.old) (W.contents output.new)) }
 {
     let path = path_of(settings)?;
@@ -93,8 +97,8 @@ fn describe_file<W: Write, S: Start>(
     Ok(ledger)
 }
 
-/// Prints what a ledger holds that is in the file at a path, and comes back as it was. It goes over any store, since a
-/// proof over the file's own takes far longer.
+/// Prints what a ledger holds that is in the file at a path, and comes back as it was. It goes over
+/// any store, since a proof over the file's own takes far longer.
 fn describe_whole<G: Log, S: Alter + Drop, W: Write>(
     rt: &HostRuntime,
     log: &G,
@@ -104,7 +108,8 @@ fn describe_whole<G: Log, S: Alter + Drop, W: Write>(
 ) -> Result<SqlLedger<S>, ProgramFault>
     ensures described { IfOk result (λ back. HasKept (state S.Store back.connection)
         → IsSound ledger.zone ledger.default (state S.Store ledger.connection)
-        → (bytes : ℕ) × Describes path.now bytes ledger.zone ledger.default (state S.Store ledger.connection).now
+        → (bytes : ℕ) × Describes path.now bytes ledger.zone ledger.default
+        (state S.Store ledger.connection).now
         ledger.found (W.contents output.old) (W.contents output.new)) }
     ensures same { IfOk result (λ back. HasKept (state S.Store back.connection)
         → (state S.Store back.connection).now ≡ (state S.Store ledger.connection).now) }

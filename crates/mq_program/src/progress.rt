@@ -4,11 +4,12 @@ use mq_process::elapsed;
 use std::io::{IsTerminal, Write};
 use std::time::Instant;
 
-/// How many answers `forget` looks through in a second at least, where it keeps them all: by the last figures 87 us for one.
+/// How many answers `forget` looks through in a second at least, where it keeps them all: by the
+/// last figures 87 us for one.
 const ANSWERS_A_SECOND: u64 = 11_000;
 
 /// Who hears how many answers a command has to look through.
-pub trait Progress {
+pub trait ProgressListener {
     fn begin(&self, answers: u64);
 }
 
@@ -41,8 +42,9 @@ impl<'a> Terminal<'a> {
     }
 }
 
-impl Progress for Terminal<'_> {
-    /// Prints how many answers there are, and how long that may take, where that is a second or more.
+impl ProgressListener for Terminal<'_> {
+    /// Prints how many answers there are, and how long that may take, where that is a second or
+    /// more.
     fn begin(&self, answers: u64) {
         let seconds = answers / ANSWERS_A_SECOND;
         let mut errors = self.rt.stderr();

@@ -4,7 +4,7 @@ ghost use Rattle.std.specs.Prelude.{◌≡◌, false};
 use crate::fault::ProgramFault;
 use log::{Log, error};
 use mq_ledger::Zone;
-use mq_request::Escaped;
+use mq_request::EscapedText;
 use mq_rows::VERSION;
 use mq_settings::ServerSettings;
 use mq_store::{OpenFault, OpenRefused};
@@ -28,7 +28,7 @@ impl fmt::Display for Term<'_> {
     fn fmt<W: fmt::Write>(&self, f: &mut fmt::Formatter<W>) -> fmt::Result {
         match self {
             Term::Offset(minutes) => write!(f, "offset {minutes}"),
-            Term::Rule(text) => write!(f, "rule {}", Escaped(text)),
+            Term::Rule(text) => write!(f, "rule {}", EscapedText(text)),
             Term::Default(cap) => write!(f, "default {cap}"),
         }
     }

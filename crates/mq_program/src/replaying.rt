@@ -26,7 +26,8 @@ fn replay_over_list<W: Write>(
 ) -> Result<(), ReplayFault>
     requires { IsAmount default }
     ensures cause { IsForCause ⊥ result }
-    ensures replays { ReplaysOver zone default (map (λ c. c.items) connections.now) (W.contents output.old)
+    ensures replays { ReplaysOver zone default (map (λ c. c.items) connections.now)
+        (W.contents output.old)
         (W.contents output.new) result }
 {
     let mut ledger = PlainLedger::new(alloc, zone, default);
@@ -43,7 +44,8 @@ fn replay_over_tables<W: Write>(
 ) -> Result<(), ReplayFault>
     requires { IsAmount default }
     ensures cause { IsForCause ⊤ result }
-    ensures replays { ReplaysOver zone default (map (λ c. c.items) connections.now) (W.contents output.old)
+    ensures replays { ReplaysOver zone default (map (λ c. c.items) connections.now)
+        (W.contents output.old)
         (W.contents output.new) result }
 {
     match SqlLedger::in_memory(alloc, zone, default) {
@@ -64,7 +66,8 @@ fn replay_over_new<W: Write>(
 ) -> Result<(), ReplayFault>
     requires { IsAmount default }
     ensures cause { IsForCause (sql ≡ true) result }
-    ensures replays { ReplaysOver zone default (map (λ c. c.items) connections.now) (W.contents output.old)
+    ensures replays { ReplaysOver zone default (map (λ c. c.items) connections.now)
+        (W.contents output.old)
         (W.contents output.new) result }
 {
     if sql {
@@ -84,7 +87,8 @@ fn replay_text<W: Write>(
 ) -> Result<(), ReplayFault>
     requires { IsAmount default }
     ensures cause { IsForCause (sql ≡ true) result }
-    ensures replays { Replays zone default text.now (W.contents output.old) (W.contents output.new) result }
+    ensures replays { Replays zone default text.now (W.contents output.old)
+        (W.contents output.new) result }
 {
     let connections = match read_connections(alloc, text) {
         Ok(connections) => connections,
@@ -112,7 +116,8 @@ pub fn run_replay<W: Write, E: Write>(
     requires { IsAmount default }
     // Without `sql` there is no store that could fail.
     ensures replays { (outcome : AnyResult (Unit {0}) AnyReplayFault) × (result ≡ status_of outcome)
-        × IsForCause (sql ≡ true) outcome × Replays zone default text.now (W.contents output.old) (W.contents output.new) outcome }
+        × IsForCause (sql ≡ true) outcome × Replays zone default text.now (W.contents output.old)
+        (W.contents output.new) outcome }
     ensures quiet { result ≡ 0 → errors.new ≡ errors.old }
 {
     match replay_text(alloc, text, default, zone, sql, output) {
@@ -149,8 +154,8 @@ fn zone_of(given: ReplayArguments<'_>) -> Result<Zone, ProgramFault>
     }
 }
 
-/// `replay`: from standard input to standard output. A rule that is at fault is refused before any input
-/// is read.
+/// `replay`: from standard input to standard output. A rule that is at fault is refused before any
+/// input is read.
 pub fn replay<R: Input + Print + AllocGlobal, E: Write>(
     rt: &R,
     given: ReplayArguments<'_>,

@@ -33,7 +33,7 @@ use mq_process::{ConnectionsArgument, ServerArguments, elapsed, server_settings}
 use mq_rows::VERSION;
 use mq_settings::{Place, ServerSettings};
 use mq_store::SqlLedger;
-use mq_watch::{Hear, Watched};
+use mq_watch::{Hear, WatchedLedger};
 use sqlite::{Alter, FileFrom, FileStore, MemStore, Start};
 use std::alloc::Global;
 use std::fmt;
@@ -41,8 +41,8 @@ use std::net::{Net, SocketAddr, TcpListener, TcpStream};
 use std::rt::Clock;
 use std::time::{Duration, Instant};
 
-/// Serves so many connections: the settings first, then the ledger, then the port. `start` stands for what the ledger's file
-/// and its log hold before the call.
+/// Serves so many connections: the settings first, then the ledger, then the port. `start` stands
+/// for what the ledger's file and its log hold before the call.
 pub fn server<S: Start>(
     rt: &HostRuntime,
     given: ServerArguments<'_>,
@@ -97,7 +97,7 @@ fn serve<S: Start>(
             if settings.keep.is_some() {
                 warn!(logged; "a ledger in memory forgets nothing, whatever `keep` says");
             }
-            let Served { ledger: _, outcome } = listen_in_memory(
+            let EndedServing { ledger: _, outcome } = listen_in_memory(
                 rt,
                 &logged,
                 settings,
@@ -110,7 +110,7 @@ fn serve<S: Start>(
             if let Some(keep) = settings.keep {
                 return listen_by_night(rt, &logged, settings, keep, create, connections);
             }
-            let Served { ledger: _, outcome } = listen_over_file(
+            let EndedServing { ledger: _, outcome } = listen_over_file(
                 rt,
                 &logged,
                 settings,
@@ -125,7 +125,7 @@ fn serve<S: Start>(
 
 /// A server that has ended: its ledger, and how it ended.
 #[derive(Drop)]
-pub struct Served<S: Alter> {
+pub struct EndedServing<S: Alter> {
     pub ledger: SqlLedger<S>,
     pub outcome: Result<u8, ProgramFault>,
 }
@@ -136,21 +136,23 @@ fn listen_in_memory<G: Log>(
     log: &G,
     settings: &ServerSettings,
     connections: Connections,
-) -> Result<Served<MemStore>, ProgramFault>
+) -> Result<EndedServing<MemStore>, ProgramFault>
     requires { AreInRange settings.now }
 
     // It begins with no history, and gains what is served, and nothing else.
     ensures { IfOk result (λ served. HasServed settings.now.zone settings.now.default
-        (book_of settings.now.zone settings.now.default []) (state over_memory served.ledger.connection)
+        (book_of settings.now.zone settings.now.default [])
+        (state over_memory served.ledger.connection)
         served.outcome) }
 {
     let since = Instant::now(rt).ok();
     let ledger = memory_ledger(rt.alloc(), settings.zone, settings.default)?;
-    let took = Took(elapsed(rt, since));
+    let took = Elapsed(elapsed(rt, since));
     Ok(listen_over(rt, log, settings, ledger, took, connections))
 }
 
-/// Serves so many connections over the ledger in the file of the settings; with `create` over a new one.
+/// Serves so many connections over the ledger in the file of the settings; with `create` over a new
+/// one.
 fn listen_over_file<G: Log, S: Start>(
     rt: &HostRuntime,
     log: &G,
@@ -158,21 +160,25 @@ fn listen_over_file<G: Log, S: Start>(
     create: bool,
     connections: Connections,
     start: S,
-) -> Result<Served<FileStore<FileFrom<S>>>, ProgramFault>
+) -> Result<EndedServing<FileStore<FileFrom<S>>>, ProgramFault>
     requires { AreInRange settings.now }
 
-    // A server begins with the history whose rows the files hold, and gains what is served, and nothing else; so does one
-    // that makes its ledger, with no history.
-    ensures begun { create ≡ false → IfOk result (λ served. HasKept (file_state served.ledger.connection)
+    // A server begins with the history whose rows the files hold, and gains what is served, and
+    // nothing else; so does one that makes its ledger, with no history.
+    ensures begun { create ≡ false → IfOk result (λ served. HasKept
+        (file_state served.ledger.connection)
         → ServesFrom settings.now.zone settings.now.default (image_at S.Start)
         (file_state served.ledger.connection) served.outcome) }
-    ensures made { IsTrue create → IfOk result (λ served. HasKept (file_state served.ledger.connection)
+    ensures made { IsTrue create → IfOk result (λ served. HasKept
+        (file_state served.ledger.connection)
         → ServesFromNothing settings.now.zone settings.now.default (image_at S.Start)
         (file_state served.ledger.connection) served.outcome) }
 
-    // Over what a forgetting left, and what came since, who asks about the kept days under no forgotten number is answered
-    // as if nothing had been forgotten, as long as what came is about kept days, or late.
-    ensures remembered { create ≡ false → IfOk result (λ served. HasKept (file_state served.ledger.connection)
+    // Over what a forgetting left, and what came since, who asks about the kept days under no
+    // forgotten number is answered as if nothing had been forgotten, as long as what came is about
+    // kept days, or late.
+    ensures remembered { create ≡ false → IfOk result (λ served. HasKept
+        (file_state served.ledger.connection)
         → ServesRemembered settings.now.zone settings.now.default (image_at S.Start)
         (file_state served.ledger.connection) served.outcome) }
 {
@@ -181,28 +187,31 @@ fn listen_over_file<G: Log, S: Start>(
     built_is_legal();
     let since = Instant::now(rt).ok();
     let ledger = ledger_of_settings(rt, log, settings, create, start)?;
-    let took = Took(elapsed(rt, since));
+    let took = Elapsed(elapsed(rt, since));
     Ok(listen_over(rt, log, settings, ledger, took, connections))
 }
 
-/// Serves so many connections over a ledger. It goes over any store, since a proof over the file's own takes far longer.
+/// Serves so many connections over a ledger. It goes over any store, since a proof over the file's
+/// own takes far longer.
 fn listen_over<G: Log, S: Alter + Drop>(
     rt: &HostRuntime,
     log: &G,
     settings: &ServerSettings,
     ledger: SqlLedger<S>,
-    took: Took,
+    took: Elapsed,
     connections: Connections,
-) -> Served<S>
+) -> EndedServing<S>
     ensures same { (result.ledger.zone ≡ ledger.zone) × (result.ledger.default ≡ ledger.default) }
-    ensures kept { HasKept (state S.Store result.ledger.connection) → HasKept (state S.Store ledger.connection) }
+    ensures kept { HasKept (state S.Store result.ledger.connection)
+        → HasKept (state S.Store ledger.connection) }
     ensures sound { HasKept (state S.Store result.ledger.connection)
         → IsSound ledger.zone ledger.default (state S.Store ledger.connection)
         → IsSound ledger.zone ledger.default (state S.Store result.ledger.connection) }
     ensures serves { HasKept (state S.Store result.ledger.connection)
         → IsSound ledger.zone ledger.default (state S.Store ledger.connection)
         → Serves (book_in ledger.zone ledger.default (state S.Store ledger.connection).now)
-        (book_in ledger.zone ledger.default (state S.Store result.ledger.connection).now) result.outcome }
+        (book_in ledger.zone ledger.default (state S.Store result.ledger.connection).now)
+        result.outcome }
 {
     nothing_is_served();
     let mut ledger = ledger;
@@ -210,7 +219,7 @@ fn listen_over<G: Log, S: Alter + Drop>(
         Ok(()) => begin(rt, log, settings, ledger, connections),
         Err(fault) => {
             log_cause(log, place_name(&settings.store), &ledger);
-            Served {
+            EndedServing {
                 ledger,
                 outcome: Err(ProgramFault::Audit(fault)),
             }
@@ -218,36 +227,39 @@ fn listen_over<G: Log, S: Alter + Drop>(
     }
 }
 
-/// Serves so many connections over a ledger, and logs what an administrator has to see of their requests.
+/// Serves so many connections over a ledger, and logs what an administrator has to see of their
+/// requests.
 fn begin<G: Log, S: Alter + Drop>(
     rt: &HostRuntime,
     log: &G,
     settings: &ServerSettings,
     ledger: SqlLedger<S>,
     connections: Connections,
-) -> Served<S>
+) -> EndedServing<S>
     ensures same { (result.ledger.zone ≡ ledger.zone) × (result.ledger.default ≡ ledger.default) }
-    ensures kept { HasKept (state S.Store result.ledger.connection) → HasKept (state S.Store ledger.connection) }
+    ensures kept { HasKept (state S.Store result.ledger.connection)
+        → HasKept (state S.Store ledger.connection) }
     ensures sound { HasKept (state S.Store result.ledger.connection)
         → IsSound ledger.zone ledger.default (state S.Store ledger.connection)
         → IsSound ledger.zone ledger.default (state S.Store result.ledger.connection) }
     ensures serves { HasKept (state S.Store result.ledger.connection)
         → IsSound ledger.zone ledger.default (state S.Store ledger.connection)
         → Serves (book_in ledger.zone ledger.default (state S.Store ledger.connection).now)
-        (book_in ledger.zone ledger.default (state S.Store result.ledger.connection).now) result.outcome }
+        (book_in ledger.zone ledger.default (state S.Store result.ledger.connection).now)
+        result.outcome }
 {
-    let mut watched = Watched::new(rt, log, rt.alloc(), ledger);
+    let mut watched = WatchedLedger::new(rt, log, rt.alloc(), ledger);
     let outcome = listen(rt, log, rt.alloc(), settings, &mut watched, connections);
     let ledger = watched.into_inner();
     log_cause(log, place_name(&settings.store), &ledger);
-    Served { ledger, outcome }
+    EndedServing { ledger, outcome }
 }
 
 /// How long something took, where the clock could be read.
 #[derive(Clone, Copy)]
-pub struct Took(pub Option<Duration>);
+pub struct Elapsed(pub Option<Duration>);
 
-impl fmt::Display for Took {
+impl fmt::Display for Elapsed {
     fn fmt<W: fmt::Write>(&self, f: &mut fmt::Formatter<W>) -> fmt::Result {
         match self.0 {
             Some(time) => write!(f, "{} ms", time.as_millis()),
@@ -269,10 +281,11 @@ pub fn log_ledger<G: Log, S: Alter>(
     log: &G,
     settings: &ServerSettings,
     ledger: &mut SqlLedger<S>,
-    took: Took,
+    took: Elapsed,
 ) -> Result<(), LedgerFault>
     ensures lent { (ledger.new.zone ≡ ledger.old.zone) × (ledger.new.default ≡ ledger.old.default) }
-    ensures kept { HasKept (state S.Store ledger.new.connection) → HasKept (state S.Store ledger.old.connection) }
+    ensures kept { HasKept (state S.Store ledger.new.connection)
+        → HasKept (state S.Store ledger.old.connection) }
     ensures sound { HasKept (state S.Store ledger.new.connection)
         → IsSound ledger.old.zone ledger.old.default (state S.Store ledger.old.connection)
         → IsSound ledger.new.zone ledger.new.default (state S.Store ledger.new.connection) }
@@ -307,8 +320,8 @@ where
     }
 }
 
-/// Listens at the address of the settings, and serves so many connections over the ledger. The start,
-/// the end and what prevents it are logged.
+/// Listens at the address of the settings, and serves so many connections over the ledger. The
+/// start, the end and what prevents it are logged.
 pub fn listen<R, G: Log, L: Ledger + Hear>(
     rt: &R,
     log: &G,
@@ -327,7 +340,8 @@ where
         HasGrown (L.book ledger.old) (L.book ledger.new) }
     ensures serves { L.has_kept ledger.new → L.is_sound ledger.old → EndsServing
         (record { book = L.book ledger.old; told = L.told ledger.old; wires = unknown })
-        (record { book = L.book ledger.new; told = L.told ledger.new; wires = unknown }) (Serve store_failed) result }
+        (record { book = L.book ledger.new; told = L.told ledger.new; wires = unknown })
+        (Serve store_failed) result }
 {
     nothing_is_served();
     let address = settings.listen;

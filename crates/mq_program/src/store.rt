@@ -1,5 +1,6 @@
 //! The store of the server's ledger: opened, or made.
-ghost use Rattle.std.specs.Prelude.{◌≡◌, ◌⊎◌, [], false, true, IsTrue, IfOk, IfErr, IsSome, MatchResult, None, Some, Ok, Err};
+ghost use Rattle.std.specs.Prelude.{◌≡◌, ◌⊎◌, [], false, true, IsTrue, IfOk, IfErr, IsSome};
+ghost use Rattle.std.specs.Prelude.{MatchResult, None, Some, Ok, Err};
 ghost use Rattle.sqlite.specs.Files.{file_state, IsOpened};
 ghost use Rattle.sqlite.specs.FileStore.{view};
 ghost use Rattle.sqlite.specs.Held.{state, IsNew as IsUnused};
@@ -72,7 +73,8 @@ fn make_empty(rt: &HostRuntime, path: &str) -> io::Result<()> {
     }
 }
 
-/// Gives a file to the owner and the group of its folder, where this process may: what root makes is then the server's.
+/// Gives a file to the owner and the group of its folder, where this process may: what root makes
+/// is then the server's.
 fn give_to_owner(rt: &HostRuntime, file: &File, path: &str) -> io::Result<()> {
     let folder = fs::metadata(rt, folder_of(rt.alloc(), path)?.as_str())?;
     match fchown(file, Some(folder.uid()), Some(folder.gid())) {
@@ -118,9 +120,9 @@ fn find_or_make_file<G: Log>(
     }
 }
 
-/// A connection to the database file at a path. A file that isn't there is made where a ledger is made, with mode 0600; a
-/// file that is empty gets a sum at the end of each page, and one with such sums is refused where one is wrong. The cause of
-/// `ProgramFault::Store` is logged.
+/// A connection to the database file at a path. A file that isn't there is made where a ledger is
+/// made, with mode 0600; a file that is empty gets a sum at the end of each page, and one with such
+/// sums is refused where one is wrong. The cause of `ProgramFault::Store` is logged.
 ///
 /// `start` stands for what the two files, the database and its log, hold before the call.
 fn connect<G: Log, S: Start>(
@@ -131,11 +133,13 @@ fn connect<G: Log, S: Start>(
     start: S,
 ) -> Result<Connection<FileStore<FileFrom<S>>>, ProgramFault>
     ensures opened { IfOk result (λ c. HasCleanDisk (file_state c) → IsOpened c) }
-    ensures found { IfOk result (λ c. HasCleanDisk (file_state c) → FindsIn (image_at S.Start) (file_state c)) }
+    ensures found { IfOk result (λ c. HasCleanDisk (file_state c)
+        → FindsIn (image_at S.Start) (file_state c)) }
     ensures sums { IfOk result (λ c. HasCleanDisk (file_state c) → (image_at S.Start).db ≡ []
         → (view c.store).has_sums ≡ true) }
     ensures unused { IfOk result IsUnused }
-    ensures fault { IfErr result (λ fault. (fault ≡ ProgramFault.Memory) ⊎ (fault ≡ ProgramFault.Store)) }
+    ensures fault { IfErr result (λ fault. (fault ≡ ProgramFault.Memory)
+        ⊎ (fault ≡ ProgramFault.Store)) }
 {
     find_or_make_file(rt, log, path, create)?;
     match Connection::open_from(rt, path, true, start) {
@@ -145,8 +149,8 @@ fn connect<G: Log, S: Start>(
     }
 }
 
-/// Makes an empty file at a path, with mode 0600. A file that is there is refused as `ProgramFault::Exists`. The cause of
-/// `ProgramFault::Store` is logged.
+/// Makes an empty file at a path, with mode 0600. A file that is there is refused as
+/// `ProgramFault::Exists`. The cause of `ProgramFault::Store` is logged.
 pub fn make_new_file<G: Log>(rt: &HostRuntime, log: &G, path: &str) -> Result<(), ProgramFault> {
     match make_empty(rt, path) {
         Ok(()) => Ok(()),
@@ -156,7 +160,8 @@ pub fn make_new_file<G: Log>(rt: &HostRuntime, log: &G, path: &str) -> Result<()
     }
 }
 
-/// A connection to the empty file that was made at a path. The cause of `ProgramFault::Store` is logged.
+/// A connection to the empty file that was made at a path. The cause of `ProgramFault::Store` is
+/// logged.
 ///
 /// `start` stands for what the file and its log hold.
 pub fn connect_new<G: Log, S: Start>(
@@ -166,12 +171,14 @@ pub fn connect_new<G: Log, S: Start>(
     start: S,
 ) -> Result<Connection<FileStore<FileFrom<S>>>, ProgramFault>
     ensures opened { IfOk result (λ c. HasCleanDisk (file_state c) → IsOpened c) }
-    ensures found { IfOk result (λ c. HasCleanDisk (file_state c) → FindsIn (image_at S.Start) (file_state c)) }
+    ensures found { IfOk result (λ c. HasCleanDisk (file_state c)
+        → FindsIn (image_at S.Start) (file_state c)) }
 {
     connect(rt, log, path, false, start)
 }
 
-/// Closes the file of a ledger, so that it stands without its log. The cause of `ProgramFault::Store` is logged.
+/// Closes the file of a ledger, so that it stands without its log. The cause of
+/// `ProgramFault::Store` is logged.
 pub fn close_file<G: Log, S: Start>(
     log: &G,
     path: &str,
@@ -194,7 +201,8 @@ pub fn path_of(settings: &ServerSettings) -> Result<&str, ProgramFault>
     }
 }
 
-/// The ledger in the database of a file at a path; with `create` a new one. Why a database is refused is logged.
+/// The ledger in the database of a file at a path; with `create` a new one. Why a database is
+/// refused is logged.
 fn ledger_over<G: Log, S: Alter + Drop>(
     alloc: Global,
     log: &G,
@@ -206,22 +214,29 @@ fn ledger_over<G: Log, S: Alter + Drop>(
     requires { AreInRange settings.now }
     ensures lent { IfOk result (λ ledger. (ledger.zone ≡ settings.now.zone)
         × (ledger.default ≡ settings.now.default)) }
-    ensures made { IsTrue create → IfOk result (λ ledger. HasCleanDisk (state S.Store ledger.connection)
-        → IsMadeOver (made_with settings.now.zone settings.now.default) (state S.Store connection).now
+    ensures made { IsTrue create → IfOk result (λ ledger. HasCleanDisk
+        (state S.Store ledger.connection)
+        → IsMadeOver (made_with settings.now.zone settings.now.default)
+        (state S.Store connection).now
         (state S.Store ledger.connection).now) }
-    ensures new { IsTrue create → IfOk result (λ ledger. HasCleanDisk (state S.Store ledger.connection)
+    ensures new { IsTrue create → IfOk result (λ ledger. HasCleanDisk
+        (state S.Store ledger.connection)
         → HasCounters (state S.Store connection) → AreUnnamed (state S.Store connection).now.schema
         → IsNew settings.now.zone settings.now.default (state S.Store ledger.connection)) }
-    ensures opened { create ≡ false → IfOk result (λ ledger. HasCleanDisk (state S.Store ledger.connection)
-        → Opens (IsFound S.Store settings.now.zone settings.now.default connection ledger.connection)
+    ensures opened { create ≡ false → IfOk result (λ ledger. HasCleanDisk
+        (state S.Store ledger.connection)
+        → Opens (IsFound S.Store settings.now.zone settings.now.default connection
+        ledger.connection)
         (state S.Store connection) (state S.Store ledger.connection)) }
     ensures rows { create ≡ false → IfOk result (λ ledger. HasKept (state S.Store ledger.connection)
         → MeansBook settings.now.zone settings.now.default (state S.Store connection).now
         (state S.Store ledger.connection)) }
-    ensures sound { create ≡ false → IfOk result (λ ledger. HasKept (state S.Store ledger.connection)
+    ensures sound { create ≡ false → IfOk result (λ ledger. HasKept
+        (state S.Store ledger.connection)
         → IsFoundSound settings.now.zone settings.now.default (state S.Store connection)
         (state S.Store ledger.connection)) }
-    ensures counts { create ≡ false → IfOk result (λ ledger. HasCleanDisk (state S.Store ledger.connection)
+    ensures counts { create ≡ false → IfOk result (λ ledger. HasCleanDisk
+        (state S.Store ledger.connection)
         → IsAuditIn settings.now.zone settings.now.default (state S.Store connection).now
         (Sound ledger.found.days ledger.found.transactions)) }
 
@@ -241,10 +256,12 @@ fn ledger_over<G: Log, S: Alter + Drop>(
     }
 }
 
-/// The ledger in the file of these settings; with `create` a new one. Why it can't be had is logged.
+/// The ledger in the file of these settings; with `create` a new one. Why it can't be had is
+/// logged.
 ///
-/// A switch to another ledger of this path that was interrupted is finished or undone first, and what a renewal left is
-/// removed. `start` stands for what the two files, the database and its log, hold then.
+/// A switch to another ledger of this path that was interrupted is finished or undone first, and
+/// what a renewal left is removed. `start` stands for what the two files, the database and its log,
+/// hold then.
 pub fn ledger_of_settings<G: Log, S: Start>(
     rt: &HostRuntime,
     log: &G,
@@ -258,9 +275,11 @@ pub fn ledger_of_settings<G: Log, S: Start>(
 
     // The ledger that is opened is the one whose rows the files hold.
     ensures rows { create ≡ false → IfOk result (λ ledger. HasKept (file_state ledger.connection)
-        → MeansFile settings.now.zone settings.now.default (image_at S.Start) (file_state ledger.connection)) }
+        → MeansFile settings.now.zone settings.now.default (image_at S.Start)
+        (file_state ledger.connection)) }
     ensures made { IsTrue create → IfOk result (λ ledger. HasKept (file_state ledger.connection)
-        → IsMadeIn settings.now.zone settings.now.default (image_at S.Start) (file_state ledger.connection)) }
+        → IsMadeIn settings.now.zone settings.now.default (image_at S.Start)
+        (file_state ledger.connection)) }
 
     // What it was found to hold as it was opened is what an audit of the files' rows finds.
     ensures counts { create ≡ false → IfOk result (λ ledger. HasKept (file_state ledger.connection)
@@ -280,8 +299,8 @@ pub fn ledger_of_settings<G: Log, S: Start>(
     Ok(ledger)
 }
 
-/// How a subcommand ends whose ledger came back, which is let go. It stands alone: a proof that lets a ledger go over the
-/// file's own store takes far longer than one that hands it on.
+/// How a subcommand ends whose ledger came back, which is let go. It stands alone: a proof that
+/// lets a ledger go over the file's own store takes far longer than one that hands it on.
 pub fn let_go<S: Start>(
     done: Result<SqlLedger<FileStore<FileFrom<S>>>, ProgramFault>,
 ) -> Result<u8, ProgramFault>

@@ -2,14 +2,15 @@
 //!
 //! A renewal fills `LEDGER.part`, and then that file takes the place of `LEDGER`:
 //!
-//! 1. `LEDGER` gets the name `LEDGER.old`, while it is open still, and is closed then. A `LEDGER.old-wal` is removed before.
-//! 2. `LEDGER.part` gets the name `LEDGER.next`: from then on the new ledger is whole by its name.
-//! 3. `LEDGER.part-wal` becomes `LEDGER-wal`.
-//! 4. `LEDGER.next` becomes `LEDGER`.
+//! 1. `LEDGER` gets the name `LEDGER.old`, while it is open still, and is closed then. A
+//! `LEDGER.old-wal` is removed before. 2. `LEDGER.part` gets the name `LEDGER.next`: from then on
+//! the new ledger is whole by its name. 3. `LEDGER.part-wal` becomes `LEDGER-wal`. 4. `LEDGER.next`
+//! becomes `LEDGER`.
 //!
-//! The folder is synced after each step. So what a kill or a power cut leaves says how far it came, and there is no file
-//! `LEDGER` that could be opened beside the log of another one. Whoever opens the ledger next undoes the first step, or does
-//! the rest. The process that renews has locked the new file all the time, so nobody else does either before it has ended.
+//! The folder is synced after each step. So what a kill or a power cut leaves says how far it came,
+//! and there is no file `LEDGER` that could be opened beside the log of another one. Whoever opens
+//! the ledger next undoes the first step, or does the rest. The process that renews has locked the
+//! new file all the time, so nobody else does either before it has ended.
 ghost use Rattle.std.specs.Prelude.{IfOk};
 ghost use Rattle.sqlite.specs.Files.{file_state};
 ghost use Rattle.sqlite.specs.State.{HasCleanDisk};
@@ -42,7 +43,8 @@ pub struct Names {
     pub ledger: String,
     /// The log of the ledger.
     pub log: String,
-    /// The ledger that was served before the last switch, and a log that was left beside it by hand.
+    /// The ledger that was served before the last switch, and a log that was left beside it by
+    /// hand.
     pub old: String,
     pub old_log: String,
     /// The ledger that a renewal fills, and its log.
@@ -109,8 +111,8 @@ fn remove(rt: &HostRuntime, path: &str) -> io::Result<()> {
     sync_folder(rt, path)
 }
 
-/// Takes the lock that a process has of a database file that it has open, for as long as the file is held. There is none
-/// where another process has it.
+/// Takes the lock that a process has of a database file that it has open, for as long as the file
+/// is held. There is none where another process has it.
 fn hold(rt: &HostRuntime, path: &str) -> io::Result<Option<File>> {
     let file = OpenOptions::new().read(true).write(true).open(rt, path)?;
     let lock = os::try_lock_range(
@@ -131,7 +133,7 @@ fn hold(rt: &HostRuntime, path: &str) -> io::Result<Option<File>> {
 
 /// What a switch that was interrupted has left.
 #[derive(Clone, Copy, PartialEq, Eq)]
-enum Left {
+enum SwitchRemains {
     /// There was none.
     Nothing,
     /// The former ledger has lost its name, and the new one isn't whole by its own.
@@ -141,17 +143,17 @@ enum Left {
 }
 
 /// What was left of a switch.
-fn find_left(rt: &HostRuntime, names: &Names) -> Left {
+fn find_left(rt: &HostRuntime, names: &Names) -> SwitchRemains {
     if !is_missing(rt, names.ledger.as_str()) {
-        return Left::Nothing;
+        return SwitchRemains::Nothing;
     }
     if is_there(rt, names.next.as_str()) {
-        return Left::Next;
+        return SwitchRemains::Next;
     }
     if is_there(rt, names.old.as_str()) && is_there(rt, names.part.as_str()) {
-        return Left::Part;
+        return SwitchRemains::Part;
     }
-    Left::Nothing
+    SwitchRemains::Nothing
 }
 
 /// Does the rest of a switch from where the new ledger is whole.
@@ -168,8 +170,8 @@ fn undo<G: Log>(rt: &HostRuntime, log: &G, names: &Names) -> Result<(), ProgramF
     move_file(rt, log, names.old.as_str(), names.ledger.as_str())
 }
 
-/// Holds the new file of a switch that was interrupted, which is refused while the process lives that switches. The cause of
-/// `ProgramFault::Store` is logged.
+/// Holds the new file of a switch that was interrupted, which is refused while the process lives
+/// that switches. The cause of `ProgramFault::Store` is logged.
 fn hold_new<G: Log>(rt: &HostRuntime, log: &G, new: &str) -> Result<File, ProgramFault> {
     match hold(rt, new) {
         Ok(Some(file)) => Ok(file),
@@ -178,22 +180,22 @@ fn hold_new<G: Log>(rt: &HostRuntime, log: &G, new: &str) -> Result<File, Progra
     }
 }
 
-/// Finishes or undoes a switch that was interrupted, unless another process was quicker. The cause of `ProgramFault::Store` is
-/// logged.
+/// Finishes or undoes a switch that was interrupted, unless another process was quicker. The cause
+/// of `ProgramFault::Store` is logged.
 fn repair<G: Log>(rt: &HostRuntime, log: &G, names: &Names) -> Result<(), ProgramFault> {
     let ledger = names.ledger.as_str();
     match find_left(rt, names) {
-        Left::Nothing => {}
-        Left::Part => {
+        SwitchRemains::Nothing => {}
+        SwitchRemains::Part => {
             let _held = hold_new(rt, log, names.part.as_str())?;
-            if find_left(rt, names) == Left::Part {
+            if find_left(rt, names) == SwitchRemains::Part {
                 info!(log; "{ledger}: an interrupted switch to a new file is undone");
                 undo(rt, log, names)?;
             }
         }
-        Left::Next => {
+        SwitchRemains::Next => {
             let _held = hold_new(rt, log, names.next.as_str())?;
-            if find_left(rt, names) == Left::Next {
+            if find_left(rt, names) == SwitchRemains::Next {
                 info!(log; "{ledger}: an interrupted switch to a new file is finished");
                 drop_note(rt, ledger);
                 finish(rt, log, names)?;
@@ -203,8 +205,8 @@ fn repair<G: Log>(rt: &HostRuntime, log: &G, names: &Names) -> Result<(), Progra
     Ok(())
 }
 
-/// Finishes or undoes what is left of a switch to another ledger at this path, before that is opened. The cause of
-/// `ProgramFault::Store` is logged.
+/// Finishes or undoes what is left of a switch to another ledger at this path, before that is
+/// opened. The cause of `ProgramFault::Store` is logged.
 pub fn repair_switch<G: Log>(rt: &HostRuntime, log: &G, ledger: &str) -> Result<(), ProgramFault> {
     if !is_missing(rt, ledger) {
         return Ok(());
@@ -212,7 +214,8 @@ pub fn repair_switch<G: Log>(rt: &HostRuntime, log: &G, ledger: &str) -> Result<
     repair(rt, log, &Names::new(rt.alloc(), ledger)?)
 }
 
-/// Removes what a renewal has left of its file, the log first, and a name that no switch came to use.
+/// Removes what a renewal has left of its file, the log first, and a name that no switch came to
+/// use.
 fn remove_part(rt: &HostRuntime, names: &Names) -> io::Result<()> {
     remove(rt, names.part_log.as_str())?;
     remove(rt, names.part.as_str())?;
@@ -227,8 +230,9 @@ fn may_replace(rt: &HostRuntime, path: &str) -> bool {
     }
 }
 
-/// Makes the file of a new ledger, in place of one that was left, and opens it. There is none where a rename couldn't give the
-/// names at the end, or would replace a link. The cause of `ProgramFault::Store` is logged.
+/// Makes the file of a new ledger, in place of one that was left, and opens it. There is none where
+/// a rename couldn't give the names at the end, or would replace a link. The cause of
+/// `ProgramFault::Store` is logged.
 pub fn make_part<G: Log>(
     rt: &HostRuntime,
     log: &G,
@@ -267,8 +271,8 @@ fn log_left<G: Log>(log: &G, names: &Names, cause: io::Error) {
     warn!(log; "{part}, which a renewal left: {cause}");
 }
 
-/// Removes the file of a renewal that was interrupted, now that this process has the ledger. It stays where another process has
-/// it open.
+/// Removes the file of a renewal that was interrupted, now that this process has the ledger. It
+/// stays where another process has it open.
 fn clear(rt: &HostRuntime, names: &Names) -> io::Result<()> {
     if is_missing(rt, names.part.as_str()) {
         return Ok(());
@@ -279,8 +283,8 @@ fn clear(rt: &HostRuntime, names: &Names) -> io::Result<()> {
     }
 }
 
-/// Removes the file of a renewal that was interrupted, once the ledger at this path is open. One that can't be removed is
-/// logged, and does no harm.
+/// Removes the file of a renewal that was interrupted, once the ledger at this path is open. One
+/// that can't be removed is logged, and does no harm.
 pub fn clear_part<G: Log>(rt: &HostRuntime, log: &G, ledger: &str) {
     let Ok(names) = Names::new(rt.alloc(), ledger) else {
         return;
@@ -290,8 +294,8 @@ pub fn clear_part<G: Log>(rt: &HostRuntime, log: &G, ledger: &str) {
     }
 }
 
-/// Removes a log that a `forget` by hand has left: it is of an earlier file than the one that gets the name beside it. One
-/// that can't be removed is logged.
+/// Removes a log that a `forget` by hand has left: it is of an earlier file than the one that gets
+/// the name beside it. One that can't be removed is logged.
 fn remove_old_log<G: Log>(rt: &HostRuntime, log: &G, names: &Names) {
     let old_log = names.old_log.as_str();
     if let Err(cause) = remove(rt, old_log) {
@@ -299,7 +303,8 @@ fn remove_old_log<G: Log>(rt: &HostRuntime, log: &G, names: &Names) {
     }
 }
 
-/// Looks whether the new ledger and its log still have their names, before the former one loses its own.
+/// Looks whether the new ledger and its log still have their names, before the former one loses its
+/// own.
 fn check_part<G: Log>(rt: &HostRuntime, log: &G, names: &Names) -> Result<(), ProgramFault> {
     for name in [names.part.as_str(), names.part_log.as_str()] {
         if !is_there(rt, name) {
@@ -309,8 +314,8 @@ fn check_part<G: Log>(rt: &HostRuntime, log: &G, names: &Names) -> Result<(), Pr
     Ok(())
 }
 
-/// Lets the new ledger, which this process has open, take the place of the one that this connection is to. The cause of
-/// `ProgramFault::Store` is logged; the next start then does the rest.
+/// Lets the new ledger, which this process has open, take the place of the one that this connection
+/// is to. The cause of `ProgramFault::Store` is logged; the next start then does the rest.
 pub fn switch<G: Log, S: Start>(
     rt: &HostRuntime,
     log: &G,

@@ -7,7 +7,7 @@ use Rattle.std.specs.Net.Text.{socket_text}
 use Rattle.std.specs.declared.net.SocketAddr.{SocketAddr}
 use Rattle.mq_client.specs.declared.spans.Spans.{Spans}
 use Rattle.mq_process.specs.declared.arguments.LimitArguments.{LimitArguments}
-use Rattle.mq_link.specs.declared.link.Told.{Told}
+use Rattle.mq_link.specs.declared.link.ReportedExchange.{ReportedExchange}
 use Rattle.mq_request.specs.Range.{IsRun}
 use Rattle.mq_request.specs.declared.message.Request.{Request}
 use Rattle.mq_process.specs.Faults.{process_status}
@@ -72,15 +72,15 @@ run_by (Some g) run numbered was is in_range = let e = sym was ∙ is in cc
 run_by None run numbered was is in_range = in_range
 
 -- a server was asked, or memory ran out before
-pub asked_or_not : {L : Type 0} (leads : L → SocketAddr → ℕ → Type 0) (told : L → Option (List Told))
-    (Asks : ℕ → Option (List Told) → Option (List Told) → Option (List ℕ) → Option (List ℕ) → Type 0) (address : SocketAddr) (asked : Result ℕ ProcessFault) (said : ℕ)
+pub asked_or_not : {L : Type 0} (leads : L → SocketAddr → ℕ → Type 0) (told : L → Option (List ReportedExchange))
+    (Asks : ℕ → Option (List ReportedExchange) → Option (List ReportedExchange) → Option (List ℕ) → Option (List ℕ) → Type 0) (address : SocketAddr) (asked : Result ℕ ProcessFault) (said : ℕ)
     → IfOk asked (λ status. AsksOver leads told address TIMEOUT (Asks status)) → IfErr asked (λ fault. fault ≡ Memory)
     → MatchResult asked (λ status. said ≡ status) (λ fault. said ≡ process_status fault) → AsksAt leads told Asks address said
 asked_or_not leads told Asks address (Ok status) said over memory is = inr (subst (λ s. AsksOver leads told address TIMEOUT (Asks s)) (sym is) over)
 asked_or_not leads told Asks address (Err fault) said over memory is = inl (is ∙ ap (λ f. process_status f) memory)
 
 -- the limit of the words was sent, over a link that leads there
-pub limit_asked : {L : Type 0} (leads : L → SocketAddr → ℕ → Type 0) (told : L → Option (List Told)) (address : SocketAddr) (given : LimitArguments) (day run : ℕ) (request : Request)
+pub limit_asked : {L : Type 0} (leads : L → SocketAddr → ℕ → Type 0) (told : L → Option (List ReportedExchange)) (address : SocketAddr) (given : LimitArguments) (day run : ℕ) (request : Request)
     (is_given : Bool) (status : ℕ) → is_given ≡ is_some given.run → IsLimitBy given day run request → AsksOver leads told address TIMEOUT (SendsLimit is_given request status)
     → AsksOver leads told address TIMEOUT (SendsLimitBy given day run status)
 limit_asked leads told address given day run request is_given status is by asked = record {

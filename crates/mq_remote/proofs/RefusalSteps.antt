@@ -34,9 +34,9 @@ right_or None IsRight Refused is = is
 right_or (Some w) IsRight Refused is = λ no. absurd (no is)
 
 -- whatever a word is, it ends so
-whatever : {X : Type 0} (word : Option X) (Is : X → Type 0) (Ended : Type 0) → Ended → IfSome word (λ w. Is w → Ended)
-whatever None Is Ended ended = tt
-whatever (Some w) Is Ended ended = λ is. ended
+whatever : {X : Type 0} (word : Option X) (Is : X → Type 0) (RunEnd : Type 0) → RunEnd → IfSome word (λ w. Is w → RunEnd)
+whatever None Is RunEnd ended = tt
+whatever (Some w) Is RunEnd ended = λ is. ended
 
 -- `status` whose words are right isn't refused
 pub probe_right : (given : ProbeArguments) (EndsBy : ProcessFault → Type 0) → IfSome given.host (λ host. IsHost host.now) → (HasNoAddress given.servers → ⊥) → ProbeRefuses given EndsBy

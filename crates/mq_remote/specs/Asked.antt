@@ -9,7 +9,7 @@ use Rattle.std.specs.declared.net.SocketAddr.{SocketAddr}
 use Rattle.mq_request.specs.Range.{IsLogin, IsRun}
 use Rattle.mq_request.specs.declared.message.Request.{Request}
 use Rattle.mq_request.specs.declared.message.Request.TheVariants as asks
-use Rattle.mq_link.specs.declared.link.Told.{Told}
+use Rattle.mq_link.specs.declared.link.ReportedExchange.{ReportedExchange}
 use Rattle.mq_process.specs.declared.arguments.LoginArgument.{LoginArgument}
 use Rattle.mq_process.specs.declared.arguments.LimitArguments.{LimitArguments}
 use Rattle.mq_process.specs.declared.arguments.ProbeArguments.{ProbeArguments}
@@ -37,8 +37,8 @@ use Rattle.mq_process.specs.declared.asking.TheConstants.{TIMEOUT}
 use Rattle.mq_process.specs.declared.probing.Question.{Question}
 use Rattle.mq_process.specs.declared.probing.Question.TheVariants.{Status, Host}
 use Rattle.mq_remote.specs.Servers.{AsksAll, AsksToYes}
-use Rattle.mq_remote.specs.declared.subcommands.report.Reported.{Reported}
-use Rattle.mq_remote.specs.declared.subcommands.report.Reported.TheVariants.{One, Top, All}
+use Rattle.mq_remote.specs.declared.subcommands.report.ReportedLogins.{ReportedLogins}
+use Rattle.mq_remote.specs.declared.subcommands.report.ReportedLogins.TheVariants.{One, Top, All}
 use Rattle.mq_remote.specs.declared.subcommands.retire.Target.{Target}
 use Rattle.mq_settings.specs.declared.settings.FilterSettings.{FilterSettings}
 
@@ -48,17 +48,17 @@ IsRunBy (Some given) run = run ≡ given
 IsRunBy None run = IsRun run
 
 -- The server at an address was asked so, over a link that leads there; or memory ran out before, and the status is 1.
-abbrev pub AsksAt : {L : Type 0} → (L → SocketAddr → ℕ → Type 0) → (L → Option (List Told))
-    → (ℕ → Option (List Told) → Option (List Told) → Option (List ℕ) → Option (List ℕ) → Type 0) → SocketAddr → ℕ → Type 0
+abbrev pub AsksAt : {L : Type 0} → (L → SocketAddr → ℕ → Type 0) → (L → Option (List ReportedExchange))
+    → (ℕ → Option (List ReportedExchange) → Option (List ReportedExchange) → Option (List ℕ) → Option (List ℕ) → Type 0) → SocketAddr → ℕ → Type 0
 AsksAt leads told Asks address said = (said ≡ 1) ⊎ AsksOver leads told address TIMEOUT (Asks said)
 
 -- the servers at these addresses were asked so, each in turn
-abbrev pub AsksEachOf : {L : Type 0} → (L → SocketAddr → ℕ → Type 0) → (L → Option (List Told))
-    → (ℕ → Option (List Told) → Option (List Told) → Option (List ℕ) → Option (List ℕ) → Type 0) → List (List ℕ) → ℕ → Type 0
+abbrev pub AsksEachOf : {L : Type 0} → (L → SocketAddr → ℕ → Type 0) → (L → Option (List ReportedExchange))
+    → (ℕ → Option (List ReportedExchange) → Option (List ReportedExchange) → Option (List ℕ) → Option (List ℕ) → Type 0) → List (List ℕ) → ℕ → Type 0
 AsksEachOf leads told Asks servers status = AsksAll (AsksAt leads told Asks) (length servers == 1) status servers 0
 
 -- the order was sent, under its number alone, and what came of it was printed
-abbrev pub SendsOrder : Request → ℕ → Option (List Told) → Option (List Told) → Option (List ℕ) → Option (List ℕ) → Type 0
+abbrev pub SendsOrder : Request → ℕ → Option (List ReportedExchange) → Option (List ReportedExchange) → Option (List ℕ) → Option (List ℕ) → Type 0
 SendsOrder request status old new output output' =
     (sent : Result (Unit {0}) OrderFault) × Orders request old new sent × Prints (λ _. word request) output output' sent status
 
@@ -70,7 +70,7 @@ AsksAbout None question = question ≡ Status
 AsksAbout (Some host) question = (lent : Bor (List ℕ)) × (now : ℕ) × (question ≡ Host lent now) × (lent.now ≡ host) × IsRun now
 
 -- what `status` of addresses asks: each server the same, once
-pub record AsksProbe {L F : Type 0} (leads : L → SocketAddr → ℕ → Type 0) (told : L → Option (List Told))
+pub record AsksProbe {L F : Type 0} (leads : L → SocketAddr → ℕ → Type 0) (told : L → Option (List ReportedExchange))
     (remaining : F → Option (List ℕ)) (given : ProbeArguments) (status : ℕ) : Type 0 where
   pub servers : List (List ℕ)
   pub whom : IsWhom {X = Bor (List ℕ)} remaining None given.servers servers
@@ -88,18 +88,18 @@ pub record IsLimitBy (given : LimitArguments) (day run : ℕ) (request : Request
   pub is : request ≡ asks.Limit (record { host = given.host.now; run = run; number = 1 }) day given.cap login
 
 -- it was sent: under its number alone where the words give that, else under the first one that isn't used
-abbrev pub SendsLimit : Bool → Request → ℕ → Option (List Told) → Option (List Told) → Option (List ℕ) → Option (List ℕ) → Type 0
+abbrev pub SendsLimit : Bool → Request → ℕ → Option (List ReportedExchange) → Option (List ReportedExchange) → Option (List ℕ) → Option (List ℕ) → Type 0
 SendsLimit true request status old new output output' = SendsOrder request status old new output output'
 SendsLimit false request status old new output output' =
     (sent : Result (Unit {0}) OrderFault) × OrdersFresh request old new sent × Prints (λ _. word request) output output' sent status
 
 -- that of the words was sent
-abbrev pub SendsLimitBy : LimitArguments → ℕ → ℕ → ℕ → Option (List Told) → Option (List Told) → Option (List ℕ) → Option (List ℕ) → Type 0
+abbrev pub SendsLimitBy : LimitArguments → ℕ → ℕ → ℕ → Option (List ReportedExchange) → Option (List ReportedExchange) → Option (List ℕ) → Option (List ℕ) → Type 0
 SendsLimitBy given day run status old new output output' =
     (request : Request) × IsLimitBy given day run request × SendsLimit (is_some given.run) request status old new output output'
 
 -- what `limit` asks: of each server the same
-pub record AsksLimit {L F : Type 0} (leads : L → SocketAddr → ℕ → Type 0) (told : L → Option (List Told))
+pub record AsksLimit {L F : Type 0} (leads : L → SocketAddr → ℕ → Type 0) (told : L → Option (List ReportedExchange))
     (remaining : F → Option (List ℕ)) (given : LimitArguments) (status : ℕ) : Type 0 where
   pub servers : List (List ℕ)
   pub whom : IsWhom remaining given.config given.servers servers
@@ -118,19 +118,19 @@ pub record IsSetterBy (host : List ℕ) (login : LoginArgument) (setter : Setter
   pub named : Names login setter.login
 
 -- the server at an address was asked whether this login used something on this day or one of the two before
-abbrev pub UseAt : {L : Type 0} → (L → SocketAddr → ℕ → Type 0) → (L → Option (List Told)) → List ℕ → ℕ → SocketAddr → Bool → Type 0
+abbrev pub UseAt : {L : Type 0} → (L → SocketAddr → ℕ → Type 0) → (L → Option (List ReportedExchange)) → List ℕ → ℕ → SocketAddr → Bool → Type 0
 UseAt leads told login day address said =
     AsksOver leads told address TIMEOUT (λ old new output output'. HasSent login day old new said)
 
 -- Whether a login is meant at each of these servers: it is said so, or one of several was asked, and the first of them that knows
 -- that it used something on this day or one of the two before says so. Of one server alone nothing is asked beforehand.
-abbrev pub IsMeant : {L : Type 0} → (L → SocketAddr → ℕ → Type 0) → (L → Option (List Told)) → List ℕ → ℕ → Bool → List (List ℕ) → Bool → Type 0
+abbrev pub IsMeant : {L : Type 0} → (L → SocketAddr → ℕ → Type 0) → (L → Option (List ReportedExchange)) → List ℕ → ℕ → Bool → List (List ℕ) → Bool → Type 0
 IsMeant leads told login day true servers meant = meant ≡ true
 IsMeant leads told login day false servers meant =
     ((length servers < 2) × (meant ≡ false)) ⊎ ((1 < length servers) × AsksToYes (UseAt leads told login day) servers meant)
 
 -- what `stop` asks: of each server the same, from the day on that the words or the clock say
-pub record AsksStop {L F : Type 0} (leads : L → SocketAddr → ℕ → Type 0) (told : L → Option (List Told))
+pub record AsksStop {L F : Type 0} (leads : L → SocketAddr → ℕ → Type 0) (told : L → Option (List ReportedExchange))
     (remaining : F → Option (List ℕ)) (given : StopArguments) (status : ℕ) : Type 0 where
   pub servers : List (List ℕ)
   pub whom : IsWhom remaining given.config given.servers servers
@@ -143,7 +143,7 @@ pub record AsksStop {L F : Type 0} (leads : L → SocketAddr → ℕ → Type 0)
   pub asked : AsksEachOf leads told (RunsStop setter order) servers status
 
 -- the login was to have so many more from this day on, or the limit that it had
-abbrev pub ResumesThere : Setter → ℕ → Option ℕ → ℕ → Option (List Told) → Option (List Told) → Option (List ℕ) → Option (List ℕ) → Type 0
+abbrev pub ResumesThere : Setter → ℕ → Option ℕ → ℕ → Option (List ReportedExchange) → Option (List ReportedExchange) → Option (List ℕ) → Option (List ℕ) → Type 0
 ResumesThere setter day (Some more) status old new output output' =
     (ended : Result ℕ OrderFault) × GivesMore setter day more old new ended
     × Prints (λ cap. resumed_line setter.login cap day) output output' ended status
@@ -152,7 +152,7 @@ ResumesThere setter day None status old new output output' =
     × Prints (λ restored. restored_lines setter.login restored day) output output' ended status
 
 -- what `resume` asks: of each server the same
-pub record AsksResume {L F : Type 0} (leads : L → SocketAddr → ℕ → Type 0) (told : L → Option (List Told))
+pub record AsksResume {L F : Type 0} (leads : L → SocketAddr → ℕ → Type 0) (told : L → Option (List ReportedExchange))
     (remaining : F → Option (List ℕ)) (given : ResumeArguments) (status : ℕ) : Type 0 where
   pub servers : List (List ℕ)
   pub whom : IsWhom remaining given.config given.servers servers
@@ -186,7 +186,7 @@ IsTarget remaining named (Some host) given target = (target.host ≡ host) × Is
 IsTarget remaining named None given target = IsTargetOfFilter remaining given target
 
 -- what `retire` asks: that the runs of the host below this one are given up
-pub record AsksRetire {L F : Type 0} (leads : L → SocketAddr → ℕ → Type 0) (told : L → Option (List Told))
+pub record AsksRetire {L F : Type 0} (leads : L → SocketAddr → ℕ → Type 0) (told : L → Option (List ReportedExchange))
     (remaining : F → Option (List ℕ)) (given : RetireArguments) (status : ℕ) : Type 0 where
   pub run : ℕ
   pub is_run : IsRunBy given.run run
@@ -200,43 +200,43 @@ pub record AsksRetire {L F : Type 0} (leads : L → SocketAddr → ℕ → Type 
 -- ---- `report`
 
 -- the logins that the words name: one, or so many of those that used most, or all
-abbrev pub NamesReported : Option LoginArgument → Option ℕ → Reported → Type 0
+abbrev pub NamesReported : Option LoginArgument → Option ℕ → ReportedLogins → Type 0
 NamesReported (Some given) top (One login) = Names given login
 NamesReported None (Some count) (Top number) = number ≡ count
 NamesReported None None All = ⊤
 NamesReported _ _ _ = ⊥
 
 -- a login that is reported alone is in range
-abbrev pub IsReported : Reported → Type 0
+abbrev pub IsReported : ReportedLogins → Type 0
 IsReported (One login) = IsLogin login
 IsReported _ = ⊤
 
 -- how what was asked of these logins and the day is printed
-abbrev pub ReportsOf : ℕ → Reported → Option (List Told) → Option (List Told) → Option (List ℕ) → Option (List ℕ)
+abbrev pub ReportsOf : ℕ → ReportedLogins → Option (List ReportedExchange) → Option (List ReportedExchange) → Option (List ℕ) → Option (List ℕ)
     → Result (Unit {0}) ReportFault → Type 0
 ReportsOf day (One login) = Reports day (Some login)
 ReportsOf day (Top count) = ReportsTop day count
 ReportsOf day All = Reports day None
 
 -- what these logins used on the day was asked, and printed
-abbrev pub ReportsRows : ℕ → Reported → ℕ → Option (List Told) → Option (List Told) → Option (List ℕ) → Option (List ℕ) → Type 0
+abbrev pub ReportsRows : ℕ → ReportedLogins → ℕ → Option (List ReportedExchange) → Option (List ReportedExchange) → Option (List ℕ) → Option (List ℕ) → Type 0
 ReportsRows day reported status old new output output' =
     (ended : Result (Unit {0}) ReportFault) × (status ≡ status_of ended) × ReportsOf day reported old new output output' ended
 
 -- the same, below a line of columns where that is wanted; where that can't be printed, nothing is asked
-abbrev pub ReportsThere : ℕ → Reported → Bool → ℕ → Option (List Told) → Option (List Told) → Option (List ℕ) → Option (List ℕ) → Type 0
+abbrev pub ReportsThere : ℕ → ReportedLogins → Bool → ℕ → Option (List ReportedExchange) → Option (List ReportedExchange) → Option (List ℕ) → Option (List ℕ) → Type 0
 ReportsThere day reported false status old new output output' = ReportsRows day reported status old new output output'
 ReportsThere day reported true status old new output output' =
     ((headed : Option (List ℕ)) × PrintsLine columns_line output headed 0 × ReportsRows day reported status old new headed output')
     ⊎ ((status ≡ 1) × PrintsLine columns_line output output' 1 × (new ≡ old))
 
 -- what `report` asks: of each server the same
-pub record AsksReport {L F : Type 0} (leads : L → SocketAddr → ℕ → Type 0) (told : L → Option (List Told))
+pub record AsksReport {L F : Type 0} (leads : L → SocketAddr → ℕ → Type 0) (told : L → Option (List ReportedExchange))
     (remaining : F → Option (List ℕ)) (given : ReportArguments) (columns : Bool) (status : ℕ) : Type 0 where
   pub servers : List (List ℕ)
   pub whom : IsWhom remaining given.config given.servers servers
   pub day : ℕ
   pub on : NamesDay remaining given.day day
-  pub reported : Reported
+  pub reported : ReportedLogins
   pub named : NamesReported given.login given.top reported
   pub asked : AsksEachOf leads told (ReportsThere day reported columns) servers status

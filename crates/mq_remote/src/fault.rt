@@ -6,7 +6,8 @@ use mq_process::{ProcessFault, refuse};
 use std::io::Write;
 use thiserror::Error;
 
-/// Why the filter ends, or why it doesn't begin. Its text is printed after `mailquota: `, and the exit status is 1.
+/// Why the filter ends, or why it doesn't begin. Its text is printed after `mailquota: `, and the
+/// exit status is 1.
 #[derive(Debug, Drop, Error)]
 pub enum FilterEnd {
     #[error("{0}")]

@@ -1,13 +1,13 @@
-//! The subcommands that ask quota servers: the filter, and `limit`, `stop`, `resume`, `retire`, `report` and
-//! `status --server`.
+//! The subcommands that ask quota servers: the filter, and `limit`, `stop`, `resume`, `retire`,
+//! `report` and `status --server`.
 //!
-//! Each checks its words, makes the link to the server, and hands it with its streams to `mq_client` or `mq_command`, which
-//! decide. From `mailquota/src/subcommand.rt`:
+//! Each checks its words, makes the link to the server, and hands it with its streams to
+//! `mq_client` or `mq_command`, which decide. From `mailquota/src/subcommand.rt`:
 //!
 //!     Arguments::Limit(given) => end_process(limit(rt, dial, given, errors), errors),
 //!
-//! It stands on `mq_request`, `mq_stream`, `mq_link`, `mq_client`, `mq_settings`,
-//! `mq_command` and `mq_process`, and knows no store, so that it is proved while the tables of the ledger are. Begin
+//! It stands on `mq_request`, `mq_stream`, `mq_link`, `mq_client`, `mq_settings`, `mq_command` and
+//! `mq_process`, and knows no store, so that it is proved while the tables of the ledger are. Begin
 //! with `subcommands/filter.rt`, where the filter is put together.
 #![tactic(auto)]
 

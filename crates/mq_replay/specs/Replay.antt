@@ -6,7 +6,7 @@ use Rattle.mq_ledger.specs.Legal.{Book}
 use Rattle.mq_ledger.specs.declared.zone.Zone.{Zone}
 use Rattle.mq_server.specs.Connections.{wires, result_of, AreServed}
 use Rattle.mq_server.specs.Delivery.{Delivery}
-use Rattle.mq_server.specs.declared.connection.Served.TheVariants as served
+use Rattle.mq_server.specs.declared.connection.EndCause.TheVariants as served
 use Rattle.mq_server.specs.declared.connections.ConnectionEnd.{ConnectionEnd}
 use Rattle.mq_server.specs.declared.connections.ConnectionEnd.TheVariants as ends
 use Rattle.mq_server.specs.declared.fault.ServeFault.TheVariants as serving

@@ -3,7 +3,8 @@
 //! In each line spaces are passed over, and what else stands there is whole bytes in hexadecimal,
 //! in either case. Lines are joined to one connection until an empty line or the end of the text;
 //! further empty lines change nothing. The last line needs no line feed.
-ghost use Rattle.std.specs.Prelude.{◌≡◌, ◌<◌, ◌↔◌, [], ◌∷◌, ◌++◌, ℕ, true, None, Some, map, filter, length};
+ghost use Rattle.std.specs.Prelude.{◌≡◌, ◌<◌, ◌↔◌, [], ◌∷◌, ◌++◌, ℕ, true, None, Some, map, filter};
+ghost use Rattle.std.specs.Prelude.{length};
 ghost use Rattle.std.specs.Prelude.{nat_lt, not, is_err, OnOk, IfOk};
 ghost use Rattle.std.specs.Result.{result_unwrap_or};
 ghost use Rattle.hex.specs.Hex.{decode_of};
@@ -74,7 +75,8 @@ fn end_connection(
     current: &mut Vec<u8>,
     found: &mut Vec<Vec<u8>>,
 ) -> Result<(), AllocError>
-    ensures found { OnOk result (map (λ c. c.items) found.new.items ≡ map (λ c. c.items) found.old.items
+    ensures found { OnOk result (map (λ c. c.items) found.new.items
+        ≡ map (λ c. c.items) found.old.items
         ++ filter (λ bytes. nat_lt 0 (length bytes)) (current.old.items ∷ [])) }
     ensures current { OnOk result (current.new.items ≡ []) }
 {
@@ -90,9 +92,11 @@ fn end_connection(
 /// A text that isn't whole hexadecimal is refused as a whole.
 pub fn read_connections(alloc: Global, text: &[u8]) -> Result<Vec<Vec<u8>>, TextFault>
     ensures too_large { (result ≡ Err TextFault.TooLarge) ↔ (1048576 < length text.now) }
-    ensures not_hex { (number : ℕ) → result ≡ Err (TextFault.NotHex number) → first_not_hex text.now ≡ Some number }
+    ensures not_hex { (number : ℕ) → result ≡ Err (TextFault.NotHex number)
+        → first_not_hex text.now ≡ Some number }
     ensures hex { OnOk result (first_not_hex text.now ≡ None) }
-    ensures connections { IfOk result (λ found. map (λ c. c.items) found.items ≡ connections_of text.now) }
+    ensures connections { IfOk result (λ found. map (λ c. c.items) found.items
+        ≡ connections_of text.now) }
 {
     if text.len() > TEXT_LIMIT {
         return Err(TextFault::TooLarge);

@@ -6,9 +6,9 @@
 //!     let mut ledger = PlainLedger::new(alloc, zone, default);
 //!     replay_over(alloc, connections, &mut ledger, output)
 //!
-//! It stands on `mq_stream`, `mq_ledger`, `mq_server` and `mq_command`: it knows texts, any ledger and any output, and
-//! makes no ledger. Begin with `replay.rt`; its definitions are `specs/Replay.antt`, and those of the text
-//! `specs/Connections.antt`.
+//! It stands on `mq_stream`, `mq_ledger`, `mq_server` and `mq_command`: it knows texts, any ledger
+//! and any output, and makes no ledger. Begin with `replay.rt`; its definitions are
+//! `specs/Replay.antt`, and those of the text `specs/Connections.antt`.
 #![tactic(auto)]
 
 mod connections;

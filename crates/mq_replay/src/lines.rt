@@ -5,7 +5,7 @@ ghost use Rattle.mq_stream.specs.Flow.{AppendsFront};
 ghost use Rattle.mq_replay.specs.Lines.{hex_line, hex_lines};
 
 use mq_command::{OutputFault, write_whole};
-use mq_stream::ToWrite;
+use mq_stream::WriterSink;
 use std::alloc::Global;
 use std::io::Write;
 
@@ -15,8 +15,10 @@ pub fn write_hex_line<W: Write>(
     output: &mut W,
     bytes: &[u8],
 ) -> Result<(), OutputFault>
-    ensures whole { OnOk result (Appends (W.contents output.old) (W.contents output.new) (hex_line bytes.now)) }
-    ensures front { AppendsFront (W.contents output.old) (W.contents output.new) (hex_line bytes.now) }
+    ensures whole { OnOk result (Appends (W.contents output.old) (W.contents output.new)
+        (hex_line bytes.now)) }
+    ensures front { AppendsFront (W.contents output.old) (W.contents output.new)
+        (hex_line bytes.now) }
 {
     let digits = hex::encode(alloc, bytes)?;
     write_whole(output, digits.as_bytes())?;
@@ -27,7 +29,7 @@ pub fn write_hex_line<W: Write>(
 pub fn write_hex_lines<W: Write>(
     alloc: Global,
     output: &mut W,
-    written: Vec<ToWrite<Vec<u8>>>,
+    written: Vec<WriterSink<Vec<u8>>>,
 ) -> Result<(), OutputFault>
     ensures whole { OnOk result (Appends (W.contents output.old) (W.contents output.new)
         (hex_lines (map (λ s. s.inner.items) written.items))) }

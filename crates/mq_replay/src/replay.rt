@@ -2,14 +2,15 @@
 ghost use Rattle.std.specs.Prelude.{◌≡◌, ◌⊎◌, ℕ, [], map, IfOk, IfErr};
 ghost use Rattle.std.specs.List.{slice_get};
 ghost use Rattle.mq_ledger.specs.declared.zone.Zone.{Zone as AnyZone};
-ghost use Rattle.mq_replay.specs.Replay.{empty_book, ending_of, faults_of, IsForCause, IsReplay, Prints, ReplaysOver};
+ghost use Rattle.mq_replay.specs.Replay.{empty_book, ending_of, faults_of, IsForCause, IsReplay};
+ghost use Rattle.mq_replay.specs.Replay.{Prints, ReplaysOver};
 
 use crate::connections::TextFault;
 use crate::lines::write_hex_lines;
 use mq_command::OutputFault;
 use mq_ledger::Ledger;
-use mq_server::{ConnectionEnd, ServeFault, Served, serve_all};
-use mq_stream::{FromRead, ToWrite};
+use mq_server::{ConnectionEnd, EndCause, ServeFault, serve_all};
+use mq_stream::{FromRead, WriterSink};
 use std::alloc::{AllocError, Global};
 use std::io::Write;
 use thiserror::Error;
@@ -43,8 +44,8 @@ pub enum ReplayFault {
 
 /// What was written on each connection, and how each ended.
 #[derive(Drop)]
-struct Answered {
-    written: Vec<ToWrite<Vec<u8>>>,
+struct Transcript {
+    written: Vec<WriterSink<Vec<u8>>>,
     ends: Vec<ConnectionEnd>,
 }
 
@@ -54,10 +55,10 @@ fn ending_of(end: ConnectionEnd) -> Option<Ending>
     ensures { result ≡ ending_of end }
 {
     match end {
-        ConnectionEnd::Served(Served::InputEnd) => None,
-        ConnectionEnd::Served(Served::Enough) => Some(Ending::Enough),
-        ConnectionEnd::Served(Served::BadFrame) => Some(Ending::BadFrame),
-        ConnectionEnd::Served(Served::CutFrame) => Some(Ending::CutFrame),
+        ConnectionEnd::Served(EndCause::InputEnd) => None,
+        ConnectionEnd::Served(EndCause::Enough) => Some(Ending::Enough),
+        ConnectionEnd::Served(EndCause::BadFrame) => Some(Ending::BadFrame),
+        ConnectionEnd::Served(EndCause::CutFrame) => Some(Ending::CutFrame),
         ConnectionEnd::Read | ConnectionEnd::Write | ConnectionEnd::Memory => Some(Ending::Memory),
     }
 }
@@ -79,7 +80,8 @@ fn inputs_of<'a>(
     alloc: Global,
     connections: &'a [Vec<u8>],
 ) -> Result<Vec<FromRead<&'a [u8]>>, AllocError>
-    ensures { IfOk result (λ inputs. map (λ s. s.inner.now) inputs.items ≡ map (λ c. c.items) connections.now) }
+    ensures { IfOk result (λ inputs. map (λ s. s.inner.now) inputs.items
+        ≡ map (λ c. c.items) connections.now) }
 {
     let mut inputs = Vec::with_capacity(alloc, connections.len())?;
     for connection in connections {
@@ -89,12 +91,16 @@ fn inputs_of<'a>(
 }
 
 /// An output for each connection, with nothing written.
-fn outputs_for(alloc: Global, connections: &[Vec<u8>]) -> Result<Vec<ToWrite<Vec<u8>>>, AllocError>
-    ensures { IfOk result (λ outputs. map (λ s. s.inner.items) outputs.items ≡ map (λ _. []) connections.now) }
+fn outputs_for(
+    alloc: Global,
+    connections: &[Vec<u8>],
+) -> Result<Vec<WriterSink<Vec<u8>>>, AllocError>
+    ensures { IfOk result (λ outputs. map (λ s. s.inner.items) outputs.items
+        ≡ map (λ _. []) connections.now) }
 {
     let mut outputs = Vec::with_capacity(alloc, connections.len())?;
     for _connection in connections {
-        outputs.push(ToWrite::new(Vec::new(alloc)))?;
+        outputs.push(WriterSink::new(Vec::new(alloc)))?;
     }
     Ok(outputs)
 }
@@ -104,10 +110,11 @@ fn serve_over<L: Ledger>(
     alloc: Global,
     connections: &[Vec<u8>],
     ledger: &mut L,
-) -> Result<Answered, ServeFault>
+) -> Result<Transcript, ServeFault>
     ensures faults { IfErr result (λ fault. (fault ≡ ServeFault.Memory)
         ⊎ ((fault ≡ ServeFault.Store) × L.has_store ledger.old)) }
-    ensures answered { L.has_kept ledger.new → L.is_sound ledger.old → (zone : AnyZone) (default : ℕ)
+    ensures answered { L.has_kept ledger.new → L.is_sound ledger.old
+        → (zone : AnyZone) (default : ℕ)
         → L.book ledger.old ≡ empty_book zone default
         → IfOk result (λ answered. IsReplay zone default (map (λ c. c.items) connections.now)
         (map (λ s. s.inner.items) answered.written.items) answered.ends.items) }
@@ -115,17 +122,18 @@ fn serve_over<L: Ledger>(
     let mut inputs = inputs_of(alloc, connections)?;
     let mut written = outputs_for(alloc, connections)?;
     let ends = serve_all(alloc, inputs.as_mut_slice(), written.as_mut_slice(), ledger)?;
-    Ok(Answered { written, ends })
+    Ok(Transcript { written, ends })
 }
 
-/// Prints what was written on each connection, a line of hexadecimal for each, and gives the first that didn't end as it
-/// should.
+/// Prints what was written on each connection, a line of hexadecimal for each, and gives the first
+/// that didn't end as it should.
 fn print_answers<W: Write>(
     alloc: Global,
-    answered: Answered,
+    answered: Transcript,
     output: &mut W,
 ) -> Result<(), ReplayFault>
-    ensures { Prints (map (λ s. s.inner.items) answered.written.items) answered.ends.items (W.contents output.old)
+    ensures { Prints (map (λ s. s.inner.items) answered.written.items) answered.ends.items
+        (W.contents output.old)
         (W.contents output.new) result }
 {
     if let Err(fault) = write_hex_lines(alloc, output, answered.written) {
@@ -142,8 +150,9 @@ fn print_answers<W: Write>(
 
 /// Answers connections in turn over a ledger, a line of hexadecimal for each.
 ///
-/// No connection is served only where a growth was refused, or where the ledger has a store and it failed.
-/// What is printed is told of a sound ledger that keeps its premise and has applied nothing.
+/// No connection is served only where a growth was refused, or where the ledger has a store and it
+/// failed. What is printed is told of a sound ledger that keeps its premise and has applied
+/// nothing.
 pub fn replay_over<L: Ledger, W: Write>(
     alloc: Global,
     connections: &[Vec<u8>],

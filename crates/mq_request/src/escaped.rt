@@ -40,9 +40,9 @@ fn write_byte<W: fmt::Write>(byte: u8, f: &mut fmt::Formatter<W>) -> fmt::Result
 /// Bytes as they are printed: visible ASCII but `\` as it is, any other byte as `\x` and two
 /// hexadecimal digits in lower case. So no login or host can forge a line of a log or of a report.
 #[derive(Clone, Copy)]
-pub struct Escaped<'a>(pub &'a [u8]);
+pub struct EscapedText<'a>(pub &'a [u8]);
 
-impl fmt::Display for Escaped<'_> {
+impl fmt::Display for EscapedText<'_> {
     ghost output = { λ bytes. Some (escaped bytes.0.now) };
 
     fn fmt<W: fmt::Write>(&self, f: &mut fmt::Formatter<W>) -> fmt::Result {

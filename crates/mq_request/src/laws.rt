@@ -1,7 +1,9 @@
 //! Laws of requests and their fields. Each is the contract of a function that does nothing.
 ghost use Rattle.std.specs.Prelude.{◌≡◌, ◌↔◌, true};
-ghost use Rattle.mq_request.specs.declared.bounds.TheConstants.{HOST_LIMIT, LOGIN_LIMIT, LAST_RUN, LAST_ORDINAL};
-ghost use Rattle.mq_request.specs.declared.bounds.TheConstants.{FIRST_MOMENT, LAST_MOMENT, LAST_DAY, COUNT_LIMIT};
+ghost use Rattle.mq_request.specs.declared.bounds.TheConstants.{HOST_LIMIT, LOGIN_LIMIT, LAST_RUN};
+ghost use Rattle.mq_request.specs.declared.bounds.TheConstants.{LAST_ORDINAL};
+ghost use Rattle.mq_request.specs.declared.bounds.TheConstants.{FIRST_MOMENT, LAST_MOMENT};
+ghost use Rattle.mq_request.specs.declared.bounds.TheConstants.{LAST_DAY, COUNT_LIMIT};
 ghost use Rattle.mq_request.specs.declared.bounds.TheConstants.{AMOUNT_LIMIT, ROW_LIMIT};
 ghost use Rattle.mq_request.specs.Same.{same_id, same_request};
 ghost use Rattle.mq_request.specs.declared.message.Id.{Id};

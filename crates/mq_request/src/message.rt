@@ -20,9 +20,9 @@ pub struct Id {
 
 /// What a host or an administrator asks of the quota server.
 ///
-/// `txn` names a transaction within the run of a host, 1 to 4,294,967,295; `moment` is the moment of
-/// its beginning, 86,400 to 32,503,680,000 seconds since 1970-01-01T00:00:00Z; `count` is a number of
-/// recipients, 1 to 1,000; a day is a day number since 1970-01-01, 0 to 376,200.
+/// `txn` names a transaction within the run of a host, 1 to 4,294,967,295; `moment` is the moment
+/// of its beginning, 86,400 to 32,503,680,000 seconds since 1970-01-01T00:00:00Z; `count` is a
+/// number of recipients, 1 to 1,000; a day is a day number since 1970-01-01, 0 to 376,200.
 #[derive(Debug, Drop, PartialEq)]
 pub enum Request {
     /// Reserve this many recipients for an open transaction.
@@ -66,8 +66,8 @@ pub enum Request {
         day: u32,
         after: Login,
     },
-    /// Give up the runs of the number's host below its own run: what their transactions hold is settled, and no
-    /// reply of theirs is kept.
+    /// Give up the runs of the number's host below its own run: what their transactions hold is
+    /// settled, and no reply of theirs is kept.
     Retire {
         id: Id,
     },
@@ -178,8 +178,8 @@ fn clone_names(id: &Id, login: &Login) -> Result<(Id, Login), AllocError>
     Ok((id, login))
 }
 
-// The copies of requests and replies are written out, since a derived one takes a minute to prove: at each name that it
-// copies there is a way out, on which all that was copied before is dropped.
+// The copies of requests and replies are written out, since a derived one takes a minute to prove:
+// at each name that it copies there is a way out, on which all that was copied before is dropped.
 impl Clone for Request {
     ghost is_clone = { λ a b. b ≡ a };
 

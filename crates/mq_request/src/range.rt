@@ -2,7 +2,8 @@
 ghost use Rattle.std.specs.Prelude.{◌≡◌, ◌↔◌, IsTrue, All};
 ghost use Rattle.std.specs.List.{list_all};
 ghost use Rattle.mq_request.specs.Range.{is_host_byte, IsHostByte};
-ghost use Rattle.mq_request.specs.Range.{IsHost, IsLogin, IsAfter, IsRun, IsOrdinal, IsMoment, IsDay, IsCount};
+ghost use Rattle.mq_request.specs.Range.{IsHost, IsLogin, IsAfter, IsRun, IsOrdinal, IsMoment};
+ghost use Rattle.mq_request.specs.Range.{IsDay, IsCount};
 ghost use Rattle.mq_request.specs.Range.{IsAmount, IsId, IsRow, IsPage, IsRequest, IsReply};
 
 use crate::bounds::{

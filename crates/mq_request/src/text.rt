@@ -6,7 +6,8 @@ ghost use Rattle.std.specs.Cmp.{partial_equiv_from_equiv, nat_eq_equiv};
 use std::alloc::{AllocError, Global};
 use std::marker::{Model, PhantomData};
 
-/// Bytes of any value, compared byte for byte. `K` keeps texts of one kind apart from those of another.
+/// Bytes of any value, compared byte for byte. `K` keeps texts of one kind apart from those of
+/// another.
 #[derive(Debug, Drop)]
 pub struct Text<K> {
     bytes: Vec<u8>,

@@ -1,38 +1,20 @@
 -- One row more, kept by its pair.
-use Rattle.std.proofs.Common.{◌≡◌, ℕ, ◌+◌, List, [], ◌∷◌, ◌++◌, map, length, Bool, true, false, refl, ◌∙◌, ap, sym, inl, inr, arith}
-use Rattle.std.specs.Prelude.{ℤ, ◌+ℤ◌, filter, find, ◌&&◌, ◌||◌, cond, if◌then◌else◌, Option, Some, None, option_map, is_some, unwrap_or}
-use Rattle.std.specs.Cmp.{signed_Decides, tied_then}
-use Rattle.std.specs.Cmp.Lexicographic.{texts_ties, nat_list_eq_equiv, slice_cmp}
-use Rattle.std.specs.BTreeMap.{BTreeMap, keys}
-use Rattle.std.specs.List.{list_all, list_any}
+use Rattle.std.proofs.Common.{◌≡◌, ℕ, List, [], ◌∷◌, ◌++◌, map, Bool, true, false, refl, ◌∙◌, ap, sym, inl, inr, arith, ℤ, ◌+ℤ◌, find, ◌&&◌, ◌||◌, cond, Option, Some, None, option_map, is_some, unwrap_or, BTreeMap, is_eq, int_eq, nat_cmp, int_cmp, append-nil}
+use Rattle.mq_rows.proofs.Words.{Day, HasPairs, In, Pair, Sums, TransactionFigures, are_dated, both_parts, day_or, either, ints, is_moment_of, keys, list_all, list_any, nat_list_eq_equiv, option_or, or_false, or_true, pair_cmp, same_pair, same_text, signed_Decides, slice_cmp, sums_of, text_is, text_itself, texts_ties, tied_then, total, transactions_of, with_row}
 use Rattle.std.specs.Map.{lookup}
-use Rattle.std.specs.Option.{option_or}
-use Rattle.std.specs.Ordering.{is_eq, int_eq, nat_cmp, int_cmp}
-use Rattle.std.proofs.lemmas.Int.{ints}
-use Rattle.std.proofs.lemmas.List.Folds.{find-append}
-use Rattle.mq_lemmas.proofs.Booleans.{either, or_true, or_false}
-use Rattle.mq_lemmas.proofs.Lists.{In}
-use Rattle.mq_request.specs.Same.{same_text}
-use Rattle.mq_request.proofs.Alike.{text_is, text_itself}
-use Rattle.mq_rows.specs.declared.audited.Pair.{Pair}
-use Rattle.mq_rows.specs.declared.audited.TransactionFigures.{TransactionFigures}
-use Rattle.mq_rows.specs.declared.books.Day.{Day}
-use Rattle.mq_rows.specs.declared.books.Sums.{Sums}
-use Rattle.mq_rows.specs.Audit.{total, transactions_of, is_moment_of}
-use Rattle.mq_rows.specs.Books.{day_or, sums_of, with_row, HasPairs}
-use Rattle.mq_rows.specs.Pair.{pair_cmp, same_pair}
+use Rattle.std.proofs.lemmas.List.Folds.{find-append, list_all-append, list_any-append}
+use Rattle.std.proofs.Math.Bool.{and-true}
+use Rattle.std.proofs.lemmas.List.Elements.{filter-append}
+use Rattle.mq_rows.proofs.Lists.{or_none}
 
 -- Pairs.
 
 pub pair_is : (p q : Pair) → same_pair p q ≡ true → p ≡ q
-pair_is p q h = go (same_text p.login q.login) (int_eq q.day p.day) refl refl h
-  where
-    go : (a b : Bool) → same_text p.login q.login ≡ a → int_eq q.day p.day ≡ b → (a && b) ≡ true → p ≡ q
-    go true true x y k = (let l : p.login ≡ q.login = text_is p.login q.login x in
-        let d : q.day ≡ p.day = (signed_Decides q.day p.day).0 y in
-        λ i. record { login = l i; day = sym d i })
-    go true false x y k = absurd (cc k)
-    go false b x y k = absurd (cc k)
+pair_is p q h =
+    let b = both_parts (same_text p.login q.login) (int_eq q.day p.day) h in
+    let l : p.login ≡ q.login = text_is p.login q.login b.0 in
+    let d : q.day ≡ p.day = (signed_Decides q.day p.day).0 b.1 in
+    λ i. record { login = l i; day = sym d i }
 
 pub pair_itself : (p : Pair) → same_pair p p ≡ true
 pair_itself p = rw (text_itself p.login, (signed_Decides p.day p.day).1 refl) refl
@@ -52,10 +34,6 @@ module _ {R V : Type 0} (pair : R → Pair) (value : R → V) where
   first_kept : (o : Option R) (x : R) → Some (unwrap_or (option_map value o) (value x)) ≡ option_map value (option_or o (Some x))
   first_kept None x = refl
   first_kept (Some y) x = refl
-
-  or_none : (o : Option R) → option_or o None ≡ o
-  or_none None = refl
-  or_none (Some y) = refl
 
   pub one_more_first : (rows : List R) (x : R) (old new : Pair → Option V) → Keeps rows old
       → ((p : Pair) → new p ≡ cond (is_eq (pair_cmp (pair x) p)) (Some (unwrap_or (old (pair x)) (value x))) (old p)) → Keeps (rows ++ x ∷ []) new
@@ -79,23 +57,12 @@ total_more : {R : Type 0} (amount : R → ℤ) (rows : List R) (x : R) → total
 total_more amount [] x = omega (arith, ints)
 total_more amount (r ∷ rows) x = (let more = total_more amount rows x in omega (arith, ints, more))
 
-all_more : {R : Type 0} (p : R → Bool) (rows : List R) (x : R) → list_all p (rows ++ x ∷ []) ≡ (list_all p rows && p x)
-all_more p [] x = elim (either (p x)) [ inl t ↦ rw t refl | inr f ↦ rw f refl ]
-all_more p (r ∷ rows) x = elim (either (p r)) [ inl t ↦ rw t (all_more p rows x) | inr f ↦ rw f refl ]
-
-filter_more : {R : Type 0} (p : R → Bool) (rows : List R) (x : R) → filter p (rows ++ x ∷ []) ≡ filter p rows ++ (if p x then x ∷ [] else [])
-filter_more p [] x = elim (either (p x)) [ inl t ↦ rw t refl | inr f ↦ rw f refl ]
-filter_more p (r ∷ rows) x = elim (either (p r)) [ inl t ↦ rw t (ap (λ xs. r ∷ xs) (filter_more p rows x)) | inr f ↦ rw f (filter_more p rows x) ]
-
-nothing_more : {R : Type 0} (rows : List R) → rows ++ [] ≡ rows
-nothing_more [] = refl
-nothing_more (r ∷ rows) = ap (λ xs. r ∷ xs) (nothing_more rows)
-
 sums_more : (day : ℕ → ℕ) (rows : List TransactionFigures) (x : TransactionFigures) → sums_of day (rows ++ x ∷ []) ≡ with_row day x (sums_of day rows)
 sums_more day rows x =
     let s = total_more (λ (t : TransactionFigures). t.settled) rows x in
     let h = total_more (λ (t : TransactionFigures). t.held) rows x in
-    let d = all_more (λ (t : TransactionFigures). is_moment_of day t.pair.day t.moment) rows x in
+    let dated : TransactionFigures → Bool = λ t. is_moment_of day t.pair.day t.moment in
+    let d : are_dated day (rows ++ x ∷ []) ≡ (are_dated day rows && dated x) = list_all-append dated rows (x ∷ []) ∙ ap (λ b. list_all dated rows && b) (and-true (dated x)) in
     λ i. record { settled = s i; held = h i; are_dated = d i }
 
 pub one_more_sum : (day : ℕ → ℕ) (rows : List TransactionFigures) (x : TransactionFigures) (old new : Pair → Sums)
@@ -103,7 +70,7 @@ pub one_more_sum : (day : ℕ → ℕ) (rows : List TransactionFigures) (x : Tra
     → ((p : Pair) → new p ≡ cond (is_eq (pair_cmp x.pair p)) (with_row day x (old x.pair)) (old p))
     → (p : Pair) → new p ≡ sums_of day (transactions_of p (rows ++ x ∷ []))
 one_more_sum day rows x old new has updates p =
-    let longer : transactions_of p (rows ++ x ∷ []) ≡ transactions_of p rows ++ (if same_pair p x.pair then x ∷ [] else []) = filter_more (λ t. same_pair p t.pair) rows x in
+    let longer = filter-append (λ (t : TransactionFigures). same_pair p t.pair) rows (x ∷ []) in
     elim (either (same_pair p x.pair)) [
       | inl t ↦ (let t' : is_eq (pair_cmp x.pair p) ≡ true = pair_tied p x.pair ∙ t in
           let here : new p ≡ with_row day x (old x.pair) = updates p ∙ (rw t' refl) in
@@ -113,7 +80,7 @@ one_more_sum day rows x old new has updates p =
       | inr f ↦ (let f' : is_eq (pair_cmp x.pair p) ≡ false = pair_tied p x.pair ∙ f in
           let here : new p ≡ old p = updates p ∙ (rw f' refl) in
           let longer' : transactions_of p (rows ++ x ∷ []) ≡ transactions_of p rows ++ [] = rw f at longer in
-          here ∙ has p ∙ ap (sums_of day) (sym (longer' ∙ nothing_more (transactions_of p rows))))
+          here ∙ has p ∙ ap (sums_of day) (sym (longer' ∙ append-nil (transactions_of p rows))))
     ]
 
 -- What one more day of a pair leaves of the days that are kept.
@@ -146,71 +113,35 @@ module _ (q : Pair) (d : Day) (old new : Pair → Option Day) (updates : (p : Pa
         ap is_some here ∙ had p ∙ sym (longer p ∙ ap (λ b. list_any (same_pair p) ps || b) other ∙ or_false (list_any (same_pair p) ps)))
   ]
 
-any_joined : {X : Type 0} (p : X → Bool) (xs ys : List X) → list_any p (xs ++ ys) ≡ (list_any p xs || list_any p ys)
-any_joined p [] ys = refl
-any_joined p (x ∷ xs) ys = elim (either (p x)) [ inl t ↦ rw t refl | inr f ↦ rw f (any_joined p xs ys) ]
-
-any_one : {X : Type 0} (p : X → Bool) (x : X) → list_any p (x ∷ []) ≡ p x
-any_one p x = elim (either (p x)) [ inl t ↦ rw t refl | inr f ↦ rw f refl ]
-
-swapped : (a b c : Bool) → ((a || b) || c) ≡ ((a || c) || b)
-swapped true b c = refl
-swapped false true true = refl
-swapped false true false = refl
-swapped false false true = refl
-swapped false false false = refl
-
-joined : (a b c : Bool) → (a || (b || c)) ≡ ((a || b) || c)
-joined true b c = refl
-joined false b c = refl
-
 -- one more pair in the middle, and one more at the end
 pub any_middle : {X : Type 0} (p : X → Bool) (xs ys : List X) (x : X) → list_any p ((xs ++ x ∷ []) ++ ys) ≡ (list_any p (xs ++ ys) || p x)
-any_middle p xs ys x =
-    any_joined p (xs ++ x ∷ []) ys ∙ ap (λ b. b || list_any p ys) (any_joined p xs (x ∷ []) ∙ ap (λ b. list_any p xs || b) (any_one p x))
-    ∙ swapped (list_any p xs) (p x) (list_any p ys) ∙ ap (λ b. b || p x) (sym (any_joined p xs ys))
+any_middle p xs ys x = grind (arith, list_any-append p (xs ++ x ∷ []) ys, list_any-append p xs (x ∷ []), list_any-append p xs ys)
 
 pub any_end : {X : Type 0} (p : X → Bool) (xs ys : List X) (x : X) → list_any p (xs ++ (ys ++ x ∷ [])) ≡ (list_any p (xs ++ ys) || p x)
-any_end p xs ys x =
-    any_joined p xs (ys ++ x ∷ []) ∙ ap (λ b. list_any p xs || b) (any_joined p ys (x ∷ []) ∙ ap (λ b. list_any p ys || b) (any_one p x))
-    ∙ joined (list_any p xs) (list_any p ys) (p x) ∙ ap (λ b. b || p x) (sym (any_joined p xs ys))
-
-pub length_more : {X : Type 0} (xs : List X) (x : X) → length (xs ++ x ∷ []) ≡ length xs + 1
-length_more [] x = refl
-length_more (y ∷ xs) x = (let more = length_more xs x in omega (arith, more))
+any_end p xs ys x = grind (arith, list_any-append p xs (ys ++ x ∷ []), list_any-append p ys (x ∷ []), list_any-append p xs ys)
 
 -- The pairs under which something is kept are those of the rows.
 
-among_so : (p : Pair) (ps : List Pair) → list_any (same_pair p) ps ≡ true → In p ps
-among_so p [] h = absurd (cc h)
-among_so p (q ∷ ps) h = elim (either (same_pair p q)) [
-  | inl t ↦ inl (sym (pair_is p q t))
-  | inr f ↦ inr (among_so p ps (rw f at h))
-]
+any_in : (test : Pair → Bool) (p : Pair) → ((q : Pair) → test q ≡ true → q ≡ p) → (ps : List Pair) → list_any test ps ≡ true → In p ps
+any_in test p one [] h = absurd (cc h)
+any_in test p one (q ∷ ps) h = elim (either (test q)) [ inl t ↦ inl (one q t) | inr f ↦ inr (any_in test p one ps (rw f at h)) ]
 
-so_among : (p : Pair) (ps : List Pair) → In p ps → list_any (same_pair p) ps ≡ true
-so_among p [] i = absurd i
-so_among p (q ∷ ps) (inl e) = (let t : same_pair p q ≡ true = ap (same_pair p) e ∙ pair_itself p in rw t refl)
-so_among p (q ∷ ps) (inr i) = elim (either (same_pair p q)) [ inl t ↦ rw t refl | inr f ↦ rw f (so_among p ps i) ]
+in_any : (test : Pair → Bool) (p : Pair) → test p ≡ true → (ps : List Pair) → In p ps → list_any test ps ≡ true
+in_any test p t [] i = absurd i
+in_any test p t (q ∷ ps) (inl e) = (let u : test q ≡ true = ap test e ∙ t in rw u refl)
+in_any test p t (q ∷ ps) (inr i) = elim (either (test q)) [ inl u ↦ rw u refl | inr f ↦ rw f (in_any test p t ps i) ]
 
-abbrev at : Pair → List (Pair × Day) → Option Day
-at p es = lookup (λ q. is_eq (pair_cmp p q)) es
+-- the test of the keys
+abbrev at : Pair → Pair → Bool
+at p q = is_eq (pair_cmp p q)
 
-kept_so : (p : Pair) (es : List (Pair × Day)) → is_some (at p es) ≡ true → In p (map (λ (e : Pair × Day). e.0) es)
-kept_so p [] h = absurd (cc h)
-kept_so p (e ∷ es) h = elim (either (is_eq (pair_cmp p e.0))) [
-  | inl t ↦ inl (pair_is e.0 p (sym (pair_tied e.0 p) ∙ t))
-  | inr f ↦ inr (kept_so p es (rw f at h))
-]
-
-so_kept : (p : Pair) (es : List (Pair × Day)) → In p (map (λ (e : Pair × Day). e.0) es) → is_some (at p es) ≡ true
-so_kept p [] i = absurd i
-so_kept p (e ∷ es) (inl same) = (let t : is_eq (pair_cmp p e.0) ≡ true = pair_tied e.0 p ∙ ap (same_pair e.0) (sym same) ∙ pair_itself e.0 in rw t refl)
-so_kept p (e ∷ es) (inr i) = elim (either (is_eq (pair_cmp p e.0))) [ inl t ↦ rw t refl | inr f ↦ rw f (so_kept p es i) ]
+kept_is : (p : Pair) (es : List (Pair × Day)) → is_some (lookup (at p) es) ≡ list_any (at p) (map (λ (e : Pair × Day). e.0) es)
+kept_is p [] = refl
+kept_is p (e ∷ es) = elim (either (at p e.0)) [ inl t ↦ rw t refl | inr f ↦ rw f (kept_is p es) ]
 
 module _ (ps : List Pair) (m : BTreeMap Pair Day) (has : HasPairs ps m) where
   pub keys_in_rows : (p : Pair) → In p (keys m) → In p ps
-  keys_in_rows p i = among_so p ps (sym (has p) ∙ so_kept p m.entries i)
+  keys_in_rows p i = any_in (same_pair p) p (λ q t. sym (pair_is p q t)) ps (sym (has p) ∙ kept_is p m.entries ∙ in_any (at p) p (pair_tied p p ∙ pair_itself p) (keys m) i)
 
   pub rows_in_keys : (p : Pair) → In p ps → In p (keys m)
-  rows_in_keys p i = kept_so p m.entries (has p ∙ so_among p ps i)
+  rows_in_keys p i = any_in (at p) p (λ q t. pair_is q p (sym (pair_tied q p) ∙ t)) (keys m) (sym (kept_is p m.entries) ∙ has p ∙ in_any (same_pair p) p (pair_itself p) ps i)

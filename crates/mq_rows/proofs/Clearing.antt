@@ -1,41 +1,20 @@
 -- The rows of answers after a retire, and the floors of hosts.
-use Rattle.std.proofs.Common.{◌≡◌, ◌≢◌, ℕ, ◌+◌, ◌-◌, ◌≤◌, List, [], ◌∷◌, ◌++◌, map, length, Bool, true, false, refl, ◌∙◌, ap, sym, inl, inr, arith}
-use Rattle.std.specs.Prelude.{find, ◌&&◌, ◌||◌, ◌==◌, nat_lt, nat_le, if◌then◌else◌, Option, Some, None}
-use Rattle.std.specs.List.{enumerate_from}
-use Rattle.std.proofs.lemmas.Bool.Decides.{nat_tests}
-use Rattle.mq_lemmas.proofs.Booleans.{and_false, either}
-use Rattle.mq_lemmas.proofs.Numbers.{number_is}
-use Rattle.mq_request.specs.declared.message.Id.{Id}
-use Rattle.mq_request.specs.Same.{same_text}
-use Rattle.mq_request.proofs.Alike.{text_is, text_itself}
-use Rattle.mq_frame.specs.Spelling.{request_body, reply_body}
-use Rattle.mq_ledger.specs.declared.entry.Entry.{Entry}
-use Rattle.mq_ledger.specs.Arrivals.{raised, greater, floor, is_below}
-use Rattle.mq_ledger.specs.History.{requests, Transaction, transaction, retires}
+use Rattle.std.proofs.Common.{◌≡◌, ℕ, ◌+◌, ◌-◌, ◌≤◌, List, [], ◌∷◌, ◌++◌, map, length, Bool, true, false, refl, ◌∙◌, ap, sym, arith, find, ◌&&◌, ◌||◌, ◌==◌, nat_lt, nat_le, if◌then◌else◌, Option, Some, None}
+use Rattle.mq_rows.proofs.Words.{AreRetired, Entry, Id, Leads, RetiredRecord, Runs, Transaction, and_false, answer_of, answer_row, answer_rows, cleared, cleared_in, floor, found_passes, greater, is_among, is_below, is_host, nat_list_eq_equiv, nat_tests, number_of, raised, raised_to, reply_body, request_body, requests, retire_entry, retired_row, retires, runs_below, same_host, same_text, set_run, text_is, text_itself, those, transaction}
 use Rattle.mq_ledger.proofs.Floors.{greater_zero}
-use Rattle.mq_rows.specs.declared.record.AnswerRecord.{AnswerRecord}
-use Rattle.mq_rows.specs.declared.record.RetiredRecord.{RetiredRecord}
-use Rattle.mq_rows.specs.declared.plan.Runs.{Runs}
-use Rattle.mq_rows.specs.Rows.{number_of, answer_of, answer_row, answer_rows, retired_row, is_host}
-use Rattle.mq_rows.specs.Tables.{AreRetired, those}
-use Rattle.mq_rows.specs.Plan.{Leads, same_host, set_run, raised_to, is_among, cleared_in, cleared}
-use Rattle.mq_rows.specs.Retiring.{retire_entry, runs_below}
-use Rattle.mq_rows.proofs.Lists.{find_of_those, insert, update}
+use Rattle.mq_rows.proofs.Lists.{find_of_those, insert, update, floors}
+use Rattle.mq_rows.proofs.Numbered.{rows_from, some_run}
 
 -- what the ledger's laws say of floors
 pub record Floors : Type 0 where
   pub more : (H : List Entry) (e : Entry) (h : List ℕ) → floor (requests (H ++ e ∷ [])) h ≡ greater (floor (requests H) h) (raised h e.request)
   pub below : (H : List Entry) (e : Entry) (id : Id) (txn : ℕ) → is_below (requests (H ++ e ∷ [])) id ≡ (retires e.request (transaction id txn) || is_below (requests H) id)
 
--- the rows of entries under the floors of a history
-abbrev rows_at : List Entry → ℕ → List Entry → List AnswerRecord
-rows_at G n H = map (λ p. answer_row G p.0 p.1) (enumerate_from n H)
-
-rows_more : (G : List Entry) (n : ℕ) (H : List Entry) (e : Entry) → rows_at G n (H ++ e ∷ []) ≡ rows_at G n H ++ answer_row G (n + length H) e ∷ []
+rows_more : (G : List Entry) (n : ℕ) (H : List Entry) (e : Entry) → rows_from G n (H ++ e ∷ []) ≡ rows_from G n H ++ answer_row G (n + length H) e ∷ []
 rows_more G n [] e = ap (λ k. answer_row G k e ∷ []) (omega arith)
-rows_more G n (x ∷ H) e = (λ i. answer_row G n x ∷ rows_more G (n + 1) H e i) ∙ ap (λ k. answer_row G n x ∷ (rows_at G (n + 1) H ++ answer_row G k e ∷ [])) (omega arith)
+rows_more G n (x ∷ H) e = (λ i. answer_row G n x ∷ rows_more G (n + 1) H e i) ∙ ap (λ k. answer_row G n x ∷ (rows_from G (n + 1) H ++ answer_row G k e ∷ [])) (omega arith)
 
-same_rows : (F G : List Entry) (n : ℕ) (H : List Entry) → ((i : Id) → is_below (requests F) i ≡ is_below (requests G) i) → rows_at F n H ≡ rows_at G n H
+same_rows : (F G : List Entry) (n : ℕ) (H : List Entry) → ((i : Id) → is_below (requests F) i ≡ is_below (requests G) i) → rows_from F n H ≡ rows_from G n H
 same_rows F G n [] same = refl
 same_rows F G n (x ∷ H) same =
     let one : answer_row F n x ≡ answer_row G n x = (λ i. record { n = n; id = number_of x.request; request = request_body x.request; reply = if same (number_of x.request) i then [] else reply_body x.reply }) in
@@ -52,15 +31,6 @@ clear true true false body old h = refl
 clear true false true body old h = rw (h refl refl) refl
 clear true false false body old h = refl
 clear false low high body old h = refl
-
-pub same_sides : (a b : List ℕ) → same_text a b ≡ same_text b a
-same_sides a b = elim (either (same_text a b)) [
-  | inl t ↦ (let e : a ≡ b = text_is a b t in t ∙ sym (ap (λ x. same_text x a) (sym e) ∙ text_itself a))
-  | inr f ↦ elim (either (same_text b a)) [
-    | inl t ↦ (let e : b ≡ a = text_is b a t in let g : same_text a b ≡ true = ap (λ x. same_text x b) (sym e) ∙ text_itself b in absurd (cc (f, g)))
-    | inr g ↦ f ∙ sym g
-  ]
-]
 
 pub below_is_to : (n k : ℕ) → 1 ≤ k → nat_lt n k ≡ nat_le n (k - 1)
 below_is_to n k some = grind (arith, nat_tests)
@@ -80,7 +50,7 @@ module _ (F : Floors) (H : List Entry) (id : Id) (some : 1 ≤ id.run) (above : 
       grind (arith, nat_tests, low, less)
 
   among_is : (i : Id) → is_among runs i.host i.run ≡ (same_text i.host id.host && (nat_le (floor (requests H) id.host) i.run && nat_lt i.run id.run))
-  among_is i = λ k. same_sides id.host i.host k && (nat_le (floor (requests H) id.host) i.run && sym (below_is_to i.run id.run some) k)
+  among_is i = λ k. nat_list_eq_equiv.symm id.host i.host k && (nat_le (floor (requests H) id.host) i.run && sym (below_is_to i.run id.run some) k)
 
   one_row : (n : ℕ) (e : Entry) → answer_row after n e ≡ cleared_in runs (answer_row H n e)
   one_row n e =
@@ -96,7 +66,7 @@ module _ (F : Floors) (H : List Entry) (id : Id) (some : 1 ≤ id.run) (above : 
       chosen true = refl
       chosen false = refl
 
-  rows_cleared : (n : ℕ) (G : List Entry) → rows_at after n G ≡ map (cleared_in runs) (rows_at H n G)
+  rows_cleared : (n : ℕ) (G : List Entry) → rows_from after n G ≡ map (cleared_in runs) (rows_from H n G)
   rows_cleared n [] = refl
   rows_cleared n (x ∷ G) = λ i. one_row n x i ∷ rows_cleared (n + 1) G i
 
@@ -129,7 +99,7 @@ floors_stay F H e rows none are h =
     let same : floor (requests (H ++ e ∷ [])) h ≡ floor (requests H) h = F.more H e h ∙ ap (greater (floor (requests H) h)) (none h) ∙ greater_zero (floor (requests H) h) in
     are h ∙ ap (λ n. those (if n == 0 then None else Some (record { host = h; run = n }))) (sym same)
 
-module _ (F : Floors) (H : List Entry) (id : Id) (above : is_below (requests H) id ≡ false) (some : id.run ≢ 0) where
+module _ (F : Floors) (H : List Entry) (id : Id) (above : is_below (requests H) id ≡ false) (some : 1 ≤ id.run) where
   abbrev behind : List Entry
   behind = H ++ retire_entry id ∷ []
 
@@ -139,35 +109,17 @@ module _ (F : Floors) (H : List Entry) (id : Id) (above : is_below (requests H) 
   other_floor : (h : List ℕ) → same_text h id.host ≡ false → floor (requests behind) h ≡ floor (requests H) h
   other_floor h f = F.more H (retire_entry id) h ∙ ap (λ b. greater (floor (requests H) h) (if b then id.run else 0)) f ∙ greater_zero (floor (requests H) h)
 
-  not_zero : (id.run == 0) ≡ false
-  not_zero = elim (either (id.run == 0)) [ inl t ↦ absurd (some (number_is id.run 0 t)) | inr f ↦ f ]
-
   own_retired : retired_row behind id.host ≡ Some (record { host = id.host; run = id.run })
-  own_retired = ap (λ n. if n == 0 then None else Some (record { host = id.host; run = n })) own_floor ∙ rw not_zero refl
+  own_retired = ap (λ n. if n == 0 then None else Some (record { host = id.host; run = n })) own_floor ∙ rw (some_run id.run some) refl
 
   other_retired : (h : List ℕ) → same_text h id.host ≡ false → retired_row behind h ≡ retired_row H h
   other_retired h f = ap (λ n. if n == 0 then None else Some (record { host = h; run = n })) (other_floor h f)
 
-  host_is : (h : List ℕ) (r : RetiredRecord) → is_host h r ≡ true → h ≡ r.host
-  host_is h r t = text_is h r.host t
-
-  host_itself : (r : RetiredRecord) → is_host r.host r ≡ true
-  host_itself r = text_itself r.host
-
-  own_host : (h : List ℕ) (r : RetiredRecord) → retired_row H h ≡ Some r → r.host ≡ h
-  own_host h r e = elim (either (floor (requests H) h == 0)) [
-    | inl t ↦ (let k : None ≡ Some r = rw t at e in absurd (cc k))
-    | inr f ↦ (let k : Some (record { host = h; run = floor (requests H) h }) ≡ Some r = rw f at e in
-        let same : record { host = h; run = floor (requests H) h } ≡ r = cc k in sym (ap (λ (x : RetiredRecord). x.host) same))
-  ]
-
   pub floor_leads : (rows : List RetiredRecord) (found : Option RetiredRecord) → AreRetired H rows → found ≡ find (is_host id.host) rows → Leads same_host set_run (raised_to id found) rows (AreRetired behind)
   floor_leads rows None are e =
-      let none : retired_row H id.host ≡ None = sym (e ∙ find_of_those (is_host id.host) rows (retired_row H id.host) (are id.host)) in
-      insert is_host (λ r. r.host) set_run host_is host_itself (λ n w k. refl) (retired_row H) (retired_row behind) rows (record { host = id.host; run = id.run }) are none own_retired other_retired
+      insert floors (retired_row H) (retired_row behind) rows are id.host other_retired (AreRetired behind) (λ _ all. all) (record { host = id.host; run = id.run }) refl
+      (sym (e ∙ find_of_those (is_host id.host) rows (retired_row H id.host) (are id.host))) own_retired
   floor_leads rows (Some r) are e =
-      let here : retired_row H id.host ≡ Some r = sym (e ∙ find_of_those (is_host id.host) rows (retired_row H id.host) (are id.host)) in
-      let mine : r.host ≡ id.host = own_host id.host r here in
-      let now : retired_row behind r.host ≡ Some (record r { run = id.run }) = ap (retired_row behind) mine ∙ own_retired ∙ (λ i. Some (record { host = sym mine i; run = id.run })) in
-      update is_host (λ x. x.host) set_run host_is host_itself (λ n w k. refl) (retired_row H) (retired_row behind) rows (record r { run = id.run }) r are (ap (retired_row H) mine ∙ here) now
-      (λ h f. other_retired h (ap (same_text h) (sym mine) ∙ f))
+      let mine : id.host ≡ r.host = text_is id.host r.host (found_passes (is_host id.host) rows r (sym e)) in
+      update floors (retired_row H) (retired_row behind) rows are id.host other_retired (AreRetired behind) (λ _ all. all) (record r { run = id.run }) r refl
+      (sym (e ∙ find_of_those (is_host id.host) rows (retired_row H id.host) (are id.host))) (own_retired ∙ (λ i. Some (record { host = mine i; run = id.run })))

@@ -1,31 +1,12 @@
 -- A retire closes transactions, one after another.
-use Rattle.std.proofs.Common.{◌≡◌, ℕ, ◌+◌, ◌-◌, ◌≤◌, List, [], ◌∷◌, ◌++◌, Bool, true, false, refl, ◌∙◌, ap, sym, subst, inl, inr, arith}
-use Rattle.std.specs.Prelude.{filter, find, not, ◌&&◌, ◌||◌, ◌==◌, ◌⊎◌, nat_lt, nat_le, if◌then◌else◌, Option, Some, None, option_map}
-use Rattle.std.specs.List.{AllByRecursion}
-use Rattle.std.specs.Option.{option_or}
-use Rattle.std.proofs.lemmas.Bool.Decides.{nat_tests}
-use Rattle.std.proofs.lemmas.List.Sums.{sum_by-cons}
-use Rattle.std.proofs.lemmas.List.Sorted.{sum_by_pushed}
-use Rattle.mq_lemmas.proofs.Booleans.{first_so, second_so, or_false, or_true, is_not, either}
-use Rattle.mq_lemmas.proofs.Numbers.{if_zero, number_is, number_itself}
-use Rattle.mq_lemmas.proofs.Options.{option_cases}
-use Rattle.mq_request.specs.declared.message.Id.{Id}
-use Rattle.mq_request.specs.declared.message.Request.TheVariants.{Retire}
-use Rattle.mq_request.specs.Same.{same_text}
-use Rattle.mq_request.proofs.Alike.{text_is, text_itself}
-use Rattle.mq_ledger.specs.declared.entry.Entry.{Entry}
-use Rattle.mq_ledger.specs.History.{Transaction, same_transaction, named, agrees, retires, closed, held, settled_in, reserved, settled, used}
-use Rattle.mq_ledger.specs.Page.{has_reserve}
-use Rattle.mq_rows.specs.declared.record.TransactionRecord.{TransactionRecord}
-use Rattle.mq_rows.specs.declared.record.UsageRecord.{UsageRecord}
-use Rattle.mq_rows.specs.declared.plan.Write.TheVariants.{Update}
-use Rattle.mq_rows.specs.Rows.{transaction_of, transaction_row, is_transaction, is_usage}
-use Rattle.mq_rows.specs.Tables.{those, AreTransactions, AreUsage}
-use Rattle.mq_rows.specs.Plan.{Updates, Leads, key_of, same_key, set_transaction, same_day, set_usage, freed, abandoned_row, Has, fits}
-use Rattle.mq_rows.specs.Retiring.{retire_entry}
-use Rattle.mq_rows.proofs.Lists.{those_are_found, find_of_those, updated, parted, Parted, update}
-use Rattle.mq_rows.proofs.RowSums.{is_on, total, summed_row, IsRowOf, row_of, agreed, day_is, all_at, Laws, held_total, settled_total, summed_is}
-use Rattle.mq_rows.proofs.Trans.{or_none}
+use Rattle.std.proofs.Common.{◌≡◌, ℕ, ◌+◌, ◌-◌, ◌≤◌, List, [], ◌∷◌, ◌++◌, Bool, true, false, refl, ◌∙◌, ap, sym, subst, inl, inr, arith, filter, find, not, ◌&&◌, ◌||◌, ◌==◌, ◌⊎◌, nat_lt, nat_le, if◌then◌else◌, Option, Some, None, option_map}
+use Rattle.mq_rows.proofs.Words.{AllByRecursion, AreTransactions, AreUsage, Entry, Has, Id, Leads, Retire, Transaction, TransactionRecord, Update, UsageRecord, abandoned_row, closed, either, first_so, fits, freed, has_reserve, held, if_zero, is_not, is_transaction, is_usage, key_of, named, nat_tests, number_is, number_itself, option_cases, or_false, or_true, reserved, retire_entry, retires, same_day, same_key, same_text, second_so, set_transaction, set_usage, settled_in, sum_by-cons, sum_by_pushed, those, transaction_of, transaction_row, used}
+use Rattle.std.proofs.lemmas.Option.{cond_some}
+use Rattle.mq_ledger.specs.History.{granted_in}
+use Rattle.mq_ledger.proofs.Transactions.{transaction_is}
+use Rattle.mq_rows.proofs.Lists.{find_of_those, updated, parted, Parted, update, or_none, place_itself, usages}
+use Rattle.mq_rows.proofs.RowSums.{is_on, total, summed_row, IsRowOf, row_of, agreed, day_is, all_at, Laws, held_total, settled_total, summed_is, key_row}
+use Rattle.mq_rows.proofs.Trans.{Ledger, rows_same, standing_same, still}
 
 -- the transaction is open, and the retire retires its run
 abbrev pub is_to_close : Id → TransactionRecord → Bool
@@ -52,33 +33,11 @@ begun day H id laws rows usage ts us = record {
   sums = λ l d. (let h = held_total day H laws rows ts l d in let s = settled_total day H laws rows ts l d in omega (arith, h, s));
 }
 
--- What the ledger's laws say of the retire's entry.
-pub record Retires (H : List Entry) (id : Id) : Type 0 where
-  pub named_more : (t : Transaction) → named (H ++ retire_entry id ∷ []) t ≡ option_or (named H t) None
-  pub closed_more : (t : Transaction) → closed (H ++ retire_entry id ∷ []) t ≡ (retires (Retire id) t || (closed H t || false))
-  pub held_more : (t : Transaction) → held (H ++ retire_entry id ∷ []) t ≡ (if retires (Retire id) t || (closed H t || false) then 0 else held H t + 0)
-  pub settled_more : (t : Transaction) → settled_in (H ++ retire_entry id ∷ []) t ≡ settled_in H t + 0 + (if retires (Retire id) t then held H t else 0)
-  pub open_settled : (t : Transaction) → closed H t ≡ false → settled_in H t ≡ 0
-  pub same : (t u : Transaction) → same_transaction t u ≡ true → t ≡ u
-  pub itself : (t : Transaction) → same_transaction t t ≡ true
-
--- And of what is reserved in a legal history.
-pub record Reserves (day : ℕ → ℕ) (H : List Entry) : Type 0 where
-  pub held_is_reserved : (t : Transaction) (moment : ℕ) (login : List ℕ) → agrees moment login (named H t) ≡ true → held H t ≤ reserved day H login (day moment)
-  pub none : (l : List ℕ) (d : ℕ) → has_reserve day H d l ≡ false → (reserved day H l d ≡ 0) × (settled day H l d ≡ 0)
-
 zero_either : (x : Bool) (n : ℕ) → (if x || true then 0 else n) ≡ 0
 zero_either true n = refl
 zero_either false n = refl
 
-if_held : (H : List Entry) (t : Transaction) (x : Bool) → closed H t ≡ x → (if x || false then 0 else held H t + 0) ≡ held H t
-if_held H t true e = rw e refl
-if_held H t false e = omega arith
-
-same_row : (t : TransactionRecord) (h h' s s' : ℕ) (c c' : Bool) → h ≡ h' → s ≡ s' → c ≡ c' → (record t { held = h; settled = s; closed = c }) ≡ (record t { held = h'; settled = s'; closed = c' })
-same_row t h h' s s' c c' p q r = λ i. record t { held = p i; settled = q i; closed = r i }
-
-module _ (day : ℕ → ℕ) (H : List Entry) (id : Id) (L : Retires H id) where
+module _ (day : ℕ → ℕ) (default : ℕ) (L : Ledger day default) (H : List Entry) (id : Id) where
   abbrev H' : List Entry
   H' = H ++ retire_entry id ∷ []
 
@@ -90,13 +49,13 @@ module _ (day : ℕ → ℕ) (H : List Entry) (id : Id) (L : Retires H id) where
       let still : was.closed ≡ false = is_not was.closed (first_so (not was.closed) _ open_so) in
       let gone : retires (Retire id) k ≡ true = second_so (not was.closed) _ open_so in
       let shut : closed H k ≡ false = ap (λ (x : TransactionRecord). x.closed) is.row ∙ still in
-      let c : closed H' k ≡ true = L.closed_more k ∙ ap (λ b. b || (closed H k || false)) gone in
-      let h : held H' k ≡ 0 = L.held_more k ∙ ap (λ b. if b || (closed H k || false) then 0 else held H k + 0) gone in
+      let c : closed H' k ≡ true = L.closed_more H (retire_entry id) k ∙ ap (λ b. b || (closed H k || false)) gone in
+      let h : held H' k ≡ 0 = L.held_more H (retire_entry id) k ∙ ap (λ b. if b || (closed H k || false) then 0 else held H k + 0) gone in
       let had : held H k ≡ was.held = ap (λ (x : TransactionRecord). x.held) is.row in
       let z : (if retires (Retire id) k then held H k else 0) ≡ held H k = ap (λ b. if b then held H k else 0) gone in
-      let s : settled_in H' k ≡ was.held = omega (arith, L.settled_more k, z, L.open_settled k shut, had) in
-      let names : named H' k ≡ Some is.first = L.named_more k ∙ or_none (named H k) ∙ is.names in
-      let made : transaction_of day H' k is.first ≡ abandoned_row (transaction_of day H k is.first) = same_row (transaction_of day H k is.first) _ _ _ _ _ _ h (s ∙ sym had) c in
+      let s : settled_in H' k ≡ was.held = omega (arith, L.settled_more H (retire_entry id) k refl, z, L.unsettled H k shut, had) in
+      let names : named H' k ≡ Some is.first = L.named_more H (retire_entry id) k ∙ or_none (named H k) ∙ is.names in
+      let made : transaction_of day H' k is.first ≡ abandoned_row (transaction_of day H k is.first) = standing_same (transaction_of day H k is.first) _ _ _ _ _ _ h (s ∙ sym had) c in
       ap (option_map (transaction_of day H' k)) names ∙ ap Some (made ∙ ap abandoned_row is.row)
 
   -- one that is closed in a row after the retire isn't to be closed
@@ -105,18 +64,10 @@ module _ (day : ℕ → ℕ) (H : List Entry) (id : Id) (L : Retires H id) where
       let is = row_of day H' was here in
       let still : was.closed ≡ false = is_not was.closed (first_so (not was.closed) _ open_so) in
       let gone : retires (Retire id) (key_of was) ≡ true = second_so (not was.closed) _ open_so in
-      let c : closed H' (key_of was) ≡ true = L.closed_more (key_of was) ∙ ap (λ b. b || (closed H (key_of was) || false)) gone in
+      let c : closed H' (key_of was) ≡ true = L.closed_more H (retire_entry id) (key_of was) ∙ ap (λ b. b || (closed H (key_of was) || false)) gone in
       let clash : true ≡ false = sym c ∙ ap (λ (x : TransactionRecord). x.closed) is.row ∙ still in cc
 
-  -- a row that is there is its transaction's, before the retire or after it
-  among : (rows : List TransactionRecord) (was : TransactionRecord) (o : Option TransactionRecord) → filter (is_transaction (key_of was)) rows ≡ those o → Has rows was → o ≡ Some was
-  among rows was o are i =
-      let k : Transaction = key_of was in
-      let each = those_are_found (is_transaction k) rows o are in
-      let here : Some was ≡ find (is_transaction k) rows = all_at (λ x. is_transaction k x ≡ true → Some x ≡ find (is_transaction k) rows) rows was each i (L.itself k) in
-      sym (here ∙ find_of_those (is_transaction k) rows o are)
-
-  module _ (R : Reserves day H) (rows : List TransactionRecord) (usage : List UsageRecord) (b : AreRetiring day H id rows usage) (was : TransactionRecord) (there : Has rows was) (open_so : is_to_close id was ≡ true) where
+  module _ (R : Laws day H) (rows : List TransactionRecord) (usage : List UsageRecord) (b : AreRetiring day H id rows usage) (was : TransactionRecord) (there : Has rows was) (open_so : is_to_close id was ≡ true) where
     abbrev k : Transaction
     k = key_of was
 
@@ -125,14 +76,14 @@ module _ (day : ℕ → ℕ) (H : List Entry) (id : Id) (L : Retires H id) where
 
     before : transaction_row day H k ≡ Some was
     before = elim (b.transactions k) [
-      | inl e ↦ among rows was (transaction_row day H k) e there
-      | inr e ↦ absurd (closed_behind was (among rows was (transaction_row day H' k) e there) open_so)
+      | inl e ↦ key_row rows was (transaction_row day H k) e there
+      | inr e ↦ absurd (closed_behind was (key_row rows was (transaction_row day H' k) e there) open_so)
     ]
 
     here : filter (is_transaction k) rows ≡ was ∷ []
     here = elim (b.transactions k) [
       | inl e ↦ e ∙ ap those before
-      | inr e ↦ absurd (closed_behind was (among rows was (transaction_row day H' k) e there) open_so)
+      | inr e ↦ absurd (closed_behind was (key_row rows was (transaction_row day H' k) e there) open_so)
     ]
 
     part : Parted (is_transaction k) rows was
@@ -147,7 +98,7 @@ module _ (day : ℕ → ℕ) (H : List Entry) (id : Id) (L : Retires H id) where
 
     between : (t : Transaction) → IsBetween day H id after t
     between t = elim (either (is_transaction t was)) [
-      | inl y ↦ (let same : t ≡ k = L.same t k y in
+      | inl y ↦ (let same : t ≡ k = transaction_is t k y in
           let moment : filter (is_transaction k) after ≡ those (transaction_row day H' k) =
           updated (is_transaction k) (set_transaction next was) was part.rest rows (Some was) (transaction_row day H' k) part.order here refl (λ _ _. abandoned_is was before open_so) (λ f. absurd (cc (f, part.there))) in
           let P : Transaction → Type 0 = λ u. IsBetween day H id after u in
@@ -171,7 +122,7 @@ module _ (day : ℕ → ℕ) (H : List Entry) (id : Id) (L : Retires H id) where
     none_settled : was.settled ≡ 0
     none_settled =
         let still : was.closed ≡ false = is_not was.closed (first_so (not was.closed) _ open_so) in
-        sym (ap (λ (x : TransactionRecord). x.settled) is.row) ∙ L.open_settled k (ap (λ (x : TransactionRecord). x.closed) is.row ∙ still)
+        sym (ap (λ (x : TransactionRecord). x.settled) is.row) ∙ L.unsettled H k (ap (λ (x : TransactionRecord). x.closed) is.row ∙ still)
 
     none_sum : (c : Bool) → (if c then was.settled else 0) ≡ 0
     none_sum true = none_settled
@@ -198,92 +149,50 @@ module _ (day : ℕ → ℕ) (H : List Entry) (id : Id) (L : Retires H id) where
           let clash : true ≡ false = sym (number_itself 0) ∙ ap (λ n. n == 0) (sym zero_so) ∙ some in cc)
     ]
 
-    -- the row of its login and day before and then
-    own_row : has_reserve day H was.day was.login ≡ true → summed_row day H rows was.login was.day ≡ Some (record { login = was.login; day = was.day; settled = total (λ r. r.settled) was.login was.day rows; reserved = total (λ r. r.held) was.login was.day rows })
+    -- the row of its login and day
+    abbrev own : UsageRecord
+    own = record { login = was.login; day = was.day; settled = total (λ r. r.settled) was.login was.day rows; reserved = total (λ r. r.held) was.login was.day rows }
+
+    own_row : has_reserve day H was.day was.login ≡ true → summed_row day H rows was.login was.day ≡ Some own
     own_row y = rw y refl
 
+    row_there : (u : Option UsageRecord) → u ≡ find (is_usage was.login was.day) usage → summed_row day H rows was.login was.day ≡ u
+    row_there u e = sym (e ∙ find_of_those (is_usage was.login was.day) usage (summed_row day H rows was.login was.day) (b.days was.login was.day))
+
     on_own : is_on was.login was.day was ≡ true
-    on_own = rw (text_itself was.login, number_itself was.day) refl
+    on_own = place_itself (was.login, was.day)
 
-    own_then : has_reserve day H was.day was.login ≡ true → summed_row day H after was.login was.day
-        ≡ Some (record { login = was.login; day = was.day; settled = total (λ r. r.settled) was.login was.day rows + was.held; reserved = total (λ r. r.held) was.login was.day rows - was.held })
-    own_then y =
+    held_own : total (λ r. r.held) was.login was.day after + was.held ≡ total (λ r. r.held) was.login was.day rows
+    held_own = sym (ap (λ n. total (λ r. r.held) was.login was.day after + n) (rw on_own refl)) ∙ held_then was.login was.day
+
+    own_then : (u : UsageRecord) → has_reserve day H was.day was.login ≡ true → own ≡ u → summed_row day H after was.login was.day ≡ Some (record u { settled = u.settled + was.held; reserved = u.reserved - was.held })
+    own_then u y is_u =
         let s : total (λ r. r.settled) was.login was.day after ≡ total (λ r. r.settled) was.login was.day rows + was.held = settled_then was.login was.day ∙ rw on_own refl in
-        let h : total (λ r. r.held) was.login was.day after ≡ total (λ r. r.held) was.login was.day rows - was.held =
-        (let e : total (λ r. r.held) was.login was.day after + was.held ≡ total (λ r. r.held) was.login was.day rows = sym (ap (λ n. total (λ r. r.held) was.login was.day after + n) (rw on_own refl)) ∙ held_then was.login was.day in omega (arith, e)) in
-        ap (λ (c : Bool). if c then Some (record { login = was.login; day = was.day; settled = total (λ r. r.settled) was.login was.day after; reserved = total (λ r. r.held) was.login was.day after }) else None) y
-        ∙ (λ i. Some (record { login = was.login; day = was.day; settled = s i; reserved = h i }))
+        let h : total (λ r. r.held) was.login was.day after ≡ total (λ r. r.held) was.login was.day rows - was.held = omega (arith, held_own) in
+        (λ i. if y i then Some (record { login = was.login; day = was.day; settled = s i; reserved = h i }) else None)
+        ∙ ap (λ (x : UsageRecord). Some (record x { settled = x.settled + was.held; reserved = x.reserved - was.held })) is_u
 
-    -- of another login or day nothing changes
-    other_then : (l : List ℕ) (d : ℕ) → is_on l d was ≡ false → summed_row day H after l d ≡ summed_row day H rows l d
-    other_then l d f =
-        let s : total (λ r. r.settled) l d after ≡ total (λ r. r.settled) l d rows = (let e = settled_then l d in let z : (if is_on l d was then was.held else 0) ≡ 0 = rw f refl in omega (arith, e, z)) in
-        let h : total (λ r. r.held) l d after ≡ total (λ r. r.held) l d rows = (let e = held_then l d in let z : (if is_on l d was then was.held else 0) ≡ 0 = rw f refl in omega (arith, e, z)) in
-        (λ i. if has_reserve day H d l then Some (record { login = l; day = d; settled = s i; reserved = h i }) else None)
-
-    -- where it held none nothing changes
-    none_then : (was.held == 0) ≡ true → (l : List ℕ) (d : ℕ) → summed_row day H after l d ≡ summed_row day H rows l d
-    none_then z l d =
-        let zero_so : was.held ≡ 0 = number_is was.held 0 z in
-        let n : (if is_on l d was then was.held else 0) ≡ 0 = if_zero (is_on l d was) was.held zero_so in
-        let s : total (λ r. r.settled) l d after ≡ total (λ r. r.settled) l d rows = (let e = settled_then l d in omega (arith, e, n)) in
-        let h : total (λ r. r.held) l d after ≡ total (λ r. r.held) l d rows = (let e = held_then l d in omega (arith, e, n)) in
+    -- where it held none of a login and day nothing changes
+    none_then : (l : List ℕ) (d : ℕ) → (if is_on l d was then was.held else 0) ≡ 0 → summed_row day H after l d ≡ summed_row day H rows l d
+    none_then l d z =
+        let s : total (λ r. r.settled) l d after ≡ total (λ r. r.settled) l d rows = (let e = settled_then l d in omega (arith, e, z)) in
+        let h : total (λ r. r.held) l d after ≡ total (λ r. r.held) l d rows = (let e = held_then l d in omega (arith, e, z)) in
         (λ i. if has_reserve day H d l then Some (record { login = l; day = d; settled = s i; reserved = h i }) else None)
 
     as_before : (was.held == 0) ≡ true → AreRetiring day H id after usage
-    as_before z = record { transactions = between; days = λ l d. b.days l d ∙ ap those (sym (none_then z l d)); sums = sums_then }
+    as_before z = record {
+      transactions = between;
+      days = λ l d. b.days l d ∙ ap those (sym (none_then l d (if_zero (is_on l d was) was.held (number_is was.held 0 z))));
+      sums = sums_then;
+    }
 
-    abbrev pair_is : (List ℕ × ℕ) → UsageRecord → Bool
-    pair_is p u = is_usage p.0 p.1 u
-
-    abbrev pair_of : UsageRecord → List ℕ × ℕ
-    pair_of u = (u.login, u.day)
-
-    pair_key : (p : List ℕ × ℕ) (u : UsageRecord) → pair_is p u ≡ true → p ≡ pair_of u
-    pair_key p u h =
-        let l = text_is p.0 u.login (first_so (same_text p.0 u.login) _ h) in
-        let d : p.1 ≡ u.day = sym (number_is u.day p.1 (second_so (same_text p.0 u.login) _ h)) in
-        λ i. (l i, d i)
-
-    pair_itself : (u : UsageRecord) → pair_is (pair_of u) u ≡ true
-    pair_itself u = rw (text_itself u.login, number_itself u.day) refl
-
-    apart_pair : (u : UsageRecord) → u.login ≡ was.login → u.day ≡ was.day → (p : List ℕ × ℕ) → pair_is p u ≡ false → is_on p.0 p.1 was ≡ false
-    apart_pair u l d p f = (λ i. same_text p.0 (sym l i) && (sym d i == p.1)) ∙ f
-
-    update_usage : (u : UsageRecord) → (was.held == 0) ≡ false → summed_row day H rows was.login was.day ≡ Some u
-        → Updates same_day set_usage (record u { settled = u.settled + was.held; reserved = u.reserved - was.held }) usage (AreRetiring day H id after)
-    update_usage u some e =
-        let y = reserve_there some in
-        let same : Some (record { login = was.login; day = was.day; settled = total (λ r. r.settled) was.login was.day rows; reserved = total (λ r. r.held) was.login was.day rows }) ≡ Some u = sym (own_row y) ∙ e in
-        let is_u : record { login = was.login; day = was.day; settled = total (λ r. r.settled) was.login was.day rows; reserved = total (λ r. r.held) was.login was.day rows } ≡ u = cc same in
-        let l : u.login ≡ was.login = sym (ap (λ (x : UsageRecord). x.login) is_u) in
-        let d : u.day ≡ was.day = sym (ap (λ (x : UsageRecord). x.day) is_u) in
-        let new : UsageRecord = record u { settled = u.settled + was.held; reserved = u.reserved - was.held } in
-        let now : summed_row day H after was.login was.day ≡ Some new = own_then y ∙ ap (λ (x : UsageRecord). Some (record x { settled = x.settled + was.held; reserved = x.reserved - was.held })) is_u in
-        let here_u : summed_row day H rows u.login u.day ≡ Some u = (λ i. summed_row day H rows (l i) (d i)) ∙ e in
-        let now_u : summed_row day H after u.login u.day ≡ Some (set_usage new u) = (λ i. summed_row day H after (l i) (d i)) ∙ now in
-        let up = update pair_is pair_of set_usage pair_key pair_itself (λ n w p. refl) (λ p. summed_row day H rows p.0 p.1) (λ p. summed_row day H after p.0 p.1) usage new u
-        (λ p. b.days p.0 p.1) here_u now_u (λ p f. other_then p.0 p.1 (apart_pair u l d p f)) in
-        record {
-          was = up.was;
-          rest = up.rest;
-          order = up.order;
-          there = up.there;
-          alone = up.alone;
-          after = record { transactions = between; days = λ m n. up.after (m, n); sums = sums_then };
-        }
-
-    usage_leads : (u : Option UsageRecord) → u ≡ find (is_usage was.login was.day) usage → Leads same_day set_usage (freed was.held was.held u) usage (AreRetiring day H id after)
-    usage_leads None e = elim (either (was.held == 0)) [
-      | inl z ↦ as_before z
-      | inr some ↦ absurd (let k : summed_row day H rows was.login was.day ≡ None = sym (e ∙ find_of_those (is_usage was.login was.day) usage (summed_row day H rows was.login was.day) (b.days was.login was.day)) in
-          let clash = sym (own_row (reserve_there some)) ∙ k in cc clash)
-    ]
+    usage_leads : (u : Option UsageRecord) → summed_row day H rows was.login was.day ≡ u → Leads same_day set_usage (freed was.held was.held u) usage (AreRetiring day H id after)
+    usage_leads None e = elim (either (was.held == 0)) [ inl z ↦ as_before z | inr some ↦ (let clash = sym (own_row (reserve_there some)) ∙ e in absurd (cc clash)) ]
     usage_leads (Some u) e = elim (either (was.held == 0)) [
       | inl z ↦ rw z (as_before z)
-      | inr some ↦ (let k : summed_row day H rows was.login was.day ≡ Some u = sym (e ∙ find_of_those (is_usage was.login was.day) usage (summed_row day H rows was.login was.day) (b.days was.login was.day)) in
-          rw some (update_usage u some k))
+      | inr some ↦ rw some (update usages (λ p. summed_row day H rows p.0 p.1) (λ p. summed_row day H after p.0 p.1) usage (λ p. b.days p.0 p.1) (was.login, was.day) (λ p f. none_then p.0 p.1 (rw f refl))
+          (AreRetiring day H id after) (λ _ all. record { transactions = between; days = λ m n. all (m, n); sums = sums_then })
+          (record u { settled = u.settled + was.held; reserved = u.reserved - was.held }) u refl e (own_then u (reserve_there some) (cond_some (has_reserve day H was.day was.login) own u e).1))
     ]
 
     pub one_closed : (u : Option UsageRecord) → u ≡ find (is_usage was.login was.day) usage → Leads same_key set_transaction (Update (abandoned_row was)) rows (λ more. Leads same_day set_usage (freed was.held was.held u) usage (AreRetiring day H id more))
@@ -293,58 +202,46 @@ module _ (day : ℕ → ℕ) (H : List Entry) (id : Id) (L : Retires H id) where
       order = part.order;
       there = part.there;
       alone = part.alone;
-      after = usage_leads u e;
+      after = usage_leads u (row_there u e);
     }
-
-    -- what it holds is among what its login has reserved
-    held_there : was.held ≤ total (λ r. r.held) was.login was.day rows
-    held_there =
-        (let e : total (λ r. r.held) was.login was.day after + was.held ≡ total (λ r. r.held) was.login was.day rows = sym (ap (λ n. total (λ r. r.held) was.login was.day after + n) (rw on_own refl)) ∙ held_then was.login was.day in omega (arith, e))
 
     -- so it can be closed, where what its login has used is in range
     pub closing_fits : used day H was.login was.day ≤ 1000000 → (u : Option UsageRecord) → u ≡ find (is_usage was.login was.day) usage → fits (Some was) u ≡ true
-    closing_fits low u e = fits_where u (sym (e ∙ find_of_those (is_usage was.login was.day) usage (summed_row day H rows was.login was.day) (b.days was.login was.day))) where
+    closing_fits low u e = fits_where u (row_there u e) where
       both_fit : (n h r : ℕ) → n ≤ 1000000 → h ≤ r → (nat_le n 1000000 && nat_le h r) ≡ true
       both_fit n h r some le = grind (arith, nat_tests)
 
       fits_where : (u : Option UsageRecord) → summed_row day H rows was.login was.day ≡ u → fits (Some was) u ≡ true
       fits_where None k = elim (either (was.held == 0)) [
         | inl z ↦ (let zero_so : was.held ≡ 0 = number_is was.held 0 z in both_fit 0 was.held 0 (omega arith) (omega (arith, zero_so)))
-        | inr some ↦ absurd (let clash = sym (own_row (reserve_there some)) ∙ k in cc clash)
+        | inr some ↦ (let clash = sym (own_row (reserve_there some)) ∙ k in absurd (cc clash))
       ]
-      fits_where (Some u) k = elim (either (has_reserve day H was.day was.login)) [
-        | inl y ↦ (let same : Some (record { login = was.login; day = was.day; settled = total (λ r. r.settled) was.login was.day rows; reserved = total (λ r. r.held) was.login was.day rows }) ≡ Some u = sym (own_row y) ∙ k in
-            let is_u : record { login = was.login; day = was.day; settled = total (λ r. r.settled) was.login was.day rows; reserved = total (λ r. r.held) was.login was.day rows } ≡ u = cc same in
-            let s : total (λ r. r.settled) was.login was.day rows ≡ u.settled = ap (λ (x : UsageRecord). x.settled) is_u in
-            let h : total (λ r. r.held) was.login was.day rows ≡ u.reserved = ap (λ (x : UsageRecord). x.reserved) is_u in
-            let all = b.sums was.login was.day in
-            both_fit (u.reserved + u.settled) was.held u.reserved (omega (arith, s, h, all, low)) (omega (arith, h, held_there)))
-        | inr f ↦ (let k' : None ≡ Some u = rw f at k in absurd (cc k'))
-      ]
+      fits_where (Some u) k =
+          let is_u : own ≡ u = (cond_some (has_reserve day H was.day was.login) own u k).1 in
+          let s : total (λ r. r.settled) was.login was.day rows ≡ u.settled = ap (λ (x : UsageRecord). x.settled) is_u in
+          let h : total (λ r. r.held) was.login was.day rows ≡ u.reserved = ap (λ (x : UsageRecord). x.reserved) is_u in
+          let all = b.sums was.login was.day in
+          both_fit (u.reserved + u.settled) was.held u.reserved (omega (arith, s, h, all, low)) (omega (arith, h, held_own))
 
-  -- ---- the end
-
-  open_row : (t : Transaction) (e : Entry) → named H t ≡ Some e → retires (Retire id) t ≡ true → closed H t ≡ false → is_to_close id (transaction_of day H t e) ≡ true
-  open_row t e n g c = rw c g
+  -- Once none is to be closed, the rows are those of the history with the retire.
 
   stays_row : (t : Transaction) → (retires (Retire id) t ≡ false) ⊎ (closed H t ≡ true) → transaction_row day H' t ≡ transaction_row day H t
-  stays_row t how = ap (λ o. option_map (transaction_of day H' t) o) (L.named_more t ∙ or_none (named H t)) ∙ mapped (named H t) where
-    same_of : (e : Entry) → transaction_of day H' t e ≡ transaction_of day H t e
-    same_of e = elim how [
-      | inl g ↦ (let c : closed H' t ≡ closed H t = L.closed_more t ∙ ap (λ b. b || (closed H t || false)) g ∙ or_false (closed H t) in
-          let h : held H' t ≡ held H t = L.held_more t ∙ ap (λ b. if b || (closed H t || false) then 0 else held H t + 0) g ∙ if_held H t (closed H t) refl in
-          let s : settled_in H' t ≡ settled_in H t = (let m = L.settled_more t in let z : (if retires (Retire id) t then held H t else 0) ≡ 0 = ap (λ b. if b then held H t else 0) g in omega (arith, m, z)) in
-          same_row (transaction_of day H t e) _ _ _ _ _ _ h s c)
-      | inr shut ↦ (let none : held H t ≡ 0 = rw shut refl in
-          let c : closed H' t ≡ closed H t = L.closed_more t ∙ ap (λ b. retires (Retire id) t || (b || false)) shut ∙ or_true (retires (Retire id) t) ∙ sym shut in
-          let h : held H' t ≡ held H t = L.held_more t ∙ ap (λ b. if retires (Retire id) t || (b || false) then 0 else held H t + 0) shut ∙ zero_either (retires (Retire id) t) (held H t + 0) ∙ sym none in
-          let s : settled_in H' t ≡ settled_in H t = (let m = L.settled_more t in let z : (if retires (Retire id) t then held H t else 0) ≡ 0 = if_zero (retires (Retire id) t) (held H t) none in omega (arith, m, z)) in
-          same_row (transaction_of day H t e) _ _ _ _ _ _ h s c)
-    ]
-
-    mapped : (o : Option Entry) → option_map (transaction_of day H' t) o ≡ option_map (transaction_of day H t) o
-    mapped None = refl
-    mapped (Some e) = ap Some (same_of e)
+  stays_row t how =
+      let n : named H' t ≡ named H t = L.named_more H (retire_entry id) t ∙ or_none (named H t) in
+      let m = L.settled_more H (retire_entry id) t refl in
+      elim how [
+        | inl g ↦ (let c : closed H' t ≡ closed H t = L.closed_more H (retire_entry id) t ∙ ap (λ b. b || (closed H t || false)) g ∙ or_false (closed H t) in
+            let h : held H' t ≡ held H t = L.held_more H (retire_entry id) t ∙ ap (λ b. if b || (closed H t || false) then 0 else held H t + 0) g ∙ still (closed H t) (granted_in H t) in
+            let z : (if retires (Retire id) t then held H t else 0) ≡ 0 = ap (λ b. if b then held H t else 0) g in
+            let s : settled_in H' t ≡ settled_in H t = omega (arith, m, z) in
+            rows_same day H H' t n h s c)
+        | inr shut ↦ (let none : held H t ≡ 0 = rw shut refl in
+            let c : closed H' t ≡ closed H t = L.closed_more H (retire_entry id) t ∙ ap (λ b. retires (Retire id) t || (b || false)) shut ∙ or_true (retires (Retire id) t) ∙ sym shut in
+            let h : held H' t ≡ held H t = L.held_more H (retire_entry id) t ∙ ap (λ b. if retires (Retire id) t || (b || false) then 0 else held H t + 0) shut ∙ zero_either (retires (Retire id) t) (held H t + 0) ∙ sym none in
+            let z : (if retires (Retire id) t then held H t else 0) ≡ 0 = if_zero (retires (Retire id) t) (held H t) none in
+            let s : settled_in H' t ≡ settled_in H t = omega (arith, m, z) in
+            rows_same day H H' t n h s c)
+      ]
 
   has_head : {X : Type 0} (p : X → Bool) (xs : List X) (x : X) → filter p xs ≡ x ∷ [] → Has xs x
   has_head p [] x h = absurd (cc h)
@@ -362,12 +259,12 @@ module _ (day : ℕ → ℕ) (H : List Entry) (id : Id) (L : Retires H id) where
         | inl shut ↦ e ∙ ap those (sym (stays_row t (inr shut)))
         | inr still ↦ elim (option_cases (named H t)) [
           | inl unheard ↦ (let a : transaction_row day H t ≡ None = rw unheard refl in
-              let c : transaction_row day H' t ≡ None = ap (λ o. option_map (transaction_of day H' t) o) (L.named_more t ∙ or_none (named H t) ∙ unheard) in
+              let c : transaction_row day H' t ≡ None = ap (λ o. option_map (transaction_of day H' t) o) (L.named_more H (retire_entry id) t ∙ or_none (named H t) ∙ unheard) in
               e ∙ ap those (a ∙ sym c))
           | inr p ↦ (let a : transaction_row day H t ≡ Some (transaction_of day H t p.0) = rw p.1 refl in
               let i = has_head (is_transaction t) rows (transaction_of day H t p.0) (e ∙ ap those a) in
               let n : is_to_close id (transaction_of day H t p.0) ≡ false = all_at (λ r. is_to_close id r ≡ false) rows (transaction_of day H t p.0) none i in
-              let y = open_row t p.0 p.1 g still in
+              let y : is_to_close id (transaction_of day H t p.0) ≡ true = rw still g in
               absurd (cc (y, n)))
         ]
       ]

@@ -1,34 +1,15 @@
 -- In a legal history no number comes twice, so it has one row at most.
-use Rattle.std.proofs.Common.{◌≡◌, ℕ, ◌+◌, ◌≤◌, List, [], ◌∷◌, ◌++◌, true, false, refl, ◌∙◌, ap, sym, subst, inl, inr, arith, length, length-append, append_assoc}
-use Rattle.std.specs.Prelude.{fold, find, ◌||◌, Option, Some, None}
-use Rattle.std.specs.List.{AllByRecursion, list_any}
-use Rattle.mq_lemmas.proofs.Booleans.{or_second, either}
-use Rattle.mq_request.specs.declared.message.Id.{Id}
-use Rattle.mq_request.specs.declared.message.Request.{Request}
-use Rattle.mq_request.specs.Range.{IsId}
-use Rattle.mq_request.specs.Same.{same_id}
-use Rattle.mq_request.proofs.Alike.{id_is}
-use Rattle.mq_ledger.specs.declared.entry.Entry.{Entry}
-use Rattle.mq_ledger.specs.Arrivals.{id_of, is_id, has_id, is_below, kept_with}
-use Rattle.mq_ledger.specs.History.{requests}
+use Rattle.std.proofs.Common.{◌≡◌, ℕ, ◌+◌, ◌≤◌, List, [], ◌∷◌, ◌++◌, true, false, refl, ◌∙◌, ap, sym, subst, inl, inr, arith, length, length-append, append_assoc, fold, find, ◌||◌, Option, Some, None}
+use Rattle.std.proofs.lemmas.List.Folds.{list_any-append}
+use Rattle.mq_rows.proofs.Words.{AllByRecursion, AnswerRecord, Entry, Id, IsId, Request, answer_row, either, has_id, id_is, id_of, is_below, is_id, kept_with, list_any, number_of, or_second, or_true, requests, same_id}
 use Rattle.mq_ledger.proofs.Numbers.{step}
-use Rattle.mq_rows.specs.declared.record.AnswerRecord.{AnswerRecord}
-use Rattle.mq_rows.specs.Rows.{number_of, answer_row}
 use Rattle.mq_rows.proofs.Numbered.{rows_from, number_test}
 
 any_more : (id : Id) (xs : List Request) (r : Request) → list_any (has_id id) xs ≡ true → list_any (has_id id) (xs ++ r ∷ []) ≡ true
-any_more id [] r h = absurd (cc h)
-any_more id (x ∷ xs) r h = elim (either (has_id id x)) [
-  | inl t ↦ rw t refl
-  | inr f ↦ (let h' : list_any (has_id id) xs ≡ true = rw f at h in rw f (any_more id xs r h'))
-]
+any_more id xs r h = list_any-append (has_id id) xs (r ∷ []) ∙ (rw h refl)
 
 any_last : (id : Id) (xs : List Request) (r : Request) → has_id id r ≡ true → list_any (has_id id) (xs ++ r ∷ []) ≡ true
-any_last id [] r h = rw h refl
-any_last id (x ∷ xs) r h = elim (either (has_id id x)) [
-  | inl t ↦ rw t refl
-  | inr f ↦ rw f (any_last id xs r h)
-]
+any_last id xs r h = list_any-append (has_id id) xs (r ∷ []) ∙ (rw h (or_true (list_any (has_id id) xs)))
 
 one_longer : (kept : List Request) (r : Request) (o : Option Id) → length (kept_with kept r o) ≤ length kept + 1
 one_longer kept r None = omega arith

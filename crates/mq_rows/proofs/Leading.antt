@@ -1,27 +1,12 @@
 -- Closing one after another all that a retire gives up.
-use Rattle.std.proofs.Common.{◌≡◌, ℕ, ◌≤◌, List, [], ◌∷◌, ◌++◌, Bool, true, false, refl, ◌∙◌, ap, sym, subst, inl, inr}
-use Rattle.std.specs.Prelude.{filter, find, not, Option, Some, None}
-use Rattle.std.specs.List.{AllByRecursion}
-use Rattle.std.specs.List.Sorted.{IsPermutation}
-use Rattle.std.proofs.lemmas.List.Sorted.{IsPermutation-trans, IsPermutation-sym}
-use Rattle.sqlite_trees.proofs.ListLemmas.{IsPermutation-filter, filter_all, all-permutation, all_weaker}
-use Rattle.mq_lemmas.proofs.Booleans.{either}
-use Rattle.mq_lemmas.proofs.Numbers.{number_itself}
-use Rattle.mq_request.specs.declared.message.Id.{Id}
-use Rattle.mq_request.proofs.Alike.{text_itself}
-use Rattle.mq_ledger.specs.declared.entry.Entry.{Entry}
-use Rattle.mq_ledger.specs.History.{used}
-use Rattle.mq_rows.specs.declared.record.TransactionRecord.{TransactionRecord}
-use Rattle.mq_rows.specs.declared.record.UsageRecord.{UsageRecord}
+use Rattle.std.proofs.Common.{◌≡◌, ℕ, ◌≤◌, List, [], ◌∷◌, ◌++◌, Bool, true, false, refl, ◌∙◌, ap, sym, subst, inl, inr, filter, find, not, Option, Some, None, IsPermutation}
+use Rattle.mq_rows.proofs.Words.{AllByRecursion, Entry, Has, Id, Insert, IsOneIn, IsPermutation-filter, IsPermutation-sym, IsPermutation-trans, Keep, Leads, LeadsAll, TransactionRecord, Update, UsageRecord, abandoned_row, all-permutation, all_weaker, either, filter_all, fits, freed, is_transaction, is_usage, key_of, same_day, same_key, set_transaction, set_usage, those, used}
 use Rattle.mq_rows.specs.declared.plan.Write.{Write}
-use Rattle.mq_rows.specs.declared.plan.Write.TheVariants.{Keep, Insert, Update}
-use Rattle.mq_rows.specs.Rows.{is_transaction, is_usage}
-use Rattle.mq_rows.specs.Tables.{those}
-use Rattle.mq_rows.specs.Plan.{Leads, key_of, same_key, set_transaction, same_day, set_usage, freed, abandoned_row, LeadsAll}
-use Rattle.mq_rows.specs.Plan.{Has, IsOneIn, fits}
-use Rattle.mq_rows.proofs.Closing.{Retires, Reserves, is_to_close, AreRetiring, one_closed, closing_fits}
-use Rattle.mq_rows.proofs.RowSums.{summed_row, all_at}
-use Rattle.mq_rows.proofs.Lists.{find_of_those, those_are_found, in_any_order, none_pass}
+use Rattle.mq_ledger.proofs.Transactions.{transaction_itself}
+use Rattle.mq_rows.proofs.Closing.{is_to_close, AreRetiring, one_closed, closing_fits}
+use Rattle.mq_rows.proofs.RowSums.{summed_row, Laws, key_row}
+use Rattle.mq_rows.proofs.Lists.{find_of_those, in_any_order, none_pass, has_is}
+use Rattle.mq_rows.proofs.Trans.{Ledger}
 
 -- what a write leads to leads on
 pub leads_on : {R : Type 0} (same : R → R → Bool) (set : R → R → R) (w : Write R) (rows : List R) (P Q : List R → Type 0) → ((after : List R) → P after → Q after) → Leads same set w rows P → Leads same set w rows Q
@@ -80,7 +65,7 @@ none_found p (r ∷ rows) h = rw h.0 (none_found p rows h.1)
 -- where at most one row passes, it is the one that is found
 one_found : {R : Type 0} (p : R → Bool) (rows : List R) (u o : Option R) → filter p rows ≡ those o → IsOneIn p rows u → u ≡ find p rows
 one_found p rows None o are one = sym (none_found p rows one)
-one_found p rows (Some r) o are one = all_at (λ x. p x ≡ true → Some x ≡ find p rows) rows r (those_are_found p rows o are) one.0 one.1
+one_found p rows (Some r) o are one = sym (find_of_those p rows o are ∙ has_is p rows r o are one.0 one.1)
 
 -- where none is left none is to be closed
 pub none_to_close : (id : Id) (rows : List TransactionRecord) → IsPermutation [] (filter (is_to_close id) rows) → AllByRecursion (λ r. is_to_close id r ≡ false) rows
@@ -92,12 +77,9 @@ pub record AreLeft (day : ℕ → ℕ) (H : List Entry) (id : Id) (these rows : 
   pub stand : AreRetiring day H id rows usage
   pub left : IsPermutation these (filter (is_to_close id) rows)
 
-module _ (day : ℕ → ℕ) (H : List Entry) (id : Id) (L : Retires H id) (R : Reserves day H) where
+module _ (day : ℕ → ℕ) (default : ℕ) (L : Ledger day default) (H : List Entry) (id : Id) (R : Laws day H) where
   abbrev close : TransactionRecord → Bool
   close = is_to_close id
-
-  own_key : (was : TransactionRecord) → is_transaction (key_of was) was ≡ true
-  own_key was = rw (text_itself was.host, number_itself was.run, number_itself was.txn) refl
 
   -- what is left to close
   left_over : (rest rows : List TransactionRecord) (was w : TransactionRecord) (others : List TransactionRecord) → IsPermutation (was ∷ rest) (filter close rows) → Has rows was → close was ≡ true
@@ -107,13 +89,12 @@ module _ (day : ℕ → ℕ) (H : List Entry) (id : Id) (L : Retires H id) (R : 
       let q = is_transaction (key_of was) in
       let one : filter q (w ∷ others) ≡ those (Some w) = filter_head q w others own ∙ ap (λ l. w ∷ l) (none_kept q others alone) in
       let all : filter q rows ≡ those (Some w) = in_any_order q (w ∷ others) rows order (Some w) one in
-      let hit : Some was ≡ find q rows = all_at (λ r. q r ≡ true → Some r ≡ find q rows) rows was (those_are_found q rows (Some w) all) there (own_key was) in
-      let is : was ≡ w = (let e : Some was ≡ Some w = hit ∙ find_of_those q rows (Some w) all in cc e) in
+      let is : was ≡ w = (let e = key_row rows was (Some w) all there in cc e) in
       let so' : close w ≡ true = ap close (sym is) ∙ so in
       let kept : filter close (w ∷ others) ≡ was ∷ filter close others = filter_head close w others so' ∙ ap (λ x. x ∷ filter close others) (sym is) in
       let both : IsPermutation (was ∷ rest) (was ∷ filter close others) =
       subst (IsPermutation (was ∷ rest)) kept (IsPermutation-trans _ _ _ same (IsPermutation-sym _ _ (IsPermutation-filter close (w ∷ others) rows order))) in
-      let left : IsPermutation rest (filter close others) = tails q was (own_key was) rest (filter close others) (kept_all close q others alone) both in
+      let left : IsPermutation rest (filter close others) = tails q was (transaction_itself (key_of was)) rest (filter close others) (kept_all close q others alone) both in
       subst (IsPermutation rest) (sym (filter_past close (set_transaction (abandoned_row was) w) others refl)) left
 
   -- the first of those that are left is there
@@ -128,7 +109,7 @@ module _ (day : ℕ → ℕ) (H : List Entry) (id : Id) (L : Retires H id) (R : 
   led [] left rows usage b = b
   led (was ∷ rest) left rows usage b = λ u one.
       let first = first_is was (rest ++ left) rows b.left in
-      let step = one_closed day H id L R rows usage b.stand was first.0 first.1 u (own_found was rows usage b.stand u one) in
+      let step = one_closed day default L H id R rows usage b.stand was first.0 first.1 u (own_found was rows usage b.stand u one) in
       let after : List TransactionRecord = set_transaction (abandoned_row was) step.was ∷ step.rest in
       record {
         was = step.was;
@@ -148,7 +129,7 @@ module _ (day : ℕ → ℕ) (H : List Entry) (id : Id) (L : Retires H id) (R : 
       → (u : Option UsageRecord) → IsOneIn (is_usage was.login was.day) usage u → fits (Some was) u ≡ true
   next_fits was rest rows usage b low u one =
       let first = first_is was rest rows b.left in
-      closing_fits day H id L R rows usage b.stand was first.0 first.1 low u (own_found was rows usage b.stand u one)
+      closing_fits day default L H id R rows usage b.stand was first.0 first.1 low u (own_found was rows usage b.stand u one)
 
 -- and so do closings, one after another
 pub all_lead_on : (these rows : List TransactionRecord) (usage : List UsageRecord) (P Q : List TransactionRecord → List UsageRecord → Type 0)

@@ -1,5 +1,6 @@
 pub mod Booking
 pub mod Limits
+pub mod Choosing
 pub mod Clearing
 pub mod Closing
 pub mod Days
@@ -7,7 +8,6 @@ pub mod Distinct
 pub mod Governed
 pub mod Leading
 pub mod Lists
-pub mod Lookups
 pub mod Numbered
 pub mod Pages
 pub mod Replies
@@ -16,3 +16,4 @@ pub mod RowSums
 pub mod Scanning
 pub mod Spans
 pub mod Trans
+pub mod Words

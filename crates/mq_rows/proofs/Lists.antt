@@ -1,13 +1,7 @@
 -- Rows that stand under a key at most once.
-use Rattle.std.proofs.Common.{ap, subst, swap, ◌≡◌, ℕ, zero, suc, ◌<◌, List, [], ◌∷◌, Bool, true, false, refl, ◌∙◌, sym, inl, inr, arith, length, get_or}
-use Rattle.std.specs.Prelude.{find, filter, Option, Some, None}
-use Rattle.std.specs.List.{AllByRecursion}
-use Rattle.std.specs.List.Sorted.{IsPermutation}
-use Rattle.std.proofs.Math.ListN.{set}
-use Rattle.std.proofs.lemmas.List.Sorted.{IsPermutation-refl, IsPermutation-cons, IsPermutation-trans, IsPermutation-append_left, IsPermutation-append_comm, IsPermutation-keeps, IsPermutation-sym}
-use Rattle.mq_lemmas.proofs.Booleans.{either}
-use Rattle.mq_rows.specs.Plan.{Inserts, Updates}
-use Rattle.mq_rows.specs.Tables.{those}
+use Rattle.std.proofs.Common.{ap, subst, swap, ◌≡◌, ℕ, zero, suc, ◌<◌, List, [], ◌∷◌, Bool, true, false, refl, ◌∙◌, sym, inl, inr, arith, length, get_or, find, filter, Option, Some, None, IsPermutation, ◌&&◌, ◌==◌, map, option_map, Contains, slice_index_or, All}
+use Rattle.mq_rows.proofs.Words.{all_at, recursion_from_All, AllByRecursion, Has, In, Inserts, IsPermutation-append_comm, IsPermutation-append_left, IsPermutation-cons, IsPermutation-keeps, IsPermutation-refl, IsPermutation-sym, IsPermutation-trans, LimitRecord, RetiredRecord, Transaction, TransactionRecord, Updates, UsageRecord, either, first_so, key_of, number_is, number_itself, option_or, same_text, same_transaction, second_so, set, set_limit, set_run, set_transaction, set_usage, text_is, text_itself, those}
+use Rattle.mq_ledger.proofs.Transactions.{transaction_is, transaction_itself}
 
 -- The rows of a key.
 
@@ -156,43 +150,140 @@ module _ {R : Type 0} (p : R → Bool) where
             rw (new_not, next) k)
       ]
 
--- A table whose rows have keys, each key once at most.
-module _ {R K : Type 0} (is : K → R → Bool) (key : R → K) (set : R → R → R)
-    (key_is : (k : K) (r : R) → is k r ≡ true → k ≡ key r)
-    (key_itself : (r : R) → is (key r) r ≡ true)
-    (key_stays : (new was : R) (k : K) → is k (set new was) ≡ is k was) where
-  abbrev pub Are : (K → Option R) → List R → Type 0
-  Are row rows = (k : K) → filter (is k) rows ≡ those (row k)
+-- A table whose rows have keys, each key once at most: how keys compare, the key of a row, and what an update sets.
+pub record Keyed (R K : Type 0) : Type 0 where
+  pub same : K → K → Bool
+  pub key : R → K
+  pub set : R → R → R
+  pub same_is : (k q : K) → same k q ≡ true → k ≡ q
+  pub itself : (k : K) → same k k ≡ true
+  pub stays : (new was : R) → key (set new was) ≡ key was
 
-  pub kept : (row after : K → Option R) (rows : List R) → Are row rows → ((k : K) → after k ≡ row k) → Are after rows
-  kept row after rows are same = λ k. are k ∙ ap those (sym (same k))
+module _ {R K : Type 0} (t : Keyed R K) (row after : K → Option R) (rows : List R) (are : (k : K) → filter (λ r. t.same k (t.key r)) rows ≡ those (row k)) (k : K)
+    (others : (j : K) → t.same j k ≡ false → after j ≡ row j) (P : List R → Type 0) (so : (rows : List R) → ((j : K) → filter (λ r. t.same j (t.key r)) rows ≡ those (after j)) → P rows) where
+  abbrev is : K → R → Bool
+  is j r = t.same j (t.key r)
 
-  pub insert : (row after : K → Option R) (rows : List R) (new : R) → Are row rows → row (key new) ≡ None → after (key new) ≡ Some new
-      → ((k : K) → is k new ≡ false → after k ≡ row k) → Inserts (λ r. is (key r)) new rows (Are after)
-  insert row after rows new are none now others =
-      let F : (k : K) → filter (is k) (new ∷ rows) ≡ those (after k) = λ k.
-      inserted (is k) new rows (row k) (after k) (are k)
-      (λ t. let e : k ≡ key new = key_is k new t in (rw e none, rw e now))
-      (λ f. others k f) in
-      record {
-        absent = none_pass (is (key new)) rows (are (key new) ∙ ap those none);
-        after = F;
-      }
+  -- a row under a key that had none
+  pub insert : (new : R) → t.key new ≡ k → row k ≡ None → after k ≡ Some new → Inserts (λ r other. t.same (t.key r) (t.key other)) new rows P
+  insert new own none now = record {
+    absent = none_pass (is (t.key new)) rows (are (t.key new) ∙ ap those (ap row own ∙ none));
+    after = so (new ∷ rows) (λ j. inserted (is j) new rows (row j) (after j) (are j)
+        (λ y. let e : j ≡ k = t.same_is j (t.key new) y ∙ own in (ap row e ∙ none, ap after e ∙ now))
+        (λ n. others j (ap (t.same j) (sym own) ∙ n)));
+  }
 
-  pub update : (row after : K → Option R) (rows : List R) (new was : R) → Are row rows → row (key new) ≡ Some was → after (key new) ≡ Some (set new was)
-      → ((k : K) → is k was ≡ false → after k ≡ row k) → Updates (λ r. is (key r)) set new rows (Are after)
-  update row after rows new was are here now others =
-      let d : Parted (is (key new)) rows was = parted (is (key new)) rows was (are (key new) ∙ ap those here) in
-      let same : key new ≡ key was = key_is (key new) was d.there in
-      let F : (k : K) → filter (is k) (set new was ∷ d.rest) ≡ those (after k) = λ k.
-      updated (is k) (set new was) was d.rest rows (row k) (after k) d.order (are k) (key_stays new was k)
-      (λ t _. let e : k ≡ key new = key_is k was t ∙ sym same in rw e now)
-      (λ f. others k f) in
+  -- the row of a key with other values
+  pub update : (new was : R) → t.key new ≡ t.key was → row k ≡ Some was → after k ≡ Some (t.set new was) → Updates (λ r other. t.same (t.key r) (t.key other)) t.set new rows P
+  update new was own here now =
+      let d : Parted (is k) rows was = parted (is k) rows was (are k ∙ ap those here) in
+      let at : k ≡ t.key was = t.same_is k (t.key was) d.there in
       record {
         was = was;
         rest = d.rest;
         order = d.order;
-        there = d.there;
-        alone = d.alone;
-        after = F;
+        there = ap (λ q. t.same q (t.key was)) (sym (at ∙ sym own)) ∙ d.there;
+        alone = subst (λ q. AllByRecursion (λ r. is q r ≡ false) d.rest) (at ∙ sym own) d.alone;
+        after = so (t.set new was ∷ d.rest) (λ j. updated (is j) (t.set new was) was d.rest rows (row j) (after j) d.order (are j) (ap (t.same j) (t.stays new was))
+            (λ y _. ap after (t.same_is j (t.key was) y ∙ sym at) ∙ now)
+            (λ n. others j (ap (t.same j) at ∙ n)));
       }
+
+-- Members.
+
+pub member_is : {R : Type 0} (p : R → Bool) (rows : List R) (k : ℕ) (x : R) → k < length rows → slice_index_or rows k x ≡ x → p x ≡ true → (o : Option R) → filter p rows ≡ those o → o ≡ Some x
+member_is p [] k x h at t o f = absurd (omega arith)
+member_is p (y ∷ rows) zero x h at t o f =
+    let u : p y ≡ true = ap p at ∙ t in
+    let g : y ∷ filter p rows ≡ those o = rw u at f in
+    sym (one_of_those y (filter p rows) o g).0 ∙ ap Some at
+member_is p (y ∷ rows) (suc k) x h at t o f = elim (either (p y)) [
+  | inl u ↦ (let g : y ∷ filter p rows ≡ those o = rw u at f in
+      let none : filter p rows ≡ [] = (one_of_those y (filter p rows) o g).1 in
+      let bad : None ≡ Some x = member_is p rows k x (omega arith) at t None none in absurd (cc bad))
+  | inr u ↦ member_is p rows k x (omega arith) at t o (rw u at f)
+]
+
+pub one_has : {R : Type 0} (p : R → Bool) (P : R → Type 0) (rows : List R) (w : R) → filter p rows ≡ w ∷ [] → AllByRecursion P rows → P w
+one_has p P [] w h all = absurd (cc h)
+one_has p P (y ∷ rows) w h all = elim (either (p y)) [
+  | inl t ↦ (let g : y ∷ filter p rows ≡ w ∷ [] = rw t at h in let same : y ≡ w = cc g in rw (← same) all.0)
+  | inr f ↦ one_has p P rows w (rw f at h) all.1
+]
+
+pub in_contains : {X : Type 0} (xs : List X) (x : X) → In x xs → Contains xs x
+in_contains [] x i = absurd i
+in_contains (y ∷ xs) x (inl e) = (0, omega arith, e)
+in_contains (y ∷ xs) x (inr i) = (let r = in_contains xs x i in (suc r.0, omega (arith, r.1), r.2))
+
+-- what is found is there and passes
+pub record Found {X : Type 0} (p : X → Bool) (xs : List X) (x : X) : Type 0 where
+  pub among : In x xs
+  pub passes : p x ≡ true
+
+pub found : {X : Type 0} (p : X → Bool) (xs : List X) (x : X) → find p xs ≡ Some x → Found p xs x
+found p [] x h = absurd (cc h)
+found p (y ∷ xs) x h = elim (either (p y)) [
+  | inl t ↦ (let h' : Some y ≡ Some x = rw t at h in let e : y ≡ x = cc h' in record { among = inl e; passes = ap p (sym e) ∙ t })
+  | inr f ↦ (let r = found p xs x (rw f at h) in record { among = inr r.among; passes = r.passes })
+]
+
+pub found_has : {X : Type 0} (P : X → Type 0) (p : X → Bool) (xs : List X) (x : X) → All P xs → find p xs ≡ Some x → P x
+found_has P p xs x all h = all_at P xs x (recursion_from_All P xs all) (found p xs x h).among
+
+pub find_mapped : {X Y : Type 0} (f : X → Y) (p : Y → Bool) (q : X → Bool) → ((x : X) → p (f x) ≡ q x) → (xs : List X) → find p (map f xs) ≡ option_map f (find q xs)
+find_mapped f p q same [] = refl
+find_mapped f p q same (x ∷ xs) = elim (either (q x)) [
+  | inl t ↦ (let t' : p (f x) ≡ true = same x ∙ t in rw (t', t) refl)
+  | inr n ↦ (let n' : p (f x) ≡ false = same x ∙ n in rw (n', n) (find_mapped f p q same xs))
+]
+
+-- the row of a test that at most one passes, where it is there
+pub has_is : {R : Type 0} (p : R → Bool) (rows : List R) (x : R) (o : Option R) → filter p rows ≡ those o → Has rows x → p x ≡ true → o ≡ Some x
+has_is p [] x o are i t = absurd i
+has_is p (y ∷ rows) x o are (inl e) t =
+    let u : p y ≡ true = ap p e ∙ t in
+    sym (one_of_those y (filter p rows) o (rw u at are)).0 ∙ ap Some e
+has_is p (y ∷ rows) x o are (inr i) t = elim (either (p y)) [
+  | inl u ↦ (let bad = has_is p rows x None (one_of_those y (filter p rows) o (rw u at are)).1 i t in absurd (cc bad))
+  | inr u ↦ has_is p rows x o (rw u at are) i t
+]
+
+-- The keys of the tables.
+
+-- a login and a day
+abbrev pub Key : Type 0
+Key = List ℕ × ℕ
+
+abbrev pub same_place : Key → Key → Bool
+same_place k q = same_text k.0 q.0 && (q.1 == k.1)
+
+pub place_is : (k q : Key) → same_place k q ≡ true → k ≡ q
+place_is k q h =
+    let l : k.0 ≡ q.0 = text_is k.0 q.0 (first_so (same_text k.0 q.0) _ h) in
+    let d : q.1 ≡ k.1 = number_is q.1 k.1 (second_so (same_text k.0 q.0) _ h) in
+    λ i. (l i, sym d i)
+
+pub place_itself : (k : Key) → same_place k k ≡ true
+place_itself k = rw (text_itself k.0, number_itself k.1) refl
+
+abbrev pub usages : Keyed UsageRecord Key
+usages = record { same = same_place; key = λ u. (u.login, u.day); set = set_usage; same_is = place_is; itself = place_itself; stays = λ new was. refl }
+
+abbrev pub limits : Keyed LimitRecord Key
+limits = record { same = same_place; key = λ c. (c.login, c.day); set = set_limit; same_is = place_is; itself = place_itself; stays = λ new was. refl }
+
+abbrev pub floors : Keyed RetiredRecord (List ℕ)
+floors = record { same = same_text; key = λ r. r.host; set = set_run; same_is = text_is; itself = text_itself; stays = λ new was. refl }
+
+abbrev pub transactions : Keyed TransactionRecord Transaction
+transactions = record { same = same_transaction; key = key_of; set = set_transaction; same_is = transaction_is; itself = transaction_itself; stays = λ new was. refl }
+
+-- what is mapped to a row was there
+pub mapped_from : {A B : Type 0} (f : A → B) (o : Option A) (y : B) → option_map f o ≡ Some y → (x : A) × (o ≡ Some x) × (f x ≡ y)
+mapped_from f None y h = absurd (cc h)
+mapped_from f (Some x) y h = (x, refl, cc h)
+
+pub or_none : {A : Type 0} (o : Option A) → option_or o None ≡ o
+or_none None = refl
+or_none (Some x) = refl

@@ -1,22 +1,8 @@
 -- The pages of a day, login by login.
-use Rattle.std.proofs.Common.{◌≡◌, ℕ, zero, suc, ◌<◌, ◌≤◌, List, [], ◌∷◌, ◌++◌, true, false, refl, ◌∙◌, ap, inl, inr, arith, length}
-use Rattle.std.specs.Prelude.{map, All, Contains, Option, ◌⊎◌, ◌==◌, Some, None, slice_index_or}
-use Rattle.std.specs.List.{AllByRecursion}
-use Rattle.std.proofs.lemmas.List.{length-map}
-use Rattle.mq_lemmas.proofs.Booleans.{either, both_parts}
-use Rattle.mq_lemmas.proofs.Numbers.{number_is, number_itself}
-use Rattle.mq_lemmas.proofs.Lists.{weaker}
-use Rattle.mq_request.specs.Same.{same_text}
-use Rattle.mq_request.proofs.Alike.{text_is, text_itself}
-use Rattle.mq_ledger.specs.declared.entry.Entry.{Entry}
-use Rattle.mq_ledger.specs.History.{settled, reserved}
-use Rattle.mq_ledger.specs.Page.{below, has_reserve, IsAscending, IsLoginPage}
+use Rattle.std.proofs.Common.{◌≡◌, ℕ, zero, suc, ◌<◌, ◌≤◌, List, [], ◌∷◌, ◌++◌, true, false, refl, inl, inr, arith, length, map, All, Contains, Option, ◌⊎◌, ◌==◌, Some, None, slice_index_or, sym, subst}
+use Rattle.mq_rows.proofs.Words.{AllByRecursion, AreNext, AreUsage, Entry, IsAscending, IsLoginPage, IsNext, IsNextLogin, UsageRecord, behind, below, both_parts, either, has_reserve, is_above, is_usage, length-map, number_is, number_itself, same_text, text_is, text_itself, weaker}
 use Rattle.mq_ledger.proofs.Pages.{Before, Same, After, below_trans, ordered}
-use Rattle.mq_rows.specs.declared.record.UsageRecord.{UsageRecord}
-use Rattle.mq_rows.specs.Rows.{usage_row, is_usage}
-use Rattle.mq_rows.specs.Tables.{those, AreUsage}
-use Rattle.mq_rows.specs.Listing.{is_above, IsNext, IsNextLogin, AreNext, behind}
-use Rattle.mq_rows.proofs.Replies.{member_is, one_has}
+use Rattle.mq_rows.proofs.Days.{has_row, reserved_there, row_of}
 
 -- Lists.
 
@@ -35,23 +21,10 @@ module _ (day : ℕ → ℕ) (H : List Entry) (rows : List UsageRecord) (are : A
   -- a row of the day says that its login has a granted reserve
   reserve_there : (after : List ℕ) (u : UsageRecord) → Contains rows u → is_above d after u ≡ true → has_reserve day H d u.login ≡ true
   reserve_there after u there above =
-      let b = both_parts (d == u.day) (below after u.login) above in
-      let day_is : d ≡ u.day = number_is d u.day b.0 in
-      let mine : is_usage u.login d u ≡ true = rw (text_itself u.login, day_is, number_itself u.day) refl in
-      let row : usage_row day H u.login d ≡ Some u = member_is (is_usage u.login d) rows there.0 u there.1 there.2 mine (usage_row day H u.login d) (are u.login d) in
-      elim (either (has_reserve day H d u.login)) [
-        | inl t ↦ t
-        | inr f ↦ (let k : None ≡ Some u = rw f at row in absurd (cc k))
-      ]
+      let day_is : d ≡ u.day = number_is d u.day (both_parts (d == u.day) (below after u.login) above).0 in
+      subst (λ k. has_reserve day H k u.login ≡ true) (sym day_is) (reserved_there day H rows are u there)
 
-  -- and a login that has one has a row
-  abbrev row_of : List ℕ → UsageRecord
-  row_of l = record { login = l; day = d; settled = settled day H l d; reserved = reserved day H l d }
-
-  has_row : (l : List ℕ) → has_reserve day H d l ≡ true → (P : UsageRecord → Type 0) → AllByRecursion P rows → P (row_of l)
-  has_row l t P all = (let row : usage_row day H l d ≡ Some (row_of l) = rw t refl in one_has (is_usage l d) P rows (row_of l) (are l d ∙ ap those row) all)
-
-  is_above_row : (after l : List ℕ) → below after l ≡ true → is_above d after (row_of l) ≡ true
+  is_above_row : (after l : List ℕ) → below after l ≡ true → is_above d after (row_of day H l d) ≡ true
   is_above_row after l h = rw (number_itself d, h) refl
 
   record Rising (after : List ℕ) (ls : List (List ℕ)) : Type 0 where
@@ -79,7 +52,7 @@ module _ (day : ℕ → ℕ) (H : List Entry) (rows : List UsageRecord) (are : A
   place after [] next l up here = Behind tt up
   place after (u ∷ us) next l up here = elim (ordered u.login l) [
     | Same e ↦ Among (0, omega arith, e)
-    | After h ↦ (let f : below l u.login ≡ false = has_row l here (λ other. is_above d after other ≡ true → below other.login u.login ≡ false) next.0.2 (is_above_row after l up) in absurd (cc (f, h)))
+    | After h ↦ (let f : below l u.login ≡ false = has_row day H rows are l d here (λ other. is_above d after other ≡ true → below other.login u.login ≡ false) next.0.2 (is_above_row after l up) in absurd (cc (f, h)))
     | Before h ↦ elim (place u.login us next.1 l h here) [
       | Among c ↦ Among (suc c.0, omega (arith, c.1), c.2)
       | Behind all b ↦ Behind (h, all) b
@@ -90,7 +63,7 @@ module _ (day : ℕ → ℕ) (H : List Entry) (rows : List UsageRecord) (are : A
   finish after l us here end (Among c) = inl c
   finish after l us here (inl full) (Behind all b) = inr (simp length-map full, all_by_index (λ m. below m l ≡ true) (logins us) all)
   finish after l us here (inr none) (Behind all b) =
-      (let f : is_above d (behind after us) (row_of l) ≡ false = has_row l here (λ u. is_above d (behind after us) u ≡ false) none in absurd (cc (f, is_above_row (behind after us) l b)))
+      (let f : is_above d (behind after us) (row_of day H l d) ≡ false = has_row day H rows are l d here (λ u. is_above d (behind after us) u ≡ false) none in absurd (cc (f, is_above_row (behind after us) l b)))
 
   pub page_of : (after : List ℕ) (us : List UsageRecord) → AreNext d after rows us → length us ≤ 100 → (length us ≡ 100) ⊎ IsNext d (behind after us) rows None → IsLoginPage day H d after (logins us)
   page_of after us next few end =

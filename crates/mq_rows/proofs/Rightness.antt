@@ -1,48 +1,12 @@
 -- The pairs of the rows of a legal history are right.
-use Rattle.std.proofs.Common.{◌<◌, ◌≡◌, ℕ, suc, pos, ◌+◌, ◌≤◌, List, [], ◌∷◌, ◌++◌, map, length, Bool, true, false, refl, ◌∙◌, ap, sym, subst, inl, inr, arith}
-use Rattle.std.specs.Prelude.{ℤ, ◌+ℤ◌, find, fold, sum_by, ◌&&◌, ◌==◌, ◌⊎◌, nat_lt, int_le, if◌then◌else◌, Option, Some, None, option_map, is_some, All, Contains}
-use Rattle.std.specs.List.{AllByRecursion}
-use Rattle.std.specs.Ordering.{int_eq}
-use Rattle.std.specs.Cmp.{signed_Decides}
-use Rattle.std.proofs.lemmas.Bool.Decides.{nat_tests}
-use Rattle.std.proofs.lemmas.List.Sums.{sum_by-cons}
-use Rattle.std.specs.List.{swap}
-use Rattle.std.specs.List.Sorted.{IsPermutation}
-use Rattle.std.proofs.Common.{get_or}
-use Rattle.std.proofs.Math.ListN.{set}
-use Rattle.std.proofs.lemmas.List.{map-set, get_or-map, length-map}
-use Rattle.std.proofs.lemmas.List.Sorted.{IsPermutation-refl, IsPermutation-trans, IsPermutation-swap, IsPermutation-keeps}
-use Rattle.std.proofs.lemmas.List.Elements.{All-head}
-use Rattle.mq_lemmas.proofs.Numbers.{le_is, number_is, number_itself}
-use Rattle.mq_lemmas.proofs.Lists.{In, all_at, all_of, weaker}
-use Rattle.mq_lemmas.proofs.Booleans.{either}
-use Rattle.mq_lemmas.proofs.Options.{option_cases}
-use Rattle.mq_request.specs.declared.message.Request.{Request}
-use Rattle.mq_request.specs.declared.message.Request.TheVariants.{Reserve, Settle, Release, Limit, Usage, List as ListRequest, Retire}
-use Rattle.mq_request.specs.Range.{IsRequest, IsMoment}
-use Rattle.mq_request.specs.Same.{same_text}
-use Rattle.mq_ledger.specs.declared.entry.Entry.{Entry}
-use Rattle.mq_ledger.specs.History.{Transaction, same_transaction, is_of, named, held, settled_in, reserved, settled, used}
-use Rattle.mq_ledger.specs.Limits.{cap}
-use Rattle.mq_ledger.specs.Page.{has_reserve}
-use Rattle.mq_ledger.specs.Sums.{is_for, names_for, held_on, settled_on, AreDistinct, HasAllNamed}
-use Rattle.mq_rows.specs.declared.record.TransactionRecord.{TransactionRecord}
-use Rattle.mq_rows.specs.declared.record.UsageRecord.{UsageRecord}
-use Rattle.mq_rows.specs.declared.record.LimitRecord.{LimitRecord}
-use Rattle.mq_rows.specs.declared.audited.Pair.{Pair}
-use Rattle.mq_rows.specs.declared.audited.TransactionFigures.{TransactionFigures}
-use Rattle.mq_rows.specs.declared.audited.LimitFigures.{LimitFigures}
-use Rattle.mq_rows.specs.Audit as audit
-use Rattle.mq_rows.specs.Audit.{Figures, total, transactions_of, is_moment_of, are_dated, is_right, is_right_by, pairs}
+use Rattle.std.proofs.Common.{◌<◌, ◌≡◌, ℕ, pos, ◌+◌, ◌≤◌, List, [], ◌∷◌, ◌++◌, map, length, Bool, true, false, refl, ◌∙◌, ap, sym, subst, inl, inr, arith, ℤ, ◌+ℤ◌, find, sum_by, ◌&&◌, ◌==◌, int_le, if◌then◌else◌, Option, Some, None, option_map, All, int_eq, IsPermutation, get_or, int_lt, ◌≤ℤ◌}
+use Rattle.mq_rows.proofs.Words.{AllByRecursion, AreLimits, AreTransactions, AreUsage, Entry, Figures, IsGoverning, IsMoment, IsPermutation-keeps, IsPermutation-refl, IsPermutation-swap, IsPermutation-trans, IsRequest, LimitFigures, LimitRecord, Pair, Release, Request, Reserve, Settle, Tables, Transaction, TransactionFigures, TransactionRecord, UsageRecord, are_dated, cap, cap_by, either, get_or-map, has_reserve, is_due, is_limit, is_moment_of, is_of, is_right, is_transaction, is_usage, key_of, le_is, length-map, limit_row, map-set, moment_of, number_is, number_itself, pairs, reserved, same_pair, same_text, set, settled, signed_Decides, sum_by-cons, swap, total, transaction_row, transactions_of, usage_row, used, weaker, ints}
 use Rattle.mq_rows.specs.Figured.{usage_figures, transaction_figures, limit_figures, figures}
-use Rattle.mq_rows.specs.Found.{is_due, IsGoverning}
-use Rattle.mq_rows.specs.Pair.{same_pair}
-use Rattle.mq_rows.specs.Plan.{key_of, cap_by}
-use Rattle.mq_rows.specs.Rows.{moment_of, transaction_of, transaction_row, usage_row, limit_row, is_transaction, is_usage, is_limit}
-use Rattle.mq_rows.specs.Tables.{Tables, those, AreTransactions, AreUsage, AreLimits}
 use Rattle.mq_rows.proofs.Replies.{Governs, governs}
-use Rattle.mq_rows.proofs.Lists.{those_are_found, find_of_those, in_any_order}
-use Rattle.mq_rows.proofs.RowSums.{keys, Once, distinct, few_of, one_there, IsRowOf, row_of, sums_by_key, is_on, held_here, settled_here}
+use Rattle.mq_rows.proofs.Lists.{find_of_those, in_any_order, find_mapped, found, found_has, in_contains, mapped_from}
+use Rattle.mq_rows.proofs.RowSums.{all_of, IsRowOf, is_on, Laws, each_row, held_total, settled_total}
+use Rattle.mq_rows.proofs.Governed.{lt_not, IsLatest, governing_is}
+use Rattle.mq_rows.specs.Audit as audit
 
 -- Numbers.
 
@@ -58,53 +22,19 @@ ints_are a b = elim (either (a == b)) [
 pub same_int : (x y : ℤ) → x ≡ y → int_eq x y ≡ true
 same_int x y e = (signed_Decides x y).1 e
 
--- Members.
-
-pub in_contains : {X : Type 0} (xs : List X) (x : X) → In x xs → Contains xs x
-in_contains [] x i = absurd i
-in_contains (y ∷ xs) x (inl e) = (0, omega arith, e)
-in_contains (y ∷ xs) x (inr i) = (let r = in_contains xs x i in (suc r.0, omega (arith, r.1), r.2))
-
--- what is found is there and passes
-pub record Found {X : Type 0} (p : X → Bool) (xs : List X) (x : X) : Type 0 where
-  pub among : In x xs
-  pub passes : p x ≡ true
-
-pub found : {X : Type 0} (p : X → Bool) (xs : List X) (x : X) → find p xs ≡ Some x → Found p xs x
-found p [] x h = absurd (cc h)
-found p (y ∷ xs) x h = elim (either (p y)) [
-  | inl t ↦ (let h' : Some y ≡ Some x = rw t at h in let e : y ≡ x = cc h' in record { among = inl e; passes = ap p (sym e) ∙ t })
-  | inr f ↦ (let r = found p xs x (rw f at h) in record { among = inr r.among; passes = r.passes })
-]
-
-pub find_mapped : {X Y : Type 0} (f : X → Y) (p : Y → Bool) (q : X → Bool) → ((x : X) → p (f x) ≡ q x) → (xs : List X) → find p (map f xs) ≡ option_map f (find q xs)
-find_mapped f p q same [] = refl
-find_mapped f p q same (x ∷ xs) = elim (either (q x)) [
-  | inl t ↦ (let t' : p (f x) ≡ true = same x ∙ t in rw (t', t) refl)
-  | inr n ↦ (let n' : p (f x) ≡ false = same x ∙ n in rw (n', n) (find_mapped f p q same xs))
-]
-
 -- The transactions' keys.
 
 moment_in : (t : Transaction) (r : Request) → is_of t r ≡ true → IsRequest r → IsMoment (moment_of r)
 moment_in t (Reserve id txn moment login count) mine h = h.2
 moment_in t (Settle id txn moment login count) mine h = h.2
 moment_in t (Release id txn moment login) mine h = h.2
-moment_in t (Limit id from c login) mine h = absurd (cc mine)
-moment_in t (Usage login k) mine h = absurd (cc mine)
-moment_in t (ListRequest k after) mine h = absurd (cc mine)
-moment_in t (Retire id) mine h = absurd (cc mine)
-
-all_in : {X : Type 0} (P : X → Type 0) (xs : List X) (x : X) → All P xs → In x xs → P x
-all_in P [] x all i = absurd i
-all_in P (y ∷ xs) x all (inl e) = subst P e (All-head P y xs all)
-all_in P (y ∷ xs) x all (inr i) = all_in P xs x (λ k d h. all (suc k) d (omega arith)) i
+moment_in t r mine h = absurd (cc mine)
 
 module _ (day : ℕ → ℕ) (H : List Entry) where
   dated_here : All (λ e. IsRequest e.request) H → (r : TransactionRecord) → IsRowOf day H r → is_moment_of day (pos r.day) (pos r.moment) ≡ true
   dated_here range r is =
       let it = found (λ e. is_of (key_of r) e.request) H is.first is.names in
-      let m : IsMoment (moment_of is.first.request) = moment_in (key_of r) is.first.request it.passes (all_in (λ e. IsRequest e.request) H is.first range it.among) in
+      let m : IsMoment (moment_of is.first.request) = moment_in (key_of r) is.first.request it.passes (found_has (λ e. IsRequest e.request) (λ e. is_of (key_of r) e.request) H is.first range is.names) in
       let n : moment_of is.first.request ≡ r.moment = ap (λ (x : TransactionRecord). x.moment) is.row in
       let m' : IsMoment r.moment = subst IsMoment n m in
       let d : day (moment_of is.first.request) ≡ r.day = ap (λ (x : TransactionRecord). x.day) is.row in
@@ -141,88 +71,31 @@ dated_on day p (r ∷ rows) all = elim (either (same_pair p (transaction_figures
 
 -- The limit that governs.
 
-abbrev is_later : Option LimitRecord → LimitRecord → Bool
-is_later None c = true
-is_later (Some b) c = nat_lt b.day c.day
+all_mapped : {X Y : Type 0} (f : X → Y) (P : Y → Type 0) (xs : List X) → AllByRecursion P (map f xs) → AllByRecursion (λ x. P (f x)) xs
+all_mapped f P [] all = tt
+all_mapped f P (x ∷ xs) all = (all.0, all_mapped f P xs all.1)
 
-abbrev pick : List ℕ → ℕ → Option LimitRecord → LimitRecord → Option LimitRecord
-pick l d best c = if is_due l d c && is_later best c then Some c else best
+not_later : (a b : ℕ) (z : ℤ) → z ≡ pos a → int_lt z (pos b) ≡ false → b ≤ a
+not_later a b z e h = (let k : pos b ≤ℤ z = lt_not z (pos b) h in omega (arith, ints, k, e))
 
-picked_figures : (l : List ℕ) (d : ℕ) (best : Option LimitRecord) (c : LimitRecord) →
-    (if audit.is_due (record { login = l; day = pos d }) (limit_figures c) && audit.is_later (option_map limit_figures best) (limit_figures c) then Some (limit_figures c) else option_map limit_figures best)
-    ≡ option_map limit_figures (pick l d best c)
-picked_figures l d None c = elim (either (is_due l d c && true)) [ inl t ↦ rw t refl | inr f ↦ rw f refl ]
-picked_figures l d (Some b) c = elim (either (is_due l d c && nat_lt b.day c.day)) [ inl t ↦ rw t refl | inr f ↦ rw f refl ]
-
-abbrev choose : Pair → Option LimitFigures → LimitFigures → Option LimitFigures
-choose p latest c = if audit.is_due p c && audit.is_later latest c then Some c else latest
-
-fold_mapped : (l : List ℕ) (d : ℕ) (best : Option LimitRecord) (cs : List LimitRecord) →
-    fold (choose (record { login = l; day = pos d })) (option_map limit_figures best) (map limit_figures cs) ≡ option_map limit_figures (fold (pick l d) best cs)
-fold_mapped l d best [] = refl
-fold_mapped l d best (c ∷ cs) =
-    ap (λ o. fold (choose (record { login = l; day = pos d })) o (map limit_figures cs)) (picked_figures l d best c) ∙ fold_mapped l d (pick l d best c) cs
-
-abbrev IsBelow : Option LimitRecord → LimitRecord → Type 0
-IsBelow None c = Unit {0}
-IsBelow (Some b) c = b.day ≤ c.day
-
--- of those that are due and the best before them it is the latest
-abbrev IsBest : List ℕ → ℕ → Option LimitRecord → List LimitRecord → Option LimitRecord → Type 0
-IsBest l d best cs None = (best ≡ None) × AllByRecursion (λ c. is_due l d c ≡ false) cs
-IsBest l d best cs (Some c) =
-    ((best ≡ Some c) ⊎ (In c cs × (is_due l d c ≡ true))) × AllByRecursion (λ other. is_due l d other ≡ true → other.day ≤ c.day) cs × IsBelow best c
-
-module _ (l : List ℕ) (d : ℕ) where
-  -- the next one isn't due
-  passed_over : (best : Option LimitRecord) (c : LimitRecord) (cs : List LimitRecord) (g : Option LimitRecord) → is_due l d c ≡ false → IsBest l d best cs g → IsBest l d best (c ∷ cs) g
-  passed_over best c cs None f h = (h.0, (f, h.1))
-  passed_over best c cs (Some g) f h = (elim h.0 [ inl e ↦ inl e | inr i ↦ inr (inr i.0, i.1) ], ((λ t. absurd (cc (f, t))), h.1), h.2)
-
-  -- it is due, and not later
-  kept : (b c : LimitRecord) (cs : List LimitRecord) (g : Option LimitRecord) → c.day ≤ b.day → IsBest l d (Some b) cs g → IsBest l d (Some b) (c ∷ cs) g
-  kept b c cs None le h = absurd (cc (h.0))
-  kept b c cs (Some g) le h = (elim h.0 [ inl e ↦ inl e | inr i ↦ inr (inr i.0, i.1) ], ((λ t. omega (arith, le, h.2)), h.1), h.2)
-
-  -- it is due, and later
-  taken : (best : Option LimitRecord) (c : LimitRecord) (cs : List LimitRecord) (g : Option LimitRecord) → is_due l d c ≡ true → IsBelow best c → IsBest l d (Some c) cs g → IsBest l d best (c ∷ cs) g
-  taken best c cs None t low h = absurd (cc (h.0))
-  taken best c cs (Some g) t low h = (
-    elim h.0 [ inl e ↦ (let same : c ≡ g = cc e in inr (inl same, subst (λ x. is_due l d x ≡ true) same t)) | inr i ↦ inr (inr i.0, i.1) ],
-    ((λ _. h.2), h.1),
-    below best low,
-  )
-    where
-      below : (b : Option LimitRecord) → IsBelow b c → IsBelow b g
-      below None low = tt
-      below (Some b) low = omega (arith, low, h.2)
-
-  best_of : (best : Option LimitRecord) (cs : List LimitRecord) → IsBest l d best cs (fold (pick l d) best cs)
-  best_of None [] = (refl, tt)
-  best_of (Some b) [] = (inl refl, tt, omega arith)
-  best_of None (c ∷ cs) = elim (either (is_due l d c)) [
-    | inl t ↦ (let e : pick l d None c ≡ Some c = rw t refl in
-        let h : IsBest l d (Some c) cs (fold (pick l d) (Some c) cs) = best_of (Some c) cs in
-        subst (λ o. IsBest l d None (c ∷ cs) (fold (pick l d) o cs)) (sym e) (taken None c cs _ t tt h))
-    | inr f ↦ (let e : pick l d None c ≡ None = rw f refl in
-        subst (λ o. IsBest l d None (c ∷ cs) (fold (pick l d) o cs)) (sym e) (passed_over None c cs _ f (best_of None cs)))
-  ]
-  best_of (Some b) (c ∷ cs) = elim (either (is_due l d c)) [
-    | inl t ↦ elim (either (nat_lt b.day c.day)) [
-      | inl u ↦ (let e : pick l d (Some b) c ≡ Some c = rw (t, u) refl in
-          let lower : b.day ≤ c.day = grind (arith, nat_tests) in
-          subst (λ o. IsBest l d (Some b) (c ∷ cs) (fold (pick l d) o cs)) (sym e) (taken (Some b) c cs _ t lower (best_of (Some c) cs)))
-      | inr g ↦ (let e : pick l d (Some b) c ≡ Some b = rw (t, g) refl in
-          let lower : c.day ≤ b.day = grind (arith, nat_tests) in
-          subst (λ o. IsBest l d (Some b) (c ∷ cs) (fold (pick l d) o cs)) (sym e) (kept b c cs _ lower (best_of (Some b) cs)))
-    ]
-    | inr f ↦ (let e : pick l d (Some b) c ≡ Some b = rw f refl in
-        subst (λ o. IsBest l d (Some b) (c ∷ cs) (fold (pick l d) o cs)) (sym e) (passed_over (Some b) c cs _ f (best_of (Some b) cs)))
-  ]
-
-  governing_of : (cs : List LimitRecord) (g : Option LimitRecord) → IsBest l d None cs g → IsGoverning l d cs g
-  governing_of cs None h = h.1
-  governing_of cs (Some c) h = elim h.0 [ inl e ↦ absurd (cc e) | inr i ↦ (in_contains cs c i.0, i.1, h.1) ]
+-- the latest of the figures is the figures of the latest row
+latest_row : (l : List ℕ) (d : ℕ) (rows : List LimitRecord) (g : Option LimitFigures) → IsLatest (record { login = l; day = pos d }) (map limit_figures rows) g → (o : Option LimitRecord) × (g ≡ option_map limit_figures o) × IsGoverning l d rows o
+latest_row l d rows None h = (None, refl, all_mapped limit_figures (λ c. audit.is_due (record { login = l; day = pos d }) c ≡ false) rows h.1)
+latest_row l d rows (Some g) h = elim h.0 [
+  | inl e ↦ absurd (cc e)
+  | inr n ↦ (let p = mapped_from limit_figures (find (λ c. same_pair g.pair (limit_figures c).pair) rows) g (sym (find_mapped limit_figures (λ x. same_pair g.pair x.pair) (λ c. same_pair g.pair (limit_figures c).pair) (λ c. refl) rows) ∙ n.first) in
+      let it = found (λ c. same_pair g.pair (limit_figures c).pair) rows p.0 p.1 in
+      let day_is : g.pair.day ≡ pos p.0.day = ap (λ (x : LimitFigures). x.pair.day) (sym p.2) in (
+        Some p.0,
+        ap Some (sym p.2),
+        (
+          in_contains rows p.0 it.among,
+          ap (audit.is_due (record { login = l; day = pos d })) p.2 ∙ n.passing,
+          weaker (λ c. is_due l d c ≡ true → int_lt g.pair.day (pos c.day) ≡ false) (λ c. is_due l d c ≡ true → c.day ≤ p.0.day) (λ c no due. not_later p.0.day c.day g.pair.day day_is (no due)) rows
+              (all_mapped limit_figures (λ c. audit.is_due (record { login = l; day = pos d }) c ≡ true → int_lt g.pair.day c.pair.day ≡ false) rows h.1),
+        ),
+      ))
+]
 
 cap_of_figures : (default : ℕ) (g : Option LimitRecord) → audit.cap_or default (option_map limit_figures g) ≡ pos (cap_by default g)
 cap_of_figures default None = refl
@@ -231,11 +104,8 @@ cap_of_figures default (Some c) = refl
 -- All of it.
 
 -- What the ledger's laws say of a legal history.
-pub record Laws (day : ℕ → ℕ) (default : ℕ) (H : List Entry) : Type 0 where
-  pub itself : (t : Transaction) → same_transaction t t ≡ true
-  pub all_held : (l : List ℕ) (d : ℕ) (ts : List Transaction) → AreDistinct ts → HasAllNamed H ts → sum_by (held_on day H l d) ts ≡ reserved day H l d
-  pub all_settled : (l : List ℕ) (d : ℕ) (ts : List Transaction) → AreDistinct ts → HasAllNamed H ts → sum_by (settled_on day H l d) ts ≡ settled day H l d
-  pub none : (l : List ℕ) (d : ℕ) → has_reserve day H d l ≡ false → (reserved day H l d ≡ 0) × (settled day H l d ≡ 0)
+pub record Legality (day : ℕ → ℕ) (default : ℕ) (H : List Entry) : Type 0 where
+  pub sums : Laws day H
   pub within : (l : List ℕ) (d : ℕ) → used day H l d ≤ cap default H l d
   pub range : All (λ e. IsRequest e.request) H
   pub governs : Governs default H
@@ -249,38 +119,11 @@ paired P each (u ∷ us) ts = (each u.login u.day, paired P each us ts)
 paired P each [] [] = tt
 paired P each [] (t ∷ ts) = (each t.login t.day, paired P each [] ts)
 
-module _ (day : ℕ → ℕ) (default : ℕ) (H : List Entry) (laws : Laws day default H) (t : Tables)
+module _ (day : ℕ → ℕ) (default : ℕ) (H : List Entry) (laws : Legality day default H) (t : Tables)
     (are_transactions : AreTransactions day H t.transactions) (are_usage : AreUsage day H t.usage) (are_limits : AreLimits H t.limits) where
-  once : Once t.transactions
-  once k = subst (λ xs. length xs ≤ 1) (sym (are_transactions k)) (few_of (transaction_row day H k))
-
-  are_rows : AllByRecursion (IsRowOf day H) t.transactions
-  are_rows = all_of (IsRowOf day H) t.transactions (λ r i. let k : Transaction = key_of r in
-      let each = those_are_found (is_transaction k) t.transactions (transaction_row day H k) (are_transactions k) in
-      let here : Some r ≡ find (is_transaction k) t.transactions = all_at (λ x. is_transaction k x ≡ true → Some x ≡ find (is_transaction k) t.transactions) t.transactions r each i (laws.itself k) in
-      row_of day H r (sym (here ∙ find_of_those (is_transaction k) t.transactions (transaction_row day H k) (are_transactions k))))
-
-  all_named : HasAllNamed H (keys t.transactions)
-  all_named k h = elim (option_cases (named H k)) [
-    | inl none ↦ (let nothing : Option Entry = None in let h' : is_some nothing ≡ true = rw none at h in absurd (cc h'))
-    | inr p ↦ (let is : transaction_row day H k ≡ Some (transaction_of day H k p.0) = rw p.1 refl in
-        one_there k t.transactions (transaction_of day H k p.0) (are_transactions k ∙ ap those is))
-  ]
-
-  is_distinct : AreDistinct (keys t.transactions)
-  is_distinct = distinct laws.itself t.transactions once
-
   module _ (l : List ℕ) (d : ℕ) where
     abbrev p : Pair
     p = record { login = l; day = pos d }
-
-    held_total : total (λ x. x.held) (transactions_of p (map transaction_figures t.transactions)) ≡ pos (reserved day H l d)
-    held_total = total_on l d (λ x. x.held) (λ r. r.held) (λ r. refl) t.transactions
-        ∙ ap pos (sums_by_key (λ r. if is_on l d r then r.held else 0) (held_on day H l d) t.transactions (weaker (IsRowOf day H) _ (held_here day H l d) t.transactions are_rows) ∙ laws.all_held l d (keys t.transactions) is_distinct all_named)
-
-    settled_total : total (λ x. x.settled) (transactions_of p (map transaction_figures t.transactions)) ≡ pos (settled day H l d)
-    settled_total = total_on l d (λ x. x.settled) (λ r. r.settled) (λ r. refl) t.transactions
-        ∙ ap pos (sums_by_key (λ r. if is_on l d r then r.settled else 0) (settled_on day H l d) t.transactions (weaker (IsRowOf day H) _ (settled_here day H l d) t.transactions are_rows) ∙ laws.all_settled l d (keys t.transactions) is_distinct all_named)
 
     usage_is : find (λ u. same_pair p u.pair) (map usage_figures t.usage) ≡ option_map usage_figures (usage_row day H l d)
     usage_is = find_mapped usage_figures (λ u. same_pair p u.pair) (is_usage l d) (λ u. on_pair l d u.login u.day) t.usage ∙ ap (option_map usage_figures) (find_of_those (is_usage l d) t.usage (usage_row day H l d) (are_usage l d))
@@ -288,28 +131,29 @@ module _ (day : ℕ → ℕ) (default : ℕ) (H : List Entry) (laws : Laws day d
     settled_is : audit.settled_by (option_map usage_figures (usage_row day H l d)) ≡ pos (settled day H l d)
     settled_is = elim (either (has_reserve day H d l)) [
       | inl some ↦ rw some refl
-      | inr none ↦ rw none (ap pos (sym (laws.none l d none).1))
+      | inr none ↦ rw none (ap pos (sym (laws.sums.none l d none).1))
     ]
 
     reserved_is : audit.reserved_by (option_map usage_figures (usage_row day H l d)) ≡ pos (reserved day H l d)
     reserved_is = elim (either (has_reserve day H d l)) [
       | inl some ↦ rw some refl
-      | inr none ↦ rw none (ap pos (sym (laws.none l d none).0))
+      | inr none ↦ rw none (ap pos (sym (laws.sums.none l d none).0))
     ]
 
     cap_is : audit.cap_or default (audit.governing p (map limit_figures t.limits)) ≡ pos (cap default H l d)
     cap_is =
-        let g : Option LimitRecord = fold (pick l d) None t.limits in
-        ap (audit.cap_or default) (fold_mapped l d None t.limits) ∙ cap_of_figures default g
-        ∙ ap pos (governs default H laws.governs t.limits are_limits l d g (governing_of l d t.limits g (best_of l d None t.limits)))
+        let g = latest_row l d t.limits (audit.governing p (map limit_figures t.limits)) (governing_is p (map limit_figures t.limits)) in
+        ap (audit.cap_or default) g.1 ∙ cap_of_figures default g.0 ∙ ap pos (governs default H laws.governs t.limits are_limits l d g.0 g.2)
 
     pub right_here : is_right day default (figures t) p ≡ true
     right_here =
         let s : audit.settled_by (find (λ u. same_pair p u.pair) (map usage_figures t.usage)) ≡ pos (settled day H l d) = ap audit.settled_by usage_is ∙ settled_is in
         let r : audit.reserved_by (find (λ u. same_pair p u.pair) (map usage_figures t.usage)) ≡ pos (reserved day H l d) = ap audit.reserved_by usage_is ∙ reserved_is in
         let w : int_le (pos (settled day H l d + reserved day H l d)) (pos (cap default H l d)) ≡ true = le_is _ _ (omega (arith, laws.within l d)) in
-        all_four _ _ _ _ (same_int _ _ (s ∙ sym settled_total)) (same_int _ _ (r ∙ sym held_total)) ((λ i. int_le (s i +ℤ r i) (cap_is i)) ∙ w)
-        (dated_on day p t.transactions (weaker (IsRowOf day H) _ (dated_here day H laws.range) t.transactions are_rows))
+        all_four _ _ _ _ (same_int _ _ (s ∙ sym (total_on l d (λ x. x.settled) (λ r. r.settled) (λ r. refl) t.transactions ∙ ap pos (settled_total day H laws.sums t.transactions are_transactions l d))))
+        (same_int _ _ (r ∙ sym (total_on l d (λ x. x.held) (λ r. r.held) (λ r. refl) t.transactions ∙ ap pos (held_total day H laws.sums t.transactions are_transactions l d))))
+        ((λ i. int_le (s i +ℤ r i) (cap_is i)) ∙ w)
+        (dated_on day p t.transactions (all_of (λ r. is_moment_of day (pos r.day) (pos r.moment) ≡ true) t.transactions (λ r i. dated_here day H laws.range r (each_row day H t.transactions are_transactions r i))))
 
   pub all_right : AllByRecursion (λ p. is_right day default (figures t) p ≡ true) (pairs (figures t))
   all_right = paired (λ p. is_right day default (figures t) p ≡ true) right_here t.usage t.transactions
@@ -341,7 +185,7 @@ unmapped f xs ys = IsPermutation-keeps (map f xs) (Unmapped f xs) (record { sour
       same = IsPermutation-trans _ _ _ u.same (IsPermutation-swap u.source (swap u.source i j) i j i_in j_in refl);
     }) ys
 
-module _ (day : ℕ → ℕ) (default : ℕ) (H : List Entry) (laws : Laws day default H) (t : Tables)
+module _ (day : ℕ → ℕ) (default : ℕ) (H : List Entry) (laws : Legality day default H) (t : Tables)
     (are_transactions : AreTransactions day H t.transactions) (are_usage : AreUsage day H t.usage) (are_limits : AreLimits H t.limits) where
   pub reordered_right : (g : Figures) → IsPermutation (figures t).usage g.usage → IsPermutation (figures t).transactions g.transactions → IsPermutation (figures t).limits g.limits
       → AllByRecursion (λ p. is_right day default g p ≡ true) (pairs g)

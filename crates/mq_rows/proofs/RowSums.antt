@@ -1,27 +1,9 @@
 -- The rows of a history's transactions have together what its logins have reserved and settled.
-use Rattle.std.proofs.Common.{◌≡◌, ℕ, ◌≤◌, List, [], ◌∷◌, map, length, Bool, true, false, refl, ◌∙◌, ap, sym, subst, inl, inr, arith}
-use Rattle.std.specs.Prelude.{filter, find, sum_by, ◌&&◌, ◌==◌, if◌then◌else◌, Option, Some, None, is_some}
-use Rattle.std.specs.List.{AllByRecursion, list_any}
-use Rattle.std.proofs.lemmas.List.Sums.{sum_by-cons}
-use Rattle.mq_lemmas.proofs.Lists.{empty, weaker, found_passes}
-use Rattle.mq_lemmas.proofs.Booleans.{either}
-use Rattle.mq_lemmas.proofs.Options.{option_cases}
-use Rattle.mq_lemmas.proofs.Numbers.{number_itself}
-use Rattle.mq_request.specs.declared.message.Request.{Request}
-use Rattle.mq_request.specs.declared.message.Request.TheVariants.{Reserve, Settle, Release, Limit, Usage, List as ListRequest, Retire}
-use Rattle.mq_request.specs.Same.{same_text}
-use Rattle.mq_request.proofs.Alike.{text_itself}
-use Rattle.mq_ledger.specs.declared.entry.Entry.{Entry}
-use Rattle.mq_ledger.specs.History.{Transaction, same_transaction, is_of, is_at, named, agrees, held, settled_in, reserved, settled}
-use Rattle.mq_ledger.specs.Page.{has_reserve}
-use Rattle.mq_ledger.specs.Sums.{is_for, names_for, held_on, settled_on, AreDistinct, HasAllNamed}
-use Rattle.mq_rows.specs.declared.record.TransactionRecord.{TransactionRecord}
-use Rattle.mq_rows.specs.declared.record.UsageRecord.{UsageRecord}
-use Rattle.mq_rows.specs.Plan.{key_of}
-use Rattle.mq_rows.specs.Rows.{login_of, moment_of, transaction_of, transaction_row, usage_row, is_transaction}
-use Rattle.mq_rows.specs.Tables.{those, AreTransactions}
-use Rattle.mq_rows.specs.Plan.{Has}
-use Rattle.mq_rows.proofs.Lists.{none_pass, those_are_found, find_of_those}
+use Rattle.std.proofs.Common.{◌≡◌, ℕ, ◌≤◌, List, [], ◌∷◌, map, length, Bool, true, false, refl, ◌∙◌, ap, sym, subst, inl, inr, arith, filter, sum_by, ◌&&◌, ◌==◌, if◌then◌else◌, Option, Some, None, is_some}
+use Rattle.mq_rows.proofs.Words.{AllByRecursion, AreDistinct, AreTransactions, Entry, Has, HasAllNamed, Release, Request, Reserve, Settle, Transaction, TransactionRecord, UsageRecord, agrees, either, empty, found_passes, has_reserve, held, held_on, is_for, is_of, is_transaction, key_of, list_any, login_of, moment_of, named, names_for, number_itself, option_cases, reserved, same_text, same_transaction, settled, settled_in, settled_on, sum_by-cons, text_itself, those, transaction_of, transaction_row, usage_row}
+use Rattle.mq_ledger.proofs.Transactions.{transaction_itself}
+use Rattle.mq_rows.proofs.Lists.{none_pass, has_is, mapped_from}
+use Rattle.mq_rows.proofs.Trans.{at_is}
 
 -- the row is of that login and day
 abbrev pub is_on : List ℕ → ℕ → TransactionRecord → Bool
@@ -65,14 +47,12 @@ pub none_any : (k : Transaction) (rows : List TransactionRecord) → AllByRecurs
 none_any k [] all = refl
 none_any k (r ∷ rows) all = rw all.0 (none_any k rows all.1)
 
-pub distinct : ((t : Transaction) → same_transaction t t ≡ true) → (rows : List TransactionRecord) → Once rows → AreDistinct (keys rows)
-distinct itself [] once = tt
-distinct itself (x ∷ rows) once =
-    let mine : is_transaction (key_of x) x ≡ true = itself (key_of x) in
-    let few : length (filter (is_transaction (key_of x)) (x ∷ rows)) ≤ 1 = once (key_of x) in
-    let few' : length (x ∷ filter (is_transaction (key_of x)) rows) ≤ 1 = rw mine at few in
+pub distinct : (rows : List TransactionRecord) → Once rows → AreDistinct (keys rows)
+distinct [] once = tt
+distinct (x ∷ rows) once =
+    let few = rw (transaction_itself (key_of x)) at (once (key_of x)) in
     let none : filter (is_transaction (key_of x)) rows ≡ [] = empty _ (omega arith) in
-    (none_any (key_of x) rows (none_pass (is_transaction (key_of x)) rows none), distinct itself rows (λ k. omega (arith, once k, shorter (is_transaction k) x rows)))
+    (none_any (key_of x) rows (none_pass (is_transaction (key_of x)) rows none), distinct rows (λ k. omega (arith, once k, shorter (is_transaction k) x rows)))
 
 pub few_of : {X : Type 0} (o : Option X) → length (those o) ≤ 1
 few_of None = omega arith
@@ -92,10 +72,14 @@ pub record IsRowOf (day : ℕ → ℕ) (H : List Entry) (r : TransactionRecord) 
   pub row : transaction_of day H (key_of r) first ≡ r
 
 pub row_of : (day : ℕ → ℕ) (H : List Entry) (r : TransactionRecord) → transaction_row day H (key_of r) ≡ Some r → IsRowOf day H r
-row_of day H r h = elim (option_cases (named H (key_of r))) [
-  | inl none ↦ (let h' : None ≡ Some r = rw none at h in absurd (cc h'))
-  | inr p ↦ (let h' : Some (transaction_of day H (key_of r) p.0) ≡ Some r = rw p.1 at h in record { first = p.0; names = p.1; row = cc h' })
-]
+row_of day H r h = (let p = mapped_from (transaction_of day H (key_of r)) (named H (key_of r)) r h in record { first = p.0; names = p.1; row = p.2 })
+
+-- a row that is there is its transaction's
+pub key_row : (rows : List TransactionRecord) (r : TransactionRecord) (o : Option TransactionRecord) → filter (is_transaction (key_of r)) rows ≡ those o → Has rows r → o ≡ Some r
+key_row rows r o are i = has_is (is_transaction (key_of r)) rows r o are i (transaction_itself (key_of r))
+
+pub each_row : (day : ℕ → ℕ) (H : List Entry) (rows : List TransactionRecord) → AreTransactions day H rows → (r : TransactionRecord) → Has rows r → IsRowOf day H r
+each_row day H rows are r i = row_of day H r (key_row rows r (transaction_row day H (key_of r)) (are (key_of r)) i)
 
 pub is_mine : (day : ℕ → ℕ) (H : List Entry) (r : TransactionRecord) (is : IsRowOf day H r) → is_of (key_of r) is.first.request ≡ true
 is_mine day H r is = found_passes (λ e. is_of (key_of r) e.request) H is.first is.names
@@ -104,26 +88,15 @@ pub for_pair : (day : ℕ → ℕ) (t : Transaction) (r : Request) (l : List ℕ
 for_pair day t (Reserve id txn moment login count) l d mine = refl
 for_pair day t (Settle id txn moment login count) l d mine = refl
 for_pair day t (Release id txn moment login) l d mine = refl
-for_pair day t (Limit id from c login) l d mine = absurd (cc mine)
-for_pair day t (Usage login k) l d mine = absurd (cc mine)
-for_pair day t (ListRequest k after) l d mine = absurd (cc mine)
-for_pair day t (Retire id) l d mine = absurd (cc mine)
-
-at_own : (t : Transaction) (r : Request) → is_of t r ≡ true → is_at (moment_of r) (login_of r) r ≡ true
-at_own t (Reserve id txn moment login count) mine = rw (number_itself moment, text_itself login) refl
-at_own t (Settle id txn moment login count) mine = rw (number_itself moment, text_itself login) refl
-at_own t (Release id txn moment login) mine = rw (number_itself moment, text_itself login) refl
-at_own t (Limit id from c login) mine = absurd (cc mine)
-at_own t (Usage login k) mine = absurd (cc mine)
-at_own t (ListRequest k after) mine = absurd (cc mine)
-at_own t (Retire id) mine = absurd (cc mine)
+for_pair day t r l d mine = absurd (cc mine)
 
 -- the row's login and moment are those that its transaction was named with
 pub agreed : (day : ℕ → ℕ) (H : List Entry) (r : TransactionRecord) → IsRowOf day H r → agrees r.moment r.login (named H (key_of r)) ≡ true
 agreed day H r is =
     let m : moment_of is.first.request ≡ r.moment = ap (λ (x : TransactionRecord). x.moment) is.row in
     let l : login_of is.first.request ≡ r.login = ap (λ (x : TransactionRecord). x.login) is.row in
-    ap (agrees r.moment r.login) is.names ∙ (λ i. is_at (sym m i) (sym l i) is.first.request) ∙ at_own (key_of r) is.first.request (is_mine day H r is)
+    ap (agrees r.moment r.login) is.names ∙ sym (at_is (key_of r) r.moment r.login is.first.request (is_mine day H r is))
+    ∙ (λ i. (r.moment == m i) && same_text r.login (l i)) ∙ (rw (number_itself r.moment, text_itself r.login) refl)
 
 pub day_is : (day : ℕ → ℕ) (H : List Entry) (r : TransactionRecord) → IsRowOf day H r → day r.moment ≡ r.day
 day_is day H r is =
@@ -135,54 +108,36 @@ sums_by_key f g (r ∷ rows) all = omega (arith, sum_by-cons f r rows, sum_by-co
 
 -- what the ledger's laws say of a legal history
 pub record Laws (day : ℕ → ℕ) (H : List Entry) : Type 0 where
-  pub itself : (t : Transaction) → same_transaction t t ≡ true
   pub all_held : (l : List ℕ) (d : ℕ) (ts : List Transaction) → AreDistinct ts → HasAllNamed H ts → sum_by (held_on day H l d) ts ≡ reserved day H l d
   pub all_settled : (l : List ℕ) (d : ℕ) (ts : List Transaction) → AreDistinct ts → HasAllNamed H ts → sum_by (settled_on day H l d) ts ≡ settled day H l d
+  pub held_is_reserved : (t : Transaction) (moment : ℕ) (login : List ℕ) → agrees moment login (named H t) ≡ true → held H t ≤ reserved day H login (day moment)
   pub none : (l : List ℕ) (d : ℕ) → has_reserve day H d l ≡ false → (reserved day H l d ≡ 0) × (settled day H l d ≡ 0)
 
-module _ (day : ℕ → ℕ) (H : List Entry) where
-  pub named_for : (l : List ℕ) (d : ℕ) (r : TransactionRecord) → IsRowOf day H r → names_for day l d (named H (key_of r)) ≡ is_on l d r
-  named_for l d r is =
-      ap (names_for day l d) is.names ∙ for_pair day (key_of r) is.first.request l d (is_mine day H r is) ∙ ap (is_on l d) is.row
+module _ (day : ℕ → ℕ) (H : List Entry) (laws : Laws day H) (rows : List TransactionRecord) (are : AreTransactions day H rows) where
+  once : Once rows
+  once k = subst (λ xs. length xs ≤ 1) (sym (are k)) (few_of (transaction_row day H k))
 
-  pub held_here : (l : List ℕ) (d : ℕ) (r : TransactionRecord) → IsRowOf day H r → (if is_on l d r then r.held else 0) ≡ held_on day H l d (key_of r)
-  held_here l d r is =
-      let h : held H (key_of r) ≡ r.held = ap (λ (x : TransactionRecord). x.held) is.row in
-      sym (ap (λ (b : Bool). if b then held H (key_of r) else 0) (named_for l d r is) ∙ ap (λ (n : ℕ). if is_on l d r then n else 0) h)
+  all_named : HasAllNamed H (keys rows)
+  all_named k h = elim (option_cases (named H k)) [
+    | inl none ↦ (let nothing : Option Entry = None in let h' : is_some nothing ≡ true = rw none at h in absurd (cc h'))
+    | inr p ↦ (let is : transaction_row day H k ≡ Some (transaction_of day H k p.0) = rw p.1 refl in
+        one_there k rows (transaction_of day H k p.0) (are k ∙ ap those is))
+  ]
 
-  pub settled_here : (l : List ℕ) (d : ℕ) (r : TransactionRecord) → IsRowOf day H r → (if is_on l d r then r.settled else 0) ≡ settled_on day H l d (key_of r)
-  settled_here l d r is =
-      let h : settled_in H (key_of r) ≡ r.settled = ap (λ (x : TransactionRecord). x.settled) is.row in
-      sym (ap (λ (b : Bool). if b then settled_in H (key_of r) else 0) (named_for l d r is) ∙ ap (λ (n : ℕ). if is_on l d r then n else 0) h)
+  -- what the rows have of an amount is what their transactions have of it
+  summed : (amount : TransactionRecord → ℕ) (of : Transaction → ℕ) → ((k : Transaction) (e : Entry) → of k ≡ amount (transaction_of day H k e)) → (l : List ℕ) (d : ℕ)
+      → total amount l d rows ≡ sum_by (λ t. if names_for day l d (named H t) then of t else 0) (keys rows)
+  summed amount of same l d = sums_by_key (λ r. if is_on l d r then amount r else 0) (λ t. if names_for day l d (named H t) then of t else 0) rows (all_of (λ r. (if is_on l d r then amount r else 0) ≡ (if names_for day l d (named H (key_of r)) then of (key_of r) else 0)) rows (λ r i.
+      let is = each_row day H rows are r i in
+      let for : names_for day l d (named H (key_of r)) ≡ is_on l d r = ap (names_for day l d) is.names ∙ for_pair day (key_of r) is.first.request l d (is_mine day H r is) ∙ ap (is_on l d) is.row in
+      λ j. if sym for j then (sym (same (key_of r) is.first ∙ ap amount is.row)) j else 0))
 
-  module _ (laws : Laws day H) (rows : List TransactionRecord) (are : AreTransactions day H rows) where
-    once : Once rows
-    once k = subst (λ xs. length xs ≤ 1) (sym (are k)) (few_of (transaction_row day H k))
+  pub held_total : (l : List ℕ) (d : ℕ) → total (λ r. r.held) l d rows ≡ reserved day H l d
+  held_total l d = summed (λ r. r.held) (held H) (λ k e. refl) l d ∙ laws.all_held l d (keys rows) (distinct rows once) all_named
 
-    pub each_row : (r : TransactionRecord) → Has rows r → IsRowOf day H r
-    each_row r i =
-        let k : Transaction = key_of r in
-        let each = those_are_found (is_transaction k) rows (transaction_row day H k) (are k) in
-        let here : Some r ≡ find (is_transaction k) rows = all_at (λ x. is_transaction k x ≡ true → Some x ≡ find (is_transaction k) rows) rows r each i (laws.itself k) in
-        row_of day H r (sym (here ∙ find_of_those (is_transaction k) rows (transaction_row day H k) (are k)))
+  pub settled_total : (l : List ℕ) (d : ℕ) → total (λ r. r.settled) l d rows ≡ settled day H l d
+  settled_total l d = summed (λ r. r.settled) (settled_in H) (λ k e. refl) l d ∙ laws.all_settled l d (keys rows) (distinct rows once) all_named
 
-    all_named : HasAllNamed H (keys rows)
-    all_named k h = elim (option_cases (named H k)) [
-      | inl none ↦ (let nothing : Option Entry = None in let h' : is_some nothing ≡ true = rw none at h in absurd (cc h'))
-      | inr p ↦ (let is : transaction_row day H k ≡ Some (transaction_of day H k p.0) = rw p.1 refl in
-          one_there k rows (transaction_of day H k p.0) (are k ∙ ap those is))
-    ]
-
-    pub held_total : (l : List ℕ) (d : ℕ) → total (λ r. r.held) l d rows ≡ reserved day H l d
-    held_total l d =
-        sums_by_key (λ r. if is_on l d r then r.held else 0) (held_on day H l d) rows (weaker (IsRowOf day H) _ (held_here l d) rows (all_of (IsRowOf day H) rows each_row))
-        ∙ laws.all_held l d (keys rows) (distinct laws.itself rows once) all_named
-
-    pub settled_total : (l : List ℕ) (d : ℕ) → total (λ r. r.settled) l d rows ≡ settled day H l d
-    settled_total l d =
-        sums_by_key (λ r. if is_on l d r then r.settled else 0) (settled_on day H l d) rows (weaker (IsRowOf day H) _ (settled_here l d) rows (all_of (IsRowOf day H) rows each_row))
-        ∙ laws.all_settled l d (keys rows) (distinct laws.itself rows once) all_named
-
-    -- so the row of a login and day has what its transactions have
-    pub summed_is : (l : List ℕ) (d : ℕ) → summed_row day H rows l d ≡ usage_row day H l d
-    summed_is l d = (λ i. if has_reserve day H d l then Some (record { login = l; day = d; settled = settled_total l d i; reserved = held_total l d i }) else None)
+  -- so the row of a login and day has what its transactions have
+  pub summed_is : (l : List ℕ) (d : ℕ) → summed_row day H rows l d ≡ usage_row day H l d
+  summed_is l d = (λ i. if has_reserve day H d l then Some (record { login = l; day = d; settled = settled_total l d i; reserved = held_total l d i }) else None)

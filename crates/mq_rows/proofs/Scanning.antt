@@ -1,17 +1,10 @@
 -- The least of the pairs that aren't right.
-use Rattle.std.proofs.Common.{◌≡◌, List, [], ◌∷◌, Bool, true, false, refl, ◌∙◌, ap, sym, subst, inl, inr}
-use Rattle.std.specs.Prelude.{◌⊎◌, Option, Some, None, Contains}
-use Rattle.std.specs.Cmp.{tied_itself, upto}
-use Rattle.std.specs.declared.cmp.Ordering.{Ordering}
-use Rattle.std.specs.declared.cmp.Ordering.TheVariants.{Less, Equal, Greater}
-use Rattle.std.specs.List.{AllByRecursion}
-use Rattle.std.specs.Ordering.{is_lt, is_gt, ordering_reverse}
-use Rattle.mq_lemmas.proofs.Booleans.{either}
-use Rattle.mq_lemmas.proofs.Lists.{In, all_of, all_at}
-use Rattle.mq_rows.specs.declared.audited.Pair.{Pair}
-use Rattle.mq_rows.specs.Books.{less_wrong, least_wrong}
-use Rattle.mq_rows.specs.Pair.{pair_cmp, pair_cmp_total, is_before}
-use Rattle.mq_rows.proofs.Rightness.{in_contains}
+use Rattle.std.proofs.Common.{◌≡◌, List, Bool, true, false, refl, ◌∙◌, ap, sym, subst, inl, inr, Option, Some, None, Contains, is_lt, is_gt, not}
+use Rattle.mq_rows.proofs.Words.{AllByRecursion, Equal, Greater, In, Less, Ordering, Pair, all_at, all_of, is_before, least_wrong, less_wrong, ordering_reverse, pair_cmp, pair_cmp_total, same_pair, tied_itself, upto}
+use Rattle.mq_lemmas.proofs.Booleans.{is_not, not_false}
+use Rattle.mq_rows.proofs.Choosing.{Chooses, IsBest, best_of}
+use Rattle.mq_rows.proofs.Lists.{found, in_contains}
+use Rattle.mq_rows.proofs.Booking.{pair_is, pair_itself}
 
 -- The order of pairs.
 
@@ -40,95 +33,46 @@ after_is_not_before p q = ap is_lt (pair_cmp_total.antisymm p q) ∙ turned (pai
 not_before_both : (p q r : Pair) → is_before p q ≡ false → is_before q r ≡ false → is_before p r ≡ false
 not_before_both p q r h k = after_is_not_before p r ∙ upto pair_cmp_total r q p (sym (after_is_not_before q r) ∙ k) (sym (after_is_not_before p q) ∙ h)
 
+over : (right : Pair → Bool) (least : Option Pair) (p : Pair) → right p ≡ true → less_wrong right least p ≡ least
+over right None p t = rw t refl
+over right (Some q) p t = rw t refl
+
 module _ (right : Pair → Bool) where
-  -- no pair that isn't right stands before it
-  abbrev IsLeast : Pair → List Pair → Type 0
-  IsLeast p ps = AllByRecursion (λ q. right q ≡ false → is_before q p ≡ false) ps
+  abbrev is_wrong : Pair → Bool
+  is_wrong p = not (right p)
 
-  record IsLeastFrom (before : Option Pair) (ps : List Pair) (p : Pair) : Type 0 where
-    among : (before ≡ Some p) ⊎ (In p ps × (right p ≡ false))
-    least : IsLeast p ps
+  chooses : Chooses is_wrong is_before same_pair (less_wrong right)
+  chooses = record {
+    skip = λ least p f. over right least p (not_false (right p) f);
+    first = λ p t. rw (is_not (right p) t) refl;
+    better = λ q p t u. rw (is_not (right p) t, u) refl;
+    worse = λ q p t g. rw (is_not (right p) t, g) refl;
+    chain = before_both;
+    no_chain = not_before_both;
+    not_itself = not_itself;
+    like_itself = pair_itself;
+    like_passes = λ p q h. ap is_wrong (pair_is p q h);
+    like_beats = λ p q r h. ap (λ x. is_before x r) (pair_is p q h);
+  }
 
-  abbrev IsNoLess : Option Pair → Pair → Type 0
-  IsNoLess None p = Unit {0}
-  IsNoLess (Some q) p = is_before q p ≡ false
-
-  abbrev IsScanned : Option Pair → List Pair → Option Pair → Type 0
-  IsScanned before ps None = (before ≡ None) × AllByRecursion (λ p. right p ≡ true) ps
-  IsScanned before ps (Some p) = IsLeastFrom before ps p × IsNoLess before p
-
-  over : (before : Option Pair) (p : Pair) (ps : List Pair) (g : Option Pair) → right p ≡ true → IsScanned before ps g → IsScanned before (p ∷ ps) g
-  over before p ps None t h = (h.0, (t, h.1))
-  over before p ps (Some r) t h = (
-    record {
-      among = elim h.0.among [ inl e ↦ inl e | inr i ↦ inr (inr i.0, i.1) ];
-      least = ((λ f. absurd (cc (t, f))), h.0.least);
-    },
-    h.1,
-  )
-
-  abbrev Precedes : Pair → Option Pair → Type 0
-  Precedes p None = Unit {0}
-  Precedes p (Some q) = is_before p q ≡ true
-
-  no_less : (before : Option Pair) (p r : Pair) → Precedes p before → is_before p r ≡ false → IsNoLess before r
-  no_less None p r first h = tt
-  no_less (Some q) p r first h = elim (either (is_before q r)) [
-    | inl t ↦ (let k : is_before p r ≡ true = before_both p q r first t in absurd (cc (k, h)))
-    | inr f ↦ f
-  ]
-
-  put : (before : Option Pair) (p : Pair) (ps : List Pair) (g : Option Pair) → right p ≡ false → Precedes p before → IsScanned (Some p) ps g → IsScanned before (p ∷ ps) g
-  put before p ps None f first h = absurd (cc (h.0))
-  put before p ps (Some r) f first h = (
-    record {
-      among = elim h.0.among [ inl e ↦ (let same : p ≡ r = cc e in inr (inl same, ap right (sym same) ∙ f)) | inr i ↦ inr (inr i.0, i.1) ];
-      least = ((λ _. h.1), h.0.least);
-    },
-    no_less before p r first h.1,
-  )
-
-  keep : (q p : Pair) (ps : List Pair) (g : Option Pair) → right p ≡ false → is_before p q ≡ false → IsScanned (Some q) ps g → IsScanned (Some q) (p ∷ ps) g
-  keep q p ps None f later h = absurd (cc (h.0))
-  keep q p ps (Some r) f later h = (
-    record {
-      among = elim h.0.among [ inl e ↦ inl e | inr i ↦ inr (inr i.0, i.1) ];
-      least = ((λ _. not_before_both p q r later h.1), h.0.least);
-    },
-    h.1,
-  )
-
-  scanned : (before : Option Pair) (ps : List Pair) → IsScanned before ps (least_wrong right before ps)
-  scanned None [] = (refl, tt)
-  scanned (Some q) [] = (record { among = inl refl; least = tt }, not_itself q)
-  scanned None (p ∷ ps) = elim (either (right p)) [
-    | inl t ↦ (let e : less_wrong right None p ≡ None = rw t refl in
-        subst (λ o. IsScanned None (p ∷ ps) (least_wrong right o ps)) (sym e) (over None p ps _ t (scanned None ps)))
-    | inr f ↦ (let e : less_wrong right None p ≡ Some p = rw f refl in
-        subst (λ o. IsScanned None (p ∷ ps) (least_wrong right o ps)) (sym e) (put None p ps _ f tt (scanned (Some p) ps)))
-  ]
-  scanned (Some q) (p ∷ ps) = elim (either (right p)) [
-    | inl t ↦ (let e : less_wrong right (Some q) p ≡ Some q = rw t refl in
-        subst (λ o. IsScanned (Some q) (p ∷ ps) (least_wrong right o ps)) (sym e) (over (Some q) p ps _ t (scanned (Some q) ps)))
-    | inr f ↦ elim (either (is_before p q)) [
-      | inl u ↦ (let e : less_wrong right (Some q) p ≡ Some p = rw (f, u) refl in
-          subst (λ o. IsScanned (Some q) (p ∷ ps) (least_wrong right o ps)) (sym e) (put (Some q) p ps _ f u (scanned (Some p) ps)))
-      | inr g ↦ (let e : less_wrong right (Some q) p ≡ Some q = rw (f, g) refl in
-          subst (λ o. IsScanned (Some q) (p ∷ ps) (least_wrong right o ps)) (sym e) (keep q p ps _ f g (scanned (Some q) ps)))
-    ]
-  ]
+  scanned : (ps : List Pair) → IsBest is_wrong is_before same_pair None ps (least_wrong right None ps)
+  scanned ps = best_of is_wrong is_before same_pair (less_wrong right) chooses None ps
 
   -- where others are among those that were scanned, and those among them
   module _ (ps qs : List Pair) (into : (p : Pair) → In p ps → In p qs) (back : (p : Pair) → In p qs → In p ps) where
     pub all_right : None ≡ least_wrong right None ps → AllByRecursion (λ p. right p ≡ true) qs
     all_right is =
-        let all = (subst (IsScanned None ps) (sym is) (scanned None ps)).1 in
-        all_of (λ p. right p ≡ true) qs (λ p i. all_at (λ p. right p ≡ true) ps p all (back p i))
+        let all = (subst (IsBest is_wrong is_before same_pair None ps) (sym is) (scanned ps)).1 in
+        all_of (λ p. right p ≡ true) qs (λ p i. not_false (right p) (all_at (λ p. is_wrong p ≡ false) ps p all (back p i)))
 
-    pub least_of : (p : Pair) → Some p ≡ least_wrong right None ps → Contains qs p × (right p ≡ false) × IsLeast p qs
+    pub least_of : (p : Pair) → Some p ≡ least_wrong right None ps → Contains qs p × (right p ≡ false) × AllByRecursion (λ q. right q ≡ false → is_before q p ≡ false) qs
     least_of p is =
-        let it = (subst (IsScanned None ps) (sym is) (scanned None ps)).0 in
-        elim it.among [
+        let it = subst (IsBest is_wrong is_before same_pair None ps) (sym is) (scanned ps) in
+        elim it.0 [
           | inl e ↦ absurd (cc e)
-          | inr i ↦ (in_contains qs p (into p i.0), i.1, all_of (λ q. right q ≡ false → is_before q p ≡ false) qs (λ q j. all_at (λ q. right q ≡ false → is_before q p ≡ false) ps q it.least (back q j)))
+          | inr n ↦ (
+            in_contains qs p (into p (found (same_pair p) ps p n.first).among),
+            is_not (right p) n.passing,
+            all_of (λ q. right q ≡ false → is_before q p ≡ false) qs (λ q j f. all_at (λ q. is_wrong q ≡ true → is_before q p ≡ false) ps q it.1 (back q j) (ap not f)),
+          )
         ]

@@ -9,7 +9,7 @@ use Rattle.mq_request.specs.Same.{same_text}
 use Rattle.mq_ledger.specs.History.{transaction}
 use Rattle.mq_rows.specs.declared.record.UsageRecord.{UsageRecord}
 use Rattle.mq_rows.specs.declared.record.LimitRecord.{LimitRecord}
-use Rattle.mq_rows.specs.declared.plan.Found.{Found}
+use Rattle.mq_rows.specs.declared.plan.FoundRows.{FoundRows}
 use Rattle.mq_rows.specs.Rows.{is_transaction, is_usage, is_limit, is_host}
 use Rattle.mq_rows.specs.Tables.{Tables}
 
@@ -36,7 +36,7 @@ IsFirstOver login from cap rows (Some u) =
     × AllByRecursion (λ other. is_over login from cap other ≡ true → u.day ≤ other.day) rows
 
 -- what was found is what the tables have about the request
-abbrev pub IsFound : (ℕ → ℕ) → Tables → Request → Found → Type 0
+abbrev pub IsFound : (ℕ → ℕ) → Tables → Request → FoundRows → Type 0
 IsFound day t (Reserve id txn moment login count) f =
     (f.transaction ≡ find (is_transaction (transaction id txn)) t.transactions)
     × (f.usage ≡ find (is_usage login (day moment)) t.usage)

@@ -18,7 +18,7 @@ use Rattle.mq_rows.specs.declared.record.UsageRecord.{UsageRecord}
 use Rattle.mq_rows.specs.declared.record.AnswerRecord.{AnswerRecord}
 use Rattle.mq_rows.specs.declared.record.LimitRecord.{LimitRecord}
 use Rattle.mq_rows.specs.declared.record.RetiredRecord.{RetiredRecord}
-use Rattle.mq_rows.specs.declared.plan.Found.{Found}
+use Rattle.mq_rows.specs.declared.plan.FoundRows.{FoundRows}
 use Rattle.mq_rows.specs.declared.plan.Plan.{Plan}
 use Rattle.mq_rows.specs.declared.plan.Runs.{Runs}
 use Rattle.mq_rows.specs.declared.plan.Write.{Write}
@@ -71,7 +71,7 @@ set_or_over_by id None = LimitSet id
 set_or_over_by id (Some u) = Over id u.day (u.reserved + u.settled)
 
 -- the reply to a numbered request
-abbrev pub decided : ℕ → Request → Found → Reply
+abbrev pub decided : ℕ → Request → FoundRows → Reply
 decided default (Reserve id txn moment login count) f =
     if_row_open id moment login f.transaction (granted_or_full id (used_by f.usage) (cap_by default f.governing) count)
 decided default (Settle id txn moment login count) f =
@@ -118,7 +118,7 @@ abbrev pub moved_or_made : ℕ → Reply → TransactionRecord → Option Transa
 moved_or_made count a new None = Insert (moved count a new)
 moved_or_made count a new (Some t) = if moves a then Update (moved count a t) else Keep
 
--- trans
+-- what becomes of the row of a transaction
 abbrev pub transaction_write : (ℕ → ℕ) → Request → Reply → Option TransactionRecord → Write TransactionRecord
 transaction_write day (Reserve id txn moment login count) a t = moved_or_made count a (fresh day id txn moment login) t
 transaction_write day (Settle id txn moment login count) a t = moved_or_made count a (fresh day id txn moment login) t
@@ -136,7 +136,7 @@ freed count held None = Keep
 freed count held (Some u) =
     if held == 0 then Keep else Update (record u { settled = u.settled + count; reserved = u.reserved - held })
 
--- usage, where the transaction held so many
+-- what becomes of the row of usage, where the transaction held so many
 abbrev pub usage_write : (ℕ → ℕ) → Request → Reply → ℕ → Option UsageRecord → Write UsageRecord
 usage_write day (Reserve id txn moment login count) (Granted id' used) held u = reserved_more login (day moment) count u
 usage_write day (Settle id txn moment login count) (Settled id' settled) held u = freed count held u
@@ -148,7 +148,7 @@ abbrev pub set_limit_to : List ℕ → ℕ → ℕ → Option LimitRecord → Wr
 set_limit_to login day cap None = Insert (record { login = login; day = day; cap = cap })
 set_limit_to login day cap (Some c) = Update (record c { cap = cap })
 
--- `ceiling`
+-- what becomes of the row of a limit
 abbrev pub limit_write : Request → Reply → Option LimitRecord → Write LimitRecord
 limit_write (Limit id from_day asked login) (LimitSet id') c = set_limit_to login from_day asked c
 limit_write _ _ c = Keep
@@ -159,7 +159,7 @@ floor_by None = 0
 floor_by (Some r) = r.run
 
 -- the runs that a retire retires: those of its host from the floor before on, below its own
-abbrev pub given_up_by : Request → Found → Option Runs
+abbrev pub given_up_by : Request → FoundRows → Option Runs
 given_up_by (Retire id) f = Some (record { host = id.host; from = floor_by f.floor; to = id.run - 1 })
 given_up_by _ f = None
 
@@ -168,13 +168,13 @@ abbrev pub raised_to : Id → Option RetiredRecord → Write RetiredRecord
 raised_to id None = Insert (record { host = id.host; run = id.run })
 raised_to id (Some r) = Update (record r { run = id.run })
 
--- retired
+-- what becomes of the row of a host's floor
 abbrev pub retired_write : Request → Option RetiredRecord → Write RetiredRecord
 retired_write (Retire id) r = raised_to id r
 retired_write _ r = Keep
 
 -- all that is written with that reply
-abbrev pub written : (ℕ → ℕ) → ℕ → Request → Found → Reply → Plan
+abbrev pub written : (ℕ → ℕ) → ℕ → Request → FoundRows → Reply → Plan
 written day arrivals r f a = record {
   reply = a;
   answer = answer_of (arrivals + 1) (record { request = r; reply = a });
@@ -187,7 +187,7 @@ written day arrivals r f a = record {
 }
 
 -- what a numbered request whose number is new comes to, where so many were answered
-abbrev pub planned : (ℕ → ℕ) → ℕ → ℕ → Request → Found → Plan
+abbrev pub planned : (ℕ → ℕ) → ℕ → ℕ → Request → FoundRows → Plan
 planned day default arrivals r f = written day arrivals r f (decided default r f)
 
 -- Rows that no legal history has.
@@ -211,7 +211,7 @@ is_day_over None = true
 is_day_over (Some u) = nat_le u.day 376200 && nat_le (u.reserved + u.settled) 1000000
 
 -- the rows that were found may be those of a legal history
-abbrev pub may_be_found : ℕ → Request → Found → Bool
+abbrev pub may_be_found : ℕ → Request → FoundRows → Bool
 may_be_found default (Reserve id txn moment login count) f =
     fits_if_open moment login (cap_by default f.governing) f.transaction f.usage
 may_be_found default (Settle id txn moment login count) f = fits_if_open moment login 0 f.transaction f.usage

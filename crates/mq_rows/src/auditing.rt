@@ -4,7 +4,8 @@ ghost use Rattle.std.specs.BTreeMap.{get, keys};
 ghost use Rattle.mq_ledger.specs.Day.{day_of};
 ghost use Rattle.mq_ledger.specs.declared.zone.Zone.{Zone as AnyZone};
 ghost use Rattle.mq_rows.specs.Audit.{Figures, is_right, IsAudited};
-ghost use Rattle.mq_rows.specs.Books.{AreBooksOf, day_or, less_wrong, least_wrong, no_rows, with_limit, with_transaction, with_usage};
+ghost use Rattle.mq_rows.specs.Books.{AreBooksOf, day_or, less_wrong, least_wrong, no_rows};
+ghost use Rattle.mq_rows.specs.Books.{with_limit, with_transaction, with_usage};
 ghost use Rattle.mq_rows.specs.Inside.{are_right};
 ghost use Rattle.mq_rows.specs.Pair.{pair_cmp};
 
@@ -14,8 +15,8 @@ use mq_ledger::Zone;
 use std::alloc::{AllocError, Global};
 use std::collections::BTreeMap;
 
-/// What an audit keeps of the rows of `usage`, `trans` and `ceiling`, which it is given one by one, each table's in any
-/// order: a few numbers by pair of a login and day, and no row.
+/// What an audit keeps of the rows of `usage`, `trans` and `ceiling`, which it is given one by one,
+/// each table's in any order: a few numbers by pair of a login and day, and no row.
 #[derive(Drop)]
 pub struct Books {
     zone: Zone,
@@ -69,9 +70,11 @@ impl Books {
 
     /// One row of `usage` more.
     pub fn add_usage(&mut self, row: UsageFigures) -> Result<(), AllocError>
-        ensures ok { OnOk result ((zone : AnyZone) (default : ℕ) (f : Figures) → AreBooksOf zone default f self.old
+        ensures ok { OnOk result ((zone : AnyZone) (default : ℕ) (f : Figures)
+            → AreBooksOf zone default f self.old
             → AreBooksOf zone default (with_usage f row) self.new) }
-        ensures err { OnErr result ((zone : AnyZone) (default : ℕ) (f : Figures) → AreBooksOf zone default f self.old
+        ensures err { OnErr result ((zone : AnyZone) (default : ℕ) (f : Figures)
+            → AreBooksOf zone default f self.old
             → AreBooksOf zone default f self.new) }
     {
         let rows = self.usage_rows.checked_add(1).ok_or(AllocError)?;
@@ -91,9 +94,11 @@ impl Books {
 
     /// One row of `trans` more.
     pub fn add_transaction(&mut self, row: TransactionFigures) -> Result<(), AllocError>
-        ensures ok { OnOk result ((zone : AnyZone) (default : ℕ) (f : Figures) → AreBooksOf zone default f self.old
+        ensures ok { OnOk result ((zone : AnyZone) (default : ℕ) (f : Figures)
+            → AreBooksOf zone default f self.old
             → AreBooksOf zone default (with_transaction f row) self.new) }
-        ensures err { OnErr result ((zone : AnyZone) (default : ℕ) (f : Figures) → AreBooksOf zone default f self.old
+        ensures err { OnErr result ((zone : AnyZone) (default : ℕ) (f : Figures)
+            → AreBooksOf zone default f self.old
             → AreBooksOf zone default f self.new) }
     {
         let rows = self.transaction_rows.checked_add(1).ok_or(AllocError)?;
@@ -110,9 +115,11 @@ impl Books {
 
     /// One row of `ceiling` more.
     pub fn add_limit(&mut self, row: LimitFigures) -> Result<(), AllocError>
-        ensures ok { OnOk result ((zone : AnyZone) (default : ℕ) (f : Figures) → AreBooksOf zone default f self.old
+        ensures ok { OnOk result ((zone : AnyZone) (default : ℕ) (f : Figures)
+            → AreBooksOf zone default f self.old
             → AreBooksOf zone default (with_limit f row) self.new) }
-        ensures err { OnErr result ((zone : AnyZone) (default : ℕ) (f : Figures) → AreBooksOf zone default f self.old
+        ensures err { OnErr result ((zone : AnyZone) (default : ℕ) (f : Figures)
+            → AreBooksOf zone default f self.old
             → AreBooksOf zone default f self.new) }
     {
         let first = self.caps.get(&row.pair).copied().unwrap_or(row.cap);
@@ -136,7 +143,8 @@ impl Books {
         pair: &Pair,
         day: Day,
     ) -> Result<Option<Pair>, AllocError>
-        ensures { IfOk result (λ next. (zone : AnyZone) (default : ℕ) (f : Figures) → AreBooksOf zone default f self.now
+        ensures { IfOk result (λ next. (zone : AnyZone) (default : ℕ) (f : Figures)
+            → AreBooksOf zone default f self.now
             → day ≡ day_or (get pair_cmp self.now.days pair.now)
             → next ≡ less_wrong (is_right (day_of zone) default f) least pair.now) }
     {
@@ -151,7 +159,8 @@ impl Books {
 
     /// Of the pairs that aren't right the least.
     fn least_wrong(&self) -> Result<Option<Pair>, AllocError>
-        ensures { IfOk result (λ least. (zone : AnyZone) (default : ℕ) (f : Figures) → AreBooksOf zone default f self.now
+        ensures { IfOk result (λ least. (zone : AnyZone) (default : ℕ) (f : Figures)
+            → AreBooksOf zone default f self.now
             → least ≡ least_wrong (is_right (day_of zone) default f) None (keys self.now.days)) }
     {
         let mut least = None;
@@ -161,9 +170,11 @@ impl Books {
         Ok(least)
     }
 
-    /// Whether each pair of a login and day is right, by all rows that were given; else the least that isn't.
+    /// Whether each pair of a login and day is right, by all rows that were given; else the least
+    /// that isn't.
     pub fn audit(&self) -> Result<Audit, AllocError>
-        ensures { IfOk result (λ audit. (zone : AnyZone) (default : ℕ) (f : Figures) → AreBooksOf zone default f self.now
+        ensures { IfOk result (λ audit. (zone : AnyZone) (default : ℕ) (f : Figures)
+            → AreBooksOf zone default f self.now
             → IsAudited (day_of zone) default f audit) }
     {
         match self.least_wrong()? {

@@ -50,7 +50,8 @@ impl Sums {
         are_dated: true,
     };
 
-    /// The sums with one more transaction; none where they don't fit, which takes 2^64 transactions.
+    /// The sums with one more transaction; none where they don't fit, which takes 2^64
+    /// transactions.
     pub(crate) fn with(self, zone: Zone, row: &TransactionFigures) -> Option<Sums>
         ensures { IfSome result (λ sums. sums ≡ with_row (day_of zone) row.now self) }
     {
@@ -82,7 +83,8 @@ pub(crate) fn cap_of(caps: &BTreeMap<Pair, i64>, default: u32, pair: &Pair) -> i
     ensures { (limits : List AnyLimitFigures) → HasCaps limits caps.now
         → result ≡ cap_or default (governing pair.now limits) }
 {
-    // (pairs go by login and then by day, so the last one up to it is the login's latest, or another login's)
+    // (pairs go by login and then by day, so the last one up to it is the login's latest, or
+    // another login's)
     let Some((from, cap)) = caps.range(..=pair).next_back() else {
         return i64::from(default);
     };

@@ -15,7 +15,7 @@ pub enum Write<R> {
 
 /// What the tables have about a numbered request. What its kind doesn't need is `None`.
 #[derive(Drop)]
-pub struct Found {
+pub struct FoundRows {
     /// For a reserve, settle or release: the row of its transaction.
     pub transaction: Option<TransactionRecord>,
     /// For a reserve, settle or release: the row of its login and of the ledger day of its moment.
@@ -50,8 +50,8 @@ pub struct Plan {
     pub answer: AnswerRecord,
     /// The count of answers in the row of settings.
     pub arrivals: u64,
-    /// For a retire: what the open transactions of these runs hold is settled, and the replies of these runs are
-    /// cleared, before the rest is written.
+    /// For a retire: what the open transactions of these runs hold is settled, and the replies of
+    /// these runs are cleared, before the rest is written.
     pub given_up: Option<Runs>,
     pub transaction: Write<TransactionRecord>,
     pub usage: Write<UsageRecord>,

@@ -1,11 +1,13 @@
-//! The rows of the ledger's tables, a type for each table. Fields stand in the order of the columns.
+//! The rows of the ledger's tables, a type for each table. Fields stand in the order of the
+//! columns.
 use mq_request::{Bytes, Host, Id, Login};
 
 /// The one row of `setting`, and with it that of `rule`: what the ledger goes by, and how many
 /// requests it has answered.
 #[derive(Drop)]
 pub struct SettingRecord {
-    /// The version of the tables: [`VERSION`](crate::VERSION), or `older_version` of the ledger's zone.
+    /// The version of the tables: [`VERSION`](crate::VERSION), or `older_version` of the ledger's
+    /// zone.
     pub version: u32,
     /// The minutes of the ledger's zone east of UTC, -1,439 to 1,439; 0 with a rule.
     pub minutes: i32,
@@ -13,7 +15,8 @@ pub struct SettingRecord {
     pub cap: u32,
     /// The numbered requests that were answered: the rows of `answer`.
     pub arrivals: u64,
-    /// The text of the zone's rule, where there is one: the row of `rule`, a table of versions 2 and 3.
+    /// The text of the zone's rule, where there is one: the row of `rule`, a table of versions 2
+    /// and 3.
     pub rule: Option<Bytes>,
 }
 
@@ -44,7 +47,8 @@ pub struct TransactionRecord {
     pub day: u32,
     /// The recipients that it holds, 0 once it is closed.
     pub held: u32,
-    /// The recipients that it was settled with, 0 where it wasn't; what it held where a retire closed it.
+    /// The recipients that it was settled with, 0 where it wasn't; what it held where a retire
+    /// closed it.
     pub settled: u32,
     /// Whether it was settled or released, or its run is retired.
     pub closed: bool,

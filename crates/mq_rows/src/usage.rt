@@ -37,10 +37,12 @@ pub fn usage_reply(
 ) -> Result<Reply, LedgerFault>
     requires login { IsLogin login.now }
     requires day { IsDay day }
-    ensures reply { IfOk result (λ a. a ≡ usage_reply_by default login.now day usage.now governing.now) }
+    ensures reply { IfOk result (λ a. a ≡ usage_reply_by default login.now day usage.now
+        governing.now) }
     ensures in_range { IfOk result IsReply }
     ensures store { IfErr result (λ fault. fault ≡ LedgerFault.Store
-        → are_amounts (settled_by usage.now) (reserved_by usage.now) (cap_by default governing.now) ≡ false) }
+        → are_amounts (settled_by usage.now) (reserved_by usage.now) (cap_by default governing.now)
+        ≡ false) }
 {
     let (settled, reserved) = match usage {
         None => (0, 0),

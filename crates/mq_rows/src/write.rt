@@ -1,6 +1,6 @@
 //! What a numbered request whose number is new comes to: its reply, and what is written with it.
 ghost use Rattle.std.specs.Prelude.{◌≡◌, ◌+◌, ◌<◌, ◌≤◌, ◌^◌, true, false, Some, IfOk, IfErr};
-ghost use Rattle.mq_rows.specs.declared.plan.Found.{Found as AnyFound};
+ghost use Rattle.mq_rows.specs.declared.plan.FoundRows.{FoundRows as AnyFoundRows};
 ghost use Rattle.mq_request.specs.Range.{IsRequest, IsReply};
 ghost use Rattle.mq_frame.specs.Spelling.{request_body, reply_body};
 ghost use Rattle.mq_ledger.specs.Arrivals.{id_of};
@@ -9,10 +9,11 @@ ghost use Rattle.mq_rows.specs.Rows.{answer_of};
 ghost use Rattle.mq_rows.specs.Plan.{moves, moved, fresh, transaction_write};
 ghost use Rattle.mq_rows.specs.Plan.{reserved_more, freed, usage_write, limit_write};
 ghost use Rattle.mq_rows.specs.Plan.{floor_by, given_up_by, retired_write};
-ghost use Rattle.mq_rows.specs.Plan.{held_by, reserved_by, used_by, fits, written, planned, may_be_found};
+ghost use Rattle.mq_rows.specs.Plan.{held_by, reserved_by, used_by, fits, written, planned};
+ghost use Rattle.mq_rows.specs.Plan.{may_be_found};
 ghost use Rattle.mq_rows.specs.Storable.{AreStorableIf, IsStorableFloor, IsStorablePlan};
 
-use crate::plan::{Found, Plan, Runs, Write};
+use crate::plan::{FoundRows, Plan, Runs, Write};
 use crate::record::{AnswerRecord, LimitRecord, RetiredRecord, TransactionRecord, UsageRecord};
 use mq_frame::format::HEAD_BYTES;
 use mq_frame::{encode_reply, encode_request};
@@ -85,7 +86,8 @@ fn transaction_write(
 ) -> Result<Write<TransactionRecord>, AllocError>
     requires in_range { IsRequest request.now }
     requires room { moves reply.now ≡ true → held_by row ≤ 1000000 }
-    ensures { IfOk result (λ write. write ≡ transaction_write (day_of zone) request.now reply.now row) }
+    ensures { IfOk result (λ write. write ≡ transaction_write
+        (day_of zone) request.now reply.now row) }
 {
     let (id, txn, moment, login, count) = match request {
         Request::Reserve {
@@ -172,7 +174,8 @@ fn usage_write(
     requires in_range { IsRequest request.now }
     requires used { moves reply.now ≡ true → used_by row ≤ 1000000 }
     requires held { moves reply.now ≡ true → held ≤ reserved_by row }
-    ensures { IfOk result (λ write. write ≡ usage_write (day_of zone) request.now reply.now held row) }
+    ensures { IfOk result (λ write. write ≡ usage_write
+        (day_of zone) request.now reply.now held row) }
 {
     match (request, reply) {
         (
@@ -232,7 +235,8 @@ fn floor(row: &Option<RetiredRecord>) -> u64
 /// The runs that a retire retires: those of its host from the floor before on, below its own.
 fn given_up(request: &Request, row: &Option<RetiredRecord>) -> Result<Option<Runs>, AllocError>
     requires in_range { IsRequest request.now }
-    ensures { (f : AnyFound) → f.floor ≡ row.now → IfOk result (λ runs. runs ≡ given_up_by request.now f) }
+    ensures { (f : AnyFoundRows) → f.floor ≡ row.now → IfOk result
+        (λ runs. runs ≡ given_up_by request.now f) }
 {
     match request {
         Request::Retire { id } => Ok(Some(Runs {
@@ -295,7 +299,10 @@ fn answer_row(
     requires request { IsRequest request.now }
     requires reply { IsReply reply.now }
     requires number { id_of request.now ≡ Some id.now }
-    ensures { IfOk result (λ row. row ≡ answer_of n (record { request = request.now; reply = reply.now })) }
+    ensures { IfOk result (λ row. row ≡ answer_of n (record {
+      request = request.now;
+      reply = reply.now;
+    })) }
 {
     Ok(AnswerRecord {
         n,
@@ -305,13 +312,13 @@ fn answer_row(
     })
 }
 
-/// What becomes of the rows that were found: of the transaction's, of the login's of the day, and of
-/// its limit. They are taken out of what was found.
+/// What becomes of the rows that were found: of the transaction's, of the login's of the day, and
+/// of its limit. They are taken out of what was found.
 fn writes(
     zone: Zone,
     request: &Request,
     reply: &Reply,
-    found: &mut Found,
+    found: &mut FoundRows,
 ) -> Result<
     (
         Write<TransactionRecord>,
@@ -325,8 +332,10 @@ fn writes(
     ensures transaction { IfOk result (λ writes. writes.0
         ≡ transaction_write (day_of zone) request.now reply.now found.old.transaction) }
     ensures usage { IfOk result (λ writes. writes.1
-        ≡ usage_write (day_of zone) request.now reply.now (held_by found.old.transaction) found.old.usage) }
-    ensures limit { IfOk result (λ writes. writes.2 ≡ limit_write request.now reply.now found.old.limit) }
+        ≡ usage_write (day_of zone) request.now reply.now
+        (held_by found.old.transaction) found.old.usage) }
+    ensures limit { IfOk result (λ writes. writes.2 ≡ limit_write request.now reply.now
+        found.old.limit) }
 {
     let held = found.held();
     let limit = limit_write(request, reply, found.limit.take())?;
@@ -343,7 +352,7 @@ fn changes(
     id: &Id,
     request: &Request,
     reply: &Reply,
-    found: &mut Found,
+    found: &mut FoundRows,
 ) -> Result<
     (
         AnswerRecord,
@@ -364,7 +373,8 @@ fn changes(
     ensures transaction { IfOk result (λ changes. changes.1.0
         ≡ transaction_write (day_of zone) request.now reply.now found.old.transaction) }
     ensures usage { IfOk result (λ changes. changes.1.1
-        ≡ usage_write (day_of zone) request.now reply.now (held_by found.old.transaction) found.old.usage) }
+        ≡ usage_write (day_of zone) request.now reply.now
+        (held_by found.old.transaction) found.old.usage) }
     ensures limit { IfOk result (λ changes. changes.1.2
         ≡ limit_write request.now reply.now found.old.limit) }
 {
@@ -380,14 +390,15 @@ fn plan(
     id: &Id,
     request: &Request,
     reply: Reply,
-    found: &mut Found,
+    found: &mut FoundRows,
 ) -> Result<Plan, AllocError>
     requires in_range { IsRequest request.now }
     requires reply { IsReply reply }
     requires number { id_of request.now ≡ Some id.now }
     requires room { arrivals < 4611686018427387904 }
     requires fits { moves reply ≡ true → fits found.old.transaction found.old.usage ≡ true }
-    ensures { IfOk result (λ plan. plan ≡ written (day_of zone) arrivals request.now found.old reply) }
+    ensures { IfOk result (λ plan. plan ≡ written (day_of zone) arrivals request.now found.old
+        reply) }
 {
     let arrivals = arrivals + 1;
     let given_up = given_up(request, &found.floor)?;
@@ -407,7 +418,8 @@ fn plan(
     })
 }
 
-/// The plan for a request, by the rows that were found, which are lent: those that it keeps are taken out.
+/// The plan for a request, by the rows that were found, which are lent: those that it keeps are
+/// taken out.
 fn decide_by(
     alloc: Global,
     zone: Zone,
@@ -415,14 +427,16 @@ fn decide_by(
     arrivals: u64,
     id: &Id,
     request: &Request,
-    found: &mut Found,
+    found: &mut FoundRows,
 ) -> Result<Plan, LedgerFault>
     requires in_range { IsRequest request.now }
     requires number { id_of request.now ≡ Some id.now }
-    ensures plan { IfOk result (λ plan. plan ≡ planned (day_of zone) default arrivals request.now found.old) }
+    ensures plan { IfOk result (λ plan. plan ≡ planned (day_of zone) default arrivals request.now
+        found.old) }
     ensures in_range { IfOk result (λ plan. IsReply plan.reply) }
     ensures room { IfOk result (λ _. arrivals < 4611686018427387904) }
-    ensures storable { IfOk result (λ plan. AreStorableIf found.old.transaction → IsStorableFloor found.old.floor
+    ensures storable { IfOk result (λ plan. AreStorableIf found.old.transaction
+        → IsStorableFloor found.old.floor
         → IsStorablePlan plan) }
     ensures store { IfErr result (λ fault. fault ≡ LedgerFault.Store
         → arrivals < 4611686018427387904 → may_be_found default request.now found.old ≡ false) }
@@ -430,7 +444,7 @@ fn decide_by(
     if MOST_ANSWERS <= arrivals {
         return Err(LedgerFault::Store);
     }
-    let reply = found.reply(default, request)?;
+    let reply = found.outcome(default, request)?.to_reply(id)?;
     Ok(plan(alloc, zone, arrivals, id, request, reply, found)?)
 }
 
@@ -446,14 +460,16 @@ pub fn decide(
     arrivals: u64,
     id: &Id,
     request: &Request,
-    mut found: Found,
+    mut found: FoundRows,
 ) -> Result<Plan, LedgerFault>
     requires in_range { IsRequest request.now }
     requires number { id_of request.now ≡ Some id.now }
-    ensures plan { IfOk result (λ plan. plan ≡ planned (day_of zone) default arrivals request.now found) }
+    ensures plan { IfOk result (λ plan. plan ≡ planned (day_of zone) default arrivals request.now
+        found) }
     ensures in_range { IfOk result (λ plan. IsReply plan.reply) }
     ensures room { IfOk result (λ _. arrivals < 4611686018427387904) }
-    ensures storable { IfOk result (λ plan. AreStorableIf found.transaction → IsStorableFloor found.floor
+    ensures storable { IfOk result (λ plan. AreStorableIf found.transaction
+        → IsStorableFloor found.floor
         → IsStorablePlan plan) }
     ensures store { IfErr result (λ fault. fault ≡ LedgerFault.Store
         → arrivals < 4611686018427387904 → may_be_found default request.now found ≡ false) }

@@ -1,20 +1,6 @@
 -- What a legal ledger answers to deliveries, one after another.
-use Rattle.std.proofs.Common.{◌≡◌, ℕ, List, [], ◌∷◌, ◌++◌, Bool, true, false, refl, sym, ap, ◌∙◌, append-nil, append_assoc}
-use Rattle.std.specs.Prelude.{fold, if◌then◌else◌}
-use Rattle.std.proofs.lemmas.List.{map-append}
-use Rattle.std.proofs.lemmas.List.Elements.{filter-append}
-use Rattle.std.proofs.lemmas.List.Sums.{fold-append}
-use Rattle.mq_request.specs.declared.message.Request.{Request}
-use Rattle.mq_request.specs.declared.message.Reply.{Reply}
-use Rattle.mq_request.specs.declared.message.Reply.TheVariants.{Retry}
-use Rattle.mq_ledger.specs.declared.entry.Entry.{Entry}
-use Rattle.mq_ledger.specs.Legal.{Book, IsLegalBook}
-use Rattle.mq_ledger.specs.History.{requests}
-use Rattle.mq_ledger.specs.Answer.{build, reply, history_of, appended, answer, replies_after}
-use Rattle.mq_ledger.specs.Arrivals.{first}
-use Rattle.mq_ledger.specs.Day.{day_of}
-use Rattle.mq_ledger.proofs.Numbers.{requests_steps}
-use Rattle.mq_server.specs.Delivery.{Delivery, asked, arrivals, history_after, answer_to, answers_after, answers, taken_answers_after, taken_answers}
+use Rattle.std.proofs.Common.{Bool, List, [], ap, append-nil, append_assoc, false, fold, if◌then◌else◌, refl, sym, true, ℕ, ◌++◌, ◌∙◌, ◌∷◌, ◌≡◌}
+use Rattle.mq_server.proofs.Words.{Book, Delivery, Entry, IsLegalBook, Reply, Request, Retry, answer, answer_to, answers, answers_after, arrivals, asked, build, day_of, filter-append, first, fold-append, history_after, history_of, map-append, replies_after, reply, requests, requests_steps, taken_answers, taken_answers_after}
 
 abbrev pub taken : Request → Delivery
 taken r = record { request = r; taken = true }
@@ -26,17 +12,7 @@ lost r = record { request = r; taken = false }
 pub history_none : (b : Book) → IsLegalBook b → history_after b [] ≡ b.history
 history_none b legal = ap (build (day_of b.zone) b.default) (ap first (append-nil (requests b.history)) ∙ legal.legal.distinct) ∙ sym legal.legal.built
 
--- the first delivery's answer is the reply over that history
-pub answer_first : (b : Book) (r : Request) (x : Reply) → IsLegalBook b → x ≡ reply (day_of b.zone) b.default b.history r → x ≡ answer_to b [] (taken r)
-answer_first b r x legal e = e ∙ ap (λ (H : List Entry). reply (day_of b.zone) b.default H r) (sym (history_none b legal))
-
-pub history_lost : (b : Book) (r : Request) (H : List Entry) → IsLegalBook b → H ≡ b.history → H ≡ history_after b (lost r ∷ [])
-history_lost b r H legal e = e ∙ sym (history_none b legal)
-
 -- ---- a ledger to which deliveries came, and then more
-
-requests_push : (day : ℕ → ℕ) (default : ℕ) (H : List Entry) (r : Request) → requests (appended day default H r) ≡ requests H ++ r ∷ []
-requests_push day default H r = map-append (λ (e : Entry). e.request) H (record { request = r; reply = answer day default H r } ∷ [])
 
 again : {A : Type 0} (f : List A → A → List A) (xs ys : List A) → fold f [] (fold f [] xs) ≡ fold f [] xs → fold f [] (fold f [] xs ++ ys) ≡ fold f [] (xs ++ ys)
 again f xs ys e = fold-append f [] (fold f [] xs) ys ∙ ap (λ q. fold f q ys) e ∙ sym (fold-append f [] xs ys)
@@ -80,18 +56,40 @@ answer_more b k came more d f =
     ap (λ (x : Book). answer_to x more d) (same_rules b k came f)
     ∙ ap (λ (H : List Entry). (if d.taken then reply (day_of b.zone) b.default H d.request else Retry)) (history_with b k came more f)
 
--- ---- answers in order
+-- answers that look back over earlier deliveries too
+abbrev pub behind : {A : Type 0} → (List Delivery → Delivery → A) → List Delivery → List Delivery → Delivery → A
+behind f seen ds d = f (seen ++ ds) d
 
-answers_after_push : (answer : List Delivery → Delivery → Reply) (earlier ds : List Delivery) (d : Delivery)
-    → answers_after answer earlier (ds ++ d ∷ []) ≡ answers_after answer earlier ds ++ answer (earlier ++ ds) d ∷ []
-answers_after_push answer earlier [] d = ap (λ (q : List Delivery). answer q d ∷ []) (sym (append-nil earlier))
-answers_after_push answer earlier (x ∷ ds) d =
-    ap (λ (q : List Reply). answer earlier x ∷ q) (answers_after_push answer (earlier ++ x ∷ []) ds d
-    ∙ ap (λ (q : List Delivery). answers_after answer (earlier ++ x ∷ []) ds ++ answer q d ∷ []) (append_assoc earlier (x ∷ []) ds))
+pub same_answers : (b k : Book) (seen : List Delivery) → Follows b k seen → answer_to k ≡ behind (answer_to b) seen
+same_answers b k seen f = λ i ds d. answer_more b k seen ds d f i
 
--- one answer more
-pub answers_push : (answer : List Delivery → Delivery → Reply) (ds : List Delivery) (d : Delivery) → answers answer (ds ++ d ∷ []) ≡ answers answer ds ++ answer ds d ∷ []
-answers_push answer ds d = answers_after_push answer [] ds d
+-- ---- what each delivery comes to by those before it, as its answer or its call
+
+abbrev pub each_after : {A : Type 0} → (List Delivery → Delivery → A) → List Delivery → List Delivery → List A
+each_after f earlier [] = []
+each_after f earlier (d ∷ ds) = f earlier d ∷ each_after f (earlier ++ d ∷ []) ds
+
+each_split : {A : Type 0} (f : List Delivery → Delivery → A) (earlier xs ys : List Delivery) → each_after f earlier (xs ++ ys) ≡ each_after f earlier xs ++ each_after f (earlier ++ xs) ys
+each_split f earlier [] ys = ap (λ (q : List Delivery). each_after f q ys) (sym (append-nil earlier))
+each_split {A} f earlier (x ∷ xs) ys =
+    ap (λ (q : List A). f earlier x ∷ q) (each_split f (earlier ++ x ∷ []) xs ys ∙ ap (λ (q : List Delivery). each_after f (earlier ++ x ∷ []) xs ++ each_after f q ys) (append_assoc earlier (x ∷ []) xs))
+
+each_behind : {A : Type 0} (f : List Delivery → Delivery → A) (seen earlier ds : List Delivery) → each_after f (seen ++ earlier) ds ≡ each_after (behind f seen) earlier ds
+each_behind f seen earlier [] = refl
+each_behind {A} f seen earlier (d ∷ ds) =
+    ap (λ (q : List A). f (seen ++ earlier) d ∷ q) (ap (λ (q : List Delivery). each_after f q ds) (append_assoc seen earlier (d ∷ [])) ∙ each_behind f seen (earlier ++ d ∷ []) ds)
+
+pub each_more : {A : Type 0} (f : List Delivery → Delivery → A) (seen came : List Delivery) → each_after f [] (seen ++ came) ≡ each_after f [] seen ++ each_after (behind f seen) [] came
+each_more {A} f seen came =
+    each_split f [] seen came ∙ ap (λ (q : List A). each_after f [] seen ++ q) (ap (λ (q : List Delivery). each_after f q came) (sym (append-nil seen)) ∙ each_behind f seen [] came)
+
+answers_each : (answer : List Delivery → Delivery → Reply) (earlier ds : List Delivery) → answers_after answer earlier ds ≡ each_after answer earlier ds
+answers_each answer earlier [] = refl
+answers_each answer earlier (d ∷ ds) = ap (λ (q : List Reply). answer earlier d ∷ q) (answers_each answer (earlier ++ d ∷ []) ds)
+
+pub answers_more : (answer : List Delivery → Delivery → Reply) (seen came : List Delivery) → answers answer (seen ++ came) ≡ answers answer seen ++ answers (behind answer seen) came
+answers_more answer seen came =
+    answers_each answer [] (seen ++ came) ∙ each_more answer seen came ∙ (λ i. sym (answers_each answer [] seen) i ++ sym (answers_each (behind answer seen) [] came) i)
 
 -- ---- the answers to arrivals
 

@@ -1,3 +1,4 @@
+pub mod Words
 pub mod Advance
 pub mod Cutting
 pub mod Deliveries

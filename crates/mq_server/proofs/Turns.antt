@@ -1,240 +1,176 @@
 -- One connection more is served.
-use Rattle.std.proofs.Common.{◌≡◌, ℕ, zero, suc, ◌<◌, List, [], ◌∷◌, ◌++◌, ◌+◌, length, length-drop, take, drop, map, get_or, set, refl, sym, ap, subst, ◌∙◌, append-nil, arith, Option, Result, Ok, Err}
-use Rattle.std.specs.List.{AllZip}
-use Rattle.std.specs.Prelude.{All}
-use Rattle.std.proofs.lemmas.List.{map-set, get_or-map, get_or-drop, drop-drop, drop-set-lt, length-map}
-use Rattle.std.proofs.lemmas.List.Elements.{All-get_or}
-use Rattle.mq_request.specs.declared.message.Reply.{Reply}
-use Rattle.mq_ledger.specs.declared.entry.Entry.{Entry}
-use Rattle.mq_ledger.specs.declared.ledger.Told.{Told}
-use Rattle.mq_ledger.specs.Legal.{Book}
-use Rattle.mq_ledger.specs.Told.{Tells}
-use Rattle.mq_ledger.proofs.Telling.{Tells-trans}
-use Rattle.mq_server.specs.declared.connection.Served.{Served}
-use Rattle.mq_server.specs.declared.connections.ConnectionEnd.{ConnectionEnd}
+use Rattle.std.proofs.Common.{Bool, Err, List, Ok, Option, Result, [], ap, append-nil, arith, drop, false, get_or, length, length-append, length-drop, map, refl, set, subst, suc, sym, take, true, zero, ℕ, ◌++◌, ◌+◌, ◌<◌, ◌∙◌, ◌∷◌, ◌≡◌, ◌≢◌, ◌≤◌}
+use Rattle.mq_server.proofs.Words.{All, All-get_or, AllZip, AreServed, AreStopped, Book, ConnectionEnd, Delivery, DevicesAgree, EndCause, IsFlushed, Read, Reply, ReportedCall, ServeFault, Serves, Store, Tells, Tells-trans, Wire, Write, all_zipped_more, answer_to, calls, calls_of, calls_until, drop-drop, drop-set-lt, get_or-drop, length-take-le, result_of, served, set-get_or, set_split, take_more_set, wires}
 use Rattle.mq_server.specs.declared.connections.ConnectionEnd.TheVariants as ends
-use Rattle.mq_server.specs.declared.fault.ServeFault.{ServeFault}
-use Rattle.mq_server.specs.declared.fault.ServeFault.TheVariants.{Read, Write, Memory, Store}
-use Rattle.mq_server.specs.Delivery.{Delivery, answer_to, history_after, calls}
-use Rattle.mq_server.specs.Connection.{Wire, Serves, calls_of}
-use Rattle.mq_server.specs.Connections.{wires, result_of, AreServed, AreStopped, calls_until}
-use Rattle.mq_server.proofs.Deliveries.{Follows, answer_more, history_more}
+use Rattle.mq_server.proofs.Deliveries.{Follows, behind, same_answers}
 use Rattle.mq_server.proofs.Telling.{calls_more}
 
-abbrev wire : Option (List ℕ) → Option (List ℕ) → Wire
-wire left holds = record { remaining = left; contents = holds }
+-- ---- the wires of sources and sinks
 
-length-wires : (lefts held : List (Option (List ℕ))) → length lefts ≡ length held → length (wires lefts held) ≡ length lefts
-length-wires [] held e = refl
-length-wires (left ∷ lefts) [] e = absurd (omega arith)
-length-wires (left ∷ lefts) (holds ∷ held) e = ap suc (length-wires lefts held (omega arith))
+module _ {S W : Type 0} (left : S → Option (List ℕ)) (held : W → Option (List ℕ)) where
+  abbrev wire : S → W → Wire
+  wire input output = record { remaining = left input; contents = held output }
 
-wires-set : (lefts held : List (Option (List ℕ))) (i : ℕ) (left holds : Option (List ℕ)) → length lefts ≡ length held → wires (set lefts i left) (set held i holds) ≡ set (wires lefts held) i (wire left holds)
-wires-set [] held i left holds e = refl
-wires-set (x ∷ lefts) [] i left holds e = absurd (omega arith)
-wires-set (x ∷ lefts) (y ∷ held) zero left holds e = refl
-wires-set (x ∷ lefts) (y ∷ held) (suc i) left holds e = ap (λ (q : List Wire). wire x y ∷ q) (wires-set lefts held i left holds (omega arith))
+  abbrev all_wires : List S → List W → List Wire
+  all_wires inputs outputs = wires (map left inputs) (map held outputs)
 
-wire_at : (lefts held : List (Option (List ℕ))) (i : ℕ) (left holds : Option (List ℕ)) → length lefts ≡ length held → i < length lefts → left ≡ get_or lefts i left → holds ≡ get_or held i holds
-    → wire left holds ≡ get_or (wires lefts held) i (wire left holds)
-wire_at [] held i left holds e h p q = absurd (omega arith)
-wire_at (x ∷ lefts) [] i left holds e h p q = absurd (omega arith)
-wire_at (x ∷ lefts) (y ∷ held) zero left holds e h p q = λ j. wire (p j) (q j)
-wire_at (x ∷ lefts) (y ∷ held) (suc i) left holds e h p q = wire_at lefts held i left holds (omega arith) (omega arith) p q
+  length_wires : (inputs : List S) (outputs : List W) → length inputs ≡ length outputs → length (all_wires inputs outputs) ≡ length inputs
+  length_wires [] outputs e = refl
+  length_wires (x ∷ inputs) [] e = absurd (omega arith)
+  length_wires (x ∷ inputs) (y ∷ outputs) e = ap suc (length_wires inputs outputs (omega arith))
 
--- ---- a list around one of its elements
+  set_wires : (inputs : List S) (outputs : List W) (i : ℕ) (input : S) (output : W) → length inputs ≡ length outputs → set (all_wires inputs outputs) i (wire input output) ≡ all_wires (set inputs i input) (set outputs i output)
+  set_wires [] outputs i input output e = refl
+  set_wires (x ∷ inputs) [] i input output e = absurd (omega arith)
+  set_wires (x ∷ inputs) (y ∷ outputs) zero input output e = refl
+  set_wires (x ∷ inputs) (y ∷ outputs) (suc i) input output e = ap (λ (q : List Wire). wire x y ∷ q) (set_wires inputs outputs i input output (omega arith))
 
-length_front : {X : Type 0} (xs : List X) (i : ℕ) → i < length xs → length (take i xs) ≡ i
-length_front [] i h = absurd (omega (arith, h))
-length_front (x ∷ xs) zero h = refl
-length_front (x ∷ xs) (suc i) h = ap suc (length_front xs i (omega (arith, h)))
+  wire_at : (inputs : List S) (outputs : List W) (i : ℕ) (input : S) (output : W) → length inputs ≡ length outputs → i < length inputs → input ≡ get_or inputs i input → output ≡ get_or outputs i output
+      → wire input output ≡ get_or (all_wires inputs outputs) i (wire input output)
+  wire_at (x ∷ inputs) (y ∷ outputs) zero input output e h p q = λ j. wire (p j) (q j)
+  wire_at (x ∷ inputs) (y ∷ outputs) (suc i) input output e h p q = wire_at inputs outputs i input output (omega arith) (omega arith) p q
+  wire_at inputs outputs i input output e h p q = absurd (omega (arith, e, h))
 
+-- a list around one of its elements
 split_at : {X : Type 0} (xs : List X) (i : ℕ) (x : X) → i < length xs → x ≡ get_or xs i x → xs ≡ take i xs ++ x ∷ drop (suc i) xs
-split_at [] i y h e = absurd (omega (arith, h))
-split_at (x ∷ xs) zero y h e = ap (λ z. z ∷ xs) (sym e)
-split_at (x ∷ xs) (suc i) y h e = ap (λ zs. x ∷ zs) (split_at xs i y (omega (arith, h)) e)
-
-split_set : {X : Type 0} (xs : List X) (i : ℕ) (x : X) → i < length xs → set xs i x ≡ take i xs ++ x ∷ drop (suc i) xs
-split_set [] i y h = absurd (omega (arith, h))
-split_set (x ∷ xs) zero y h = refl
-split_set (x ∷ xs) (suc i) y h = ap (λ zs. x ∷ zs) (split_set xs i y (omega (arith, h)))
+split_at xs i x here at = sym (ap (set xs i) at ∙ set-get_or xs i x) ∙ set_split xs i x here
 
 -- ---- the relation
 
-abbrev from : Book → List Delivery → List Delivery → Delivery → Reply
-from b seen ds d = answer_to b (seen ++ ds) d
+served_here : (b : Book) (earlier seen came : List Delivery) (new x w : Wire) (result : Result EndCause ServeFault) → seen ≡ earlier → w ≡ x → Serves (behind (answer_to b) seen) came w new result → Serves (behind (answer_to b) earlier) came x new result
+served_here b earlier seen came new x w result e f s = subst (λ (v : Wire). Serves (behind (answer_to b) earlier) came v new result) f (subst (λ (q : List Delivery). Serves (behind (answer_to b) q) came w new result) e s)
 
-served_here : (b : Book) (earlier seen came : List Delivery) (old new x w : Wire) (result : Result Served ServeFault) → seen ≡ earlier → w ≡ x → Serves (from b seen) came w new result → Serves (from b earlier) came x new result
-served_here b earlier seen came old new x w result e f s =
-    let P : List Delivery → Type 0 = λ q. Serves (from b q) came w new result in
-    let Q : Wire → Type 0 = λ v. Serves (from b earlier) came v new result in
-    subst Q f (subst P e s)
-
-served_push : (b : Book) (earlier seen came : List Delivery) (olds news : List Wire) (results : List (Result Served ServeFault)) (w new : Wire) (result : Result Served ServeFault)
-    → AreServed b earlier olds news results seen → length results < length news → w ≡ get_or news (length results) w → Serves (from b seen) came w new result
+served_push : (b : Book) (earlier seen came : List Delivery) (olds news : List Wire) (results : List (Result EndCause ServeFault)) (w new : Wire) (result : Result EndCause ServeFault)
+    → AreServed b earlier olds news results seen → length results < length news → w ≡ get_or news (length results) w → Serves (behind (answer_to b) seen) came w new result
     → AreServed b earlier olds (set news (length results) new) (results ++ result ∷ []) (seen ++ came)
 served_push b earlier seen came olds [] [] w new result (all, same) h at s = absurd (omega (arith, h))
 served_push b earlier seen came olds (x ∷ news) [] w new result (all, same) h at s =
-    let P : List Wire → Type 0 = λ q. AreServed b earlier q (new ∷ news) (result ∷ []) (seen ++ came) in
-    subst P same (came, served_here b earlier seen came x new x w result all at s, (ap (λ (q : List Delivery). q ++ came) all, refl))
-served_push b earlier seen came [] news (q ∷ results) w new result told h at s = absurd told
-served_push b earlier seen came (o ∷ olds) [] (q ∷ results) w new result told h at s = absurd told
+    subst (λ (q : List Wire). AreServed b earlier q (new ∷ news) (result ∷ []) (seen ++ came)) same (came, served_here b earlier seen came new x w result all at s, (ap (λ (q : List Delivery). q ++ came) all, refl))
 served_push b earlier seen came (o ∷ olds) (x ∷ news) (q ∷ results) w new result (first, served, told) h at s =
     (first, served, served_push b (earlier ++ first) seen came olds news results w new result told (omega arith) at s)
+served_push b earlier seen came olds news (q ∷ results) w new result told h at s = absurd told
 
--- what a connection did is the same, said of the ledger that the first one found
-serves_from : (b k : Book) (seen came : List Delivery) (old new : Wire) (result : Result Served ServeFault) → Follows b k seen → Serves (answer_to k) came old new result → Serves (from b seen) came old new result
-serves_from b k seen came old new result f s =
-    let P : (List Delivery → Delivery → Reply) → Type 0 = λ a. Serves a came old new result in
-    let same : answer_to k ≡ from b seen = λ i ds d. answer_more b k seen ds d f i in
-    subst P same s
+module _ {S W : Type 0} (left : S → Option (List ℕ)) (held : W → Option (List ℕ)) (b k : Book) (olds : List Wire) (inputs : List S) (outputs : List W) (i : ℕ) (input input' : S) (output output' : W) (seen : List Delivery)
+    (pairs : length inputs ≡ length outputs) (here : i < length inputs) (from_input : input ≡ get_or inputs i input) (from_output : output ≡ get_or outputs i output) (f : Follows b k seen) where
+  abbrev news : List Wire
+  news = all_wires left held inputs outputs
 
-module _ {S W : Type 0} (left : S → Option (List ℕ)) (held : W → Option (List ℕ)) where
-  pub turn : (b k : Book) (olds : List Wire) (inputs : List S) (outputs : List W) (i : ℕ) (input input' : S) (output output' : W) (results all : List (Result Served ServeFault)) (result : Result Served ServeFault) (seen : List Delivery) (history : List Entry)
-      → length inputs ≡ length outputs → i < length inputs → length results ≡ i → input ≡ get_or inputs i input → output ≡ get_or outputs i output
-      → AreServed b [] olds (wires (map left inputs) (map held outputs)) results seen → Follows b k seen
-      → (came : List Delivery) → Serves (answer_to k) came (wire (left input) (held output)) (wire (left input') (held output')) result → history ≡ history_after k came
-      → results ++ result ∷ [] ≡ all → AreServed b [] olds (wires (map left (set inputs i input')) (map held (set outputs i output'))) all (seen ++ came) × (history ≡ history_after b (seen ++ came))
-  turn b k olds inputs outputs i input input' output output' results all result seen history pairs here counted from_input from_output told f came served stored named =
-      let lefts = map left inputs in
-      let holds = map held outputs in
-      let same : length lefts ≡ length holds = omega (arith, length-map inputs left, length-map outputs held) in
-      let p : left input ≡ get_or lefts i (left input) = ap left from_input ∙ sym (get_or-map left inputs i input (left input) here) in
-      let q : held output ≡ get_or holds i (held output) = ap held from_output ∙ sym (get_or-map held outputs i output (held output) (omega arith)) in
-      let at : wire (left input) (held output) ≡ get_or (wires lefts holds) i (wire (left input) (held output)) = wire_at lefts holds i (left input) (held output) same (omega (arith, length-map inputs left)) p q in
-      let after : set (wires lefts holds) i (wire (left input') (held output')) ≡ wires (map left (set inputs i input')) (map held (set outputs i output')) =
-      sym (wires-set lefts holds i (left input') (held output') same) ∙ ap (λ (l : List (Option (List ℕ))). wires l (set holds i (held output'))) (sym (map-set left inputs i input')) ∙ ap (wires (map left (set inputs i input'))) (sym (map-set held outputs i output')) in
-      let P : ℕ → Type 0 = λ n. wire (left input) (held output) ≡ get_or (wires lefts holds) n (wire (left input) (held output)) in
-      let Q : ℕ → Type 0 = λ n. AreServed b [] olds (set (wires lefts holds) n (wire (left input') (held output'))) (results ++ result ∷ []) (seen ++ came) in
-      let R : List Wire → Type 0 = λ ws. AreServed b [] olds ws (results ++ result ∷ []) (seen ++ came) in
-      let N : List (Result Served ServeFault) → Type 0 = λ rs. AreServed b [] olds (wires (map left (set inputs i input')) (map held (set outputs i output'))) rs (seen ++ came) in
-      let one = served_push b [] seen came olds (wires lefts holds) results (wire (left input) (held output)) (wire (left input') (held output')) result told (omega (arith, length-wires lefts holds same, length-map inputs left)) (subst P (sym counted) at) (serves_from b k seen came _ _ result f served) in (
-        subst N named (subst R after (subst Q counted one)),
-        stored ∙ history_more b k seen came f,
-      )
+  abbrev old : Wire
+  old = wire left held input output
 
-  -- the store failed at a connection
-  pub stopped : (b k : Book) (olds : List Wire) (inputs : List S) (outputs : List W) (i : ℕ) (input input' : S) (output output' : W) (ends : List ConnectionEnd) (seen : List Delivery)
-      → length inputs ≡ length outputs → i < length inputs → length ends ≡ i → input ≡ get_or inputs i input → output ≡ get_or outputs i output
-      → AreServed b [] olds (wires (map left inputs) (map held outputs)) (map result_of ends) seen → Follows b k seen
-      → (came : List Delivery) (result : Result Served ServeFault) → result ≡ Err Store → (served : Serves (answer_to k) came (wire (left input) (held output)) (wire (left input') (held output')) result)
-      → (s : AreStopped b olds (wires (map left (set inputs i input')) (map held (set outputs i output'))) ends (seen ++ came)) × (calls_until s ≡ calls (answer_to b) seen ++ calls_of served)
-  stopped b k olds inputs outputs i input input' output output' ends seen pairs here counted from_input from_output others f came result failed served =
-      let lefts = map left inputs in
-      let holds = map held outputs in
-      let same : length lefts ≡ length holds = omega (arith, length-map inputs left, length-map outputs held) in
-      let p : left input ≡ get_or lefts i (left input) = ap left from_input ∙ sym (get_or-map left inputs i input (left input) here) in
-      let q : held output ≡ get_or holds i (held output) = ap held from_output ∙ sym (get_or-map held outputs i output (held output) (omega arith)) in
-      let old : Wire = wire (left input) (held output) in
-      let new : Wire = wire (left input') (held output') in
-      let at : old ≡ get_or (wires lefts holds) i old = wire_at lefts holds i (left input) (held output) same (omega (arith, length-map inputs left)) p q in
-      let after : set (wires lefts holds) i new ≡ wires (map left (set inputs i input')) (map held (set outputs i output')) =
-      sym (wires-set lefts holds i (left input') (held output') same) ∙ ap (λ (l : List (Option (List ℕ))). wires l (set holds i (held output'))) (sym (map-set left inputs i input')) ∙ ap (wires (map left (set inputs i input'))) (sym (map-set held outputs i output')) in
-      let there : i < length (wires lefts holds) = omega (arith, length-wires lefts holds same, length-map inputs left) in
-      let P : List Wire → Type 0 = λ ws. AreServed b [] olds ws (map result_of ends) seen in (
-        record {
-          before = seen;
-          came = came;
-          all = refl;
-          theirs = take i (wires lefts holds);
-          behind = drop (suc i) (wires lefts holds);
-          old = old;
-          new = new;
-          stands = length_front (wires lefts holds) i there ∙ sym counted;
-          others = subst P (split_at (wires lefts holds) i old there at) others;
-          left = sym after ∙ split_set (wires lefts holds) i new there;
-          found = k;
-          zone = f.zone;
-          default = f.default;
-          history = f.history;
-          result = result;
-          failed = failed;
-          last = served;
-        },
-        refl,
-      )
+  abbrev new : Wire
+  new = wire left held input' output'
+
+  at : old ≡ get_or news i old
+  at = wire_at left held inputs outputs i input output pairs here from_input from_output
+
+  within : i < length news
+  within = omega (arith, length_wires left held inputs outputs pairs, here)
+
+  after : set news i new ≡ all_wires left held (set inputs i input') (set outputs i output')
+  after = set_wires left held inputs outputs i input' output' pairs
+
+  -- what the connection did is the same, said of the ledger that the first one found
+  pub turn : (results all : List (Result EndCause ServeFault)) (result : Result EndCause ServeFault) (came : List Delivery) → length results ≡ i → AreServed b [] olds news results seen → Serves (answer_to k) came old new result
+      → results ++ result ∷ [] ≡ all → AreServed b [] olds (all_wires left held (set inputs i input') (set outputs i output')) all (seen ++ came)
+  turn results all result came counted told served named =
+      let one = served_push b [] seen came olds news results old new result told (omega (arith, within, counted)) (at ∙ ap (λ (n : ℕ). get_or news n old) (sym counted))
+      (subst (λ (a : List Delivery → Delivery → Reply). Serves a came old new result) (same_answers b k seen f) served) in
+      let path : set news (length results) new ≡ all_wires left held (set inputs i input') (set outputs i output') = ap (λ (n : ℕ). set news n new) counted ∙ after in
+      subst (λ (rs : List (Result EndCause ServeFault)). AreServed b [] olds (all_wires left held (set inputs i input') (set outputs i output')) rs (seen ++ came)) named
+      (subst (λ (ws : List Wire). AreServed b [] olds ws (results ++ result ∷ []) (seen ++ came)) path one)
+
+  -- the store failed at it
+  pub stopped : (ends : List ConnectionEnd) (came : List Delivery) (result : Result EndCause ServeFault) → length ends ≡ i → AreServed b [] olds news (map result_of ends) seen → result ≡ Err Store → (served : Serves (answer_to k) came old new result)
+      → (s : AreStopped b olds (all_wires left held (set inputs i input') (set outputs i output')) ends (seen ++ came)) × (calls_until s ≡ calls (answer_to b) seen ++ calls_of served)
+  stopped ends came result counted others failed served = (
+    record {
+      before = seen;
+      came = came;
+      all = refl;
+      theirs = take i news;
+      behind = drop (suc i) news;
+      old = old;
+      new = new;
+      stands = length-take-le i news (omega (arith, within)) ∙ sym counted;
+      others = subst (λ (ws : List Wire). AreServed b [] olds ws (map result_of ends) seen) (split_at news i old within at) others;
+      left = sym after ∙ set_split news i new within;
+      found = k;
+      zone = f.zone;
+      default = f.default;
+      history = f.history;
+      result = result;
+      failed = failed;
+      last = served;
+    },
+    refl,
+  )
 
 -- ---- what the ledger told
 
-same_answers : (b k : Book) (seen : List Delivery) → Follows b k seen → answer_to k ≡ from b seen
-same_answers b k seen f = λ i ds d. answer_more b k seen ds d f i
-
-calls_turn : (b k : Book) (seen came : List Delivery) → Follows b k seen → calls (answer_to b) seen ++ calls (answer_to k) came ≡ calls (answer_to b) (seen ++ came)
-calls_turn b k seen came f =
-    ap (λ (a : List Delivery → Delivery → Reply). calls (answer_to b) seen ++ calls a came) (same_answers b k seen f) ∙ sym (calls_more (answer_to b) seen came)
+not_store : (end : ConnectionEnd) → result_of end ≡ Err Store → ⊥
+not_store ends.Read is = cc
+not_store end is = cc
 
 -- the calls of a connection at which the store didn't fail are those of its deliveries
-calls_unfailed : {answer : List Delivery → Delivery → Reply} {came : List Delivery} {old new : Wire} (end : ConnectionEnd) (result : Result Served ServeFault) (s : Serves answer came old new result) → result_of end ≡ result → calls_of s ≡ calls answer came
+calls_unfailed : {answer : List Delivery → Delivery → Reply} {came : List Delivery} {old new : Wire} (end : ConnectionEnd) (result : Result EndCause ServeFault) (s : Serves answer came old new result) → result_of end ≡ result → calls_of s ≡ calls answer came
+calls_unfailed end (Err Store) s is = absurd (not_store end is)
 calls_unfailed {answer = answer} {came = came} end (Ok e) s is = append-nil (calls answer came)
-calls_unfailed {answer = answer} {came = came} end (Err Read) s is = append-nil (calls answer came)
-calls_unfailed {answer = answer} {came = came} end (Err Write) s is = append-nil (calls answer came)
-calls_unfailed {answer = answer} {came = came} end (Err Memory) s is = append-nil (calls answer came)
-calls_unfailed (ends.Served e) (Err Store) s is = cc
-calls_unfailed ends.Read (Err Store) s is = cc
-calls_unfailed ends.Write (Err Store) s is = cc
-calls_unfailed ends.Memory (Err Store) s is = cc
+calls_unfailed {answer = answer} {came = came} end (Err fault) s is = append-nil (calls answer came)
 
-pub told_turn : (b k : Book) (t u v : Option (List Told)) (seen came : List Delivery) {old new : Wire} (end : ConnectionEnd) (result : Result Served ServeFault) (s : Serves (answer_to k) came old new result)
+pub told_turn : (b k : Book) (t u v : Option (List ReportedCall)) (seen came : List Delivery) {old new : Wire} (end : ConnectionEnd) (result : Result EndCause ServeFault) (s : Serves (answer_to k) came old new result)
     → Follows b k seen → result_of end ≡ result → Tells t u (calls (answer_to b) seen) → Tells u v (calls_of s) → Tells t v (calls (answer_to b) (seen ++ came))
 told_turn b k t u v seen came end result s f is before tells =
-    let P : List Told → Type 0 = λ q. Tells u v q in
-    let Q : List Told → Type 0 = λ q. Tells t v q in
-    subst Q (calls_turn b k seen came f) (Tells-trans t u v _ _ before (subst P (calls_unfailed end result s is) tells))
+    let all : calls (answer_to b) seen ++ calls (answer_to k) came ≡ calls (answer_to b) (seen ++ came) =
+    ap (λ (a : List Delivery → Delivery → Reply). calls (answer_to b) seen ++ calls a came) (same_answers b k seen f) ∙ sym (calls_more (answer_to b) seen came) in
+    subst (Tells t v) all (Tells-trans t u v _ _ before (subst (Tells u v) (calls_unfailed end result s is) tells))
 
 -- ---- what holds of each end and its source or sink
 
-pub zip_push : {A B : Type 0} (P : A → B → Type 0) (xs : List A) (ys : List B) (x : A) (y : B) → AllZip P xs ys → P x y → AllZip P (xs ++ x ∷ []) (ys ++ y ∷ [])
-zip_push P [] [] x y all p = (p, tt)
-zip_push P [] (b ∷ ys) x y all p = absurd all
-zip_push P (a ∷ xs) [] x y all p = absurd all
-zip_push P (a ∷ xs) (b ∷ ys) x y all p = (all.0, zip_push P xs ys x y all.1 p)
+one_more : {X : Type 0} (P : Result EndCause ServeFault → X → Type 0) (results : List (Result EndCause ServeFault)) (xs : List X) (i : ℕ) (x : X) (r : Result EndCause ServeFault) → length results ≡ i → i < length xs → AllZip P results (take (length results) xs) → P r x
+    → AllZip P (results ++ r ∷ []) (take (length (results ++ r ∷ [])) (set xs i x))
+one_more P results xs i x r counted here all p =
+    let path : take (length (results ++ r ∷ [])) (set xs i x) ≡ take (length results) xs ++ x ∷ [] =
+    ap (λ n. take n (set xs i x)) (length-append results (r ∷ []) ∙ ap (λ n. n + 1) counted) ∙ take_more_set xs i x here ∙ ap (λ n. take n xs ++ x ∷ []) (sym counted) in
+    subst (AllZip P (results ++ r ∷ [])) (sym path) (all_zipped_more P results (take (length results) xs) r x all p)
 
 -- the same of how the connections ended
-pub zip_results : {A : Type 0} (P : ConnectionEnd → A → Type 0) (Q : Result Served ServeFault → A → Type 0) → ((e : ConnectionEnd) (a : A) → P e a → Q (result_of e) a)
-    → (es : List ConnectionEnd) (ys : List A) → AllZip P es ys → AllZip Q (map result_of es) ys
-zip_results P Q f [] [] all = tt
-zip_results P Q f [] (a ∷ ys) all = absurd all
-zip_results P Q f (e ∷ es) [] all = absurd all
-zip_results P Q f (e ∷ es) (a ∷ ys) all = (f e a all.0, zip_results P Q f es ys all.1)
-
-pub store_read : (e : Result Served ServeFault) → e ≡ Err Store → e ≡ Err Read → ⊥
-store_read (Ok e) is other = cc
-store_read (Err Read) is other = cc
-store_read (Err Write) is other = cc
-store_read (Err Memory) is other = cc
-store_read (Err Store) is other = cc
-
-pub store_write : (e : Result Served ServeFault) → e ≡ Err Store → e ≡ Err Write → ⊥
-store_write (Ok e) is other = cc
-store_write (Err Read) is other = cc
-store_write (Err Write) is other = cc
-store_write (Err Memory) is other = cc
-store_write (Err Store) is other = cc
-
--- ---- devices of connections that weren't served yet
-
-stays_at : {X : Type 0} (xs ys : List X) (i : ℕ) (d : X) → drop i xs ≡ drop i ys → get_or xs i d ≡ get_or ys i d
-stays_at xs ys i d e =
-    let here : i ≡ i + 0 = omega arith in
-    ap (λ n. get_or xs n d) here ∙ sym (get_or-drop i xs 0 d) ∙ ap (λ l. get_or l 0 d) e ∙ get_or-drop i ys 0 d ∙ ap (λ n. get_or ys n d) (sym here)
+pub each_end : {A : Type 0} {P : ConnectionEnd → A → Type 0} (Q : Result EndCause ServeFault → A → Type 0) → ((e : ConnectionEnd) (a : A) → Q (result_of e) a → P e a)
+    → (es : List ConnectionEnd) (xs : List A) → length xs ≤ length es → AllZip Q (map result_of es) (take (length (map result_of es)) xs) → AllZip P es xs
+each_end Q f [] [] few all = tt
+each_end Q f (e ∷ es) (a ∷ xs) few all = (f e a all.0, each_end Q f es xs (omega (arith, few)) all.1)
+each_end Q f [] (a ∷ xs) few all = absurd (omega (arith, few))
+each_end Q f (e ∷ es) [] few all = absurd all
 
 -- one that wasn't served yet has what all had
-pub still : {X : Type 0} (P : X → Type 0) (xs ys : List X) (i : ℕ) (d : X) → drop i xs ≡ drop i ys → i < length xs → All P ys → P (get_or xs i d)
-still P xs ys i d e here all =
+still : {X : Type 0} (P : X → Type 0) (xs ys : List X) (i : ℕ) (d : X) → drop i xs ≡ drop i ys → i < length xs → All P ys → P (get_or xs i d)
+still {X} P xs ys i d e here all =
     let there : i < length ys = omega (arith, here, ap length e, length-drop i xs, length-drop i ys) in
-    subst P (sym (stays_at xs ys i d e)) (All-get_or P ys i d there all)
+    let first : (l : List X) → get_or l i d ≡ get_or (drop i l) 0 d = λ l. ap (λ n. get_or l n d) (omega arith) ∙ sym (get_or-drop i l 0 d) in
+    subst P (sym (first xs ∙ ap (λ l. get_or l 0 d) e ∙ sym (first ys))) (All-get_or P ys i d there all)
 
 pub still_next : {X : Type 0} (xs ys : List X) (i : ℕ) (x : X) → drop i xs ≡ drop i ys → drop (i + 1) (set xs i x) ≡ drop (i + 1) ys
 still_next xs ys i x e = drop-set-lt (i + 1) xs i x (omega arith) ∙ sym (drop-drop 1 i xs) ∙ ap (drop 1) e ∙ drop-drop 1 i ys
 
+-- one more was served, and its devices are as its serving says
+pub agree_more : {I O : Type 0} (source_failed : I → Bool) (sink_failed : O → Bool) (has_flushed : O → Option Bool) (inputs began : List I) (outputs started : List O) (i : ℕ) (input input' : I) (output output' : O) (results all : List (Result EndCause ServeFault)) (r : Result EndCause ServeFault)
+    → length results ≡ i → i < length inputs → i < length outputs → drop i inputs ≡ drop i began → drop i outputs ≡ drop i started
+    → (r ≡ Err Read → source_failed input' ≡ true) → (r ≡ Err Write → sink_failed output' ≡ true) → (source_failed (get_or inputs i input) ≡ false → r ≢ Err Read → source_failed input' ≡ false)
+    → (sink_failed (get_or outputs i output) ≡ false → r ≢ Err Write → sink_failed output' ≡ false) → (IsFlushed (has_flushed (get_or outputs i output)) → r ≢ Err Write → IsFlushed (has_flushed output'))
+    → results ++ r ∷ [] ≡ all → DevicesAgree source_failed sink_failed has_flushed began inputs started outputs results → DevicesAgree source_failed sink_failed has_flushed began (set inputs i input') started (set outputs i output') all
+agree_more source_failed sink_failed has_flushed inputs began outputs started i input input' output output' results all r counted here there inputs_left outputs_left read write source_works sink_works flushed named d =
+    subst (DevicesAgree source_failed sink_failed has_flushed began (set inputs i input') started (set outputs i output')) named (record {
+      read = one_more _ results inputs i input' r counted here d.read read;
+      write = one_more _ results outputs i output' r counted there d.write write;
+      source_works = λ all. one_more _ results inputs i input' r counted here (d.source_works all) (source_works (still (λ x. source_failed x ≡ false) inputs began i input inputs_left here all));
+      sink_works = λ all. one_more _ results outputs i output' r counted there (d.sink_works all) (sink_works (still (λ x. sink_failed x ≡ false) outputs started i output outputs_left there all));
+      flushed = λ all. one_more _ results outputs i output' r counted there (d.flushed all) (flushed (still (λ x. IsFlushed (has_flushed x)) outputs started i output outputs_left there all));
+    })
+
 pub read_end : (end : ConnectionEnd) → result_of end ≡ Err Read → end ≡ ends.Read
-read_end (ends.Served e) is = cc
 read_end ends.Read is = refl
-read_end ends.Write is = cc
-read_end ends.Memory is = cc
+read_end end is = cc
 
 pub write_end : (end : ConnectionEnd) → result_of end ≡ Err Write → end ≡ ends.Write
-write_end (ends.Served e) is = cc
-write_end ends.Read is = cc
 write_end ends.Write is = refl
-write_end ends.Memory is = cc
+write_end end is = cc

@@ -4,9 +4,9 @@ use Rattle.std.specs.Prelude.{Option, Result, Ok, Err}
 use Rattle.std.specs.List.{AllZip}
 use Rattle.std.specs.Io.KnownBytes.{Appends}
 use Rattle.mq_stream.specs.Flow.{IsFlushed}
-use Rattle.mq_ledger.specs.declared.ledger.Told.{Told}
+use Rattle.mq_ledger.specs.declared.ledger.ReportedCall.{ReportedCall}
 use Rattle.mq_ledger.specs.Legal.{Book}
-use Rattle.mq_server.specs.declared.connection.Served.{Served}
+use Rattle.mq_server.specs.declared.connection.EndCause.{EndCause}
 use Rattle.mq_server.specs.declared.connections.ConnectionEnd.{ConnectionEnd}
 use Rattle.mq_server.specs.declared.connections.ConnectionEnd.TheVariants as ends
 use Rattle.mq_server.specs.declared.fault.ServeFault.{ServeFault}
@@ -22,7 +22,7 @@ wires (left ∷ lefts) [] = []
 wires (left ∷ lefts) (holds ∷ held) = record { remaining = left; contents = holds } ∷ wires lefts held
 
 -- how the serving of a connection ended
-abbrev pub result_of : ConnectionEnd → Result Served ServeFault
+abbrev pub result_of : ConnectionEnd → Result EndCause ServeFault
 result_of (ends.Served e) = Ok e
 result_of ends.Read = Err Read
 result_of ends.Write = Err Write
@@ -30,7 +30,7 @@ result_of ends.Memory = Err Memory
 
 -- Connections were served in turn, one for each result, and the wires after those stayed as they were. A ledger that
 -- meant this book, and to which the earlier deliveries had come, has then seen all of these.
-abbrev pub AreServed : Book → List Delivery → List Wire → List Wire → List (Result Served ServeFault)
+abbrev pub AreServed : Book → List Delivery → List Wire → List Wire → List (Result EndCause ServeFault)
     → List Delivery → Type 0
 AreServed b earlier olds news [] all = (all ≡ earlier) × (news ≡ olds)
 AreServed b earlier [] news (result ∷ results) all = ⊥
@@ -57,13 +57,13 @@ pub record AreStopped (b : Book) (olds news : List Wire) (ends : List Connection
   pub zone : found.zone ≡ b.zone
   pub default : found.default ≡ b.default
   pub history : found.history ≡ history_after b before
-  pub result : Result Served ServeFault
+  pub result : Result EndCause ServeFault
   pub failed : result ≡ Err Store
   pub last : Serves (answer_to found) came old new result
 
 -- the calls of `apply` that they all made, each with its answer
 abbrev pub calls_until : {b : Book} {olds news : List Wire} {ends : List ConnectionEnd} {seen : List Delivery}
-    → AreStopped b olds news ends seen → List Told
+    → AreStopped b olds news ends seen → List ReportedCall
 calls_until {b = b} s = calls (answer_to b) s.before ++ calls_of s.last
 
 -- How the devices of connections that ended so stand, by whether a call of them has failed and whether what was written
@@ -71,7 +71,7 @@ calls_until {b = b} s = calls (answer_to b) s.before ++ calls_of s.last
 -- nowhere else; so the sinks by a failed write, and what was written is handed on at each other end.
 pub record DevicesAgree {I O : Type 0} (source_failed : I → Bool) (sink_failed : O → Bool)
     (has_flushed : O → Option Bool) (inputs inputs' : List I) (outputs outputs' : List O)
-    (ends : List (Result Served ServeFault)) : Type 0 where
+    (ends : List (Result EndCause ServeFault)) : Type 0 where
   pub read : AllZip (λ end input. end ≡ Err Read → source_failed input ≡ true) ends (take (length ends) inputs')
   pub write : AllZip (λ end output. end ≡ Err Write → sink_failed output ≡ true) ends (take (length ends) outputs')
   pub source_works : All (λ input. source_failed input ≡ false) inputs →
@@ -83,7 +83,7 @@ pub record DevicesAgree {I O : Type 0} (source_failed : I → Bool) (sink_failed
 
 -- Each of these inputs was served whole, in turn: with this text, and so it ended. A ledger that meant this book, and
 -- to which the earlier deliveries had come, has then seen all of these.
-abbrev pub AreServedWhole : Book → List Delivery → List (List ℕ) → List (List ℕ) → List Served → List Delivery → Type 0
+abbrev pub AreServedWhole : Book → List Delivery → List (List ℕ) → List (List ℕ) → List EndCause → List Delivery → Type 0
 AreServedWhole b earlier [] [] [] all = all ≡ earlier
 AreServedWhole b earlier (input ∷ inputs) (text ∷ texts) (e ∷ ends) all =
     (came : List Delivery) × IsServed input came e × (text ≡ served (λ ds d. answer_to b (earlier ++ ds) d) came e)

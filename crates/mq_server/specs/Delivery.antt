@@ -5,7 +5,7 @@ use Rattle.mq_request.specs.declared.message.Reply.{Reply}
 use Rattle.mq_request.specs.declared.message.Reply.TheVariants.{Retry}
 use Rattle.mq_ledger.specs.declared.entry.Entry.{Entry}
 use Rattle.mq_ledger.specs.declared.ledger.LedgerFault.TheVariants.{Memory, Store}
-use Rattle.mq_ledger.specs.declared.ledger.Told.{Told}
+use Rattle.mq_ledger.specs.declared.ledger.ReportedCall.{ReportedCall}
 use Rattle.mq_ledger.specs.Answer.{reply, history_of}
 use Rattle.mq_ledger.specs.Day.{day_of}
 use Rattle.mq_ledger.specs.History.{requests}
@@ -58,18 +58,18 @@ abbrev pub taken_answers : (List Delivery → Delivery → Reply) → List Deliv
 taken_answers answer ds = taken_answers_after answer [] ds
 
 -- the call of `apply` that brought a delivery this answer: Retry where the ledger answered that it had no memory
-abbrev pub call : Delivery → Reply → Told
+abbrev pub call : Delivery → Reply → ReportedCall
 call d answer = record { request = d.request; answer = if d.taken then Ok answer else Err Memory }
 
 -- the call at which the ledger's store failed
-abbrev pub failed_call : Request → Told
+abbrev pub failed_call : Request → ReportedCall
 failed_call request = record { request = request; answer = Err Store }
 
 -- the calls of deliveries, each after the ones before it, all after earlier ones
-abbrev pub calls_after : (List Delivery → Delivery → Reply) → List Delivery → List Delivery → List Told
+abbrev pub calls_after : (List Delivery → Delivery → Reply) → List Delivery → List Delivery → List ReportedCall
 calls_after answer earlier [] = []
 calls_after answer earlier (d ∷ ds) = call d (answer earlier d) ∷ calls_after answer (earlier ++ d ∷ []) ds
 
 -- the same where none came earlier
-abbrev pub calls : (List Delivery → Delivery → Reply) → List Delivery → List Told
+abbrev pub calls : (List Delivery → Delivery → Reply) → List Delivery → List ReportedCall
 calls answer ds = calls_after answer [] ds

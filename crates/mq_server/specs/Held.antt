@@ -1,6 +1,6 @@
 -- What a connection holds between two calls.
 use Rattle.std.specs.Prelude.{ℕ, List, [], ◌++◌, Bool, false, Option, None, Result}
-use Rattle.mq_server.specs.declared.connection.Served.{Served}
+use Rattle.mq_server.specs.declared.connection.EndCause.{EndCause}
 use Rattle.mq_server.specs.declared.fault.ServeFault.{ServeFault}
 
 -- a connection: the bytes that came and weren't answered yet, how many frames were answered, the replies that weren't
@@ -11,7 +11,7 @@ pub record State : Type 0 where
   pub answered : ℕ
   pub replies : List ℕ
   pub is_closed : Bool
-  pub end : Option (Result Served ServeFault)
+  pub end : Option (Result EndCause ServeFault)
   pub room : ℕ
 
 -- one on which nothing came yet, with so much room

@@ -6,13 +6,13 @@ use Rattle.mq_request.specs.declared.message.Reply.{Reply}
 use Rattle.mq_frame.specs.Feed.{Whole}
 use Rattle.mq_frame.specs.Spelling.{SpellsRequest}
 use Rattle.mq_ledger.specs.declared.entry.Entry.{Entry}
-use Rattle.mq_ledger.specs.declared.ledger.Told.{Told}
+use Rattle.mq_ledger.specs.declared.ledger.ReportedCall.{ReportedCall}
 use Rattle.mq_ledger.specs.Legal.{Book}
 use Rattle.mq_ledger.specs.Told.{Tells}
 use Rattle.mq_server.specs.declared.connection.Progress.{Progress}
 use Rattle.mq_server.specs.declared.connection.Progress.TheVariants.{Answered, Ended}
-use Rattle.mq_server.specs.declared.connection.Served.{Served}
-use Rattle.mq_server.specs.declared.connection.Served.TheVariants.{InputEnd, Enough, BadFrame, CutFrame}
+use Rattle.mq_server.specs.declared.connection.EndCause.{EndCause}
+use Rattle.mq_server.specs.declared.connection.EndCause.TheVariants.{InputEnd, Enough, BadFrame, CutFrame}
 use Rattle.mq_server.specs.declared.connection.TheConstants.{ENOUGH}
 use Rattle.mq_server.specs.declared.fault.ServeFault.{ServeFault}
 use Rattle.mq_server.specs.declared.fault.ServeFault.TheVariants.{Read, Write, Memory, Store}
@@ -59,14 +59,14 @@ with_taken l taken =
     record { bytes = l.bytes; exchanges = l.exchanges; rest = l.rest; taken = l.taken ++ taken }
 
 -- an end that comes at the input's end
-abbrev pub NeedsClose : Served → Bool → Type 0
+abbrev pub NeedsClose : EndCause → Bool → Type 0
 NeedsClose InputEnd closed = closed ≡ true
 NeedsClose CutFrame closed = closed ≡ true
 NeedsClose BadFrame closed = Unit {0}
 NeedsClose Enough closed = Unit {0}
 
 -- all replies of a connection, by how it ended
-abbrev pub HasReplies : Life → List ℕ → State → Option (Result Served ServeFault) → Type 0
+abbrev pub HasReplies : Life → List ℕ → State → Option (Result EndCause ServeFault) → Type 0
 -- it goes on: those to all its requests
 HasReplies l text c None =
     (text ≡ frames_of (replies_of l.exchanges)) × (length l.exchanges ≡ c.answered) × (c.answered < ENOUGH)
@@ -105,13 +105,13 @@ pub record Counts (progress : Progress) (most count : ℕ) : Type 0 where
   pub all : progress ≡ Answered → count ≡ most
 
 -- the calls of `apply` that exchanges are
-abbrev pub told_of : List Exchange → List Told
+abbrev pub told_of : List Exchange → List ReportedCall
 told_of xs = map (λ x. call x.delivery x.answer) xs
 
 -- The calls that were made on a connection, of which some end had come before: one for each exchange and, only where its
 -- store failed, the one at which it did.
-pub record MakesCalls (was : Option (Result Served ServeFault)) (progress : Progress)
-    (before after : Option (List Told)) (xs : List Exchange) : Type 0 where
+pub record MakesCalls (was : Option (Result EndCause ServeFault)) (progress : Progress)
+    (before after : Option (List ReportedCall)) (xs : List Exchange) : Type 0 where
   pub failed : Option Request
   pub told : Tells before after (told_of xs ++ map failed_call (option_to_list failed))
   pub ends : IsSome failed → progress ≡ Ended (Err Store)

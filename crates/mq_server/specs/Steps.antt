@@ -7,11 +7,11 @@ use Rattle.mq_request.specs.declared.message.Reply.{Reply}
 use Rattle.mq_frame.specs.Spelling.{SpellsRequest}
 use Rattle.mq_frame.specs.Feed.{Front, Nothing}
 use Rattle.mq_ledger.specs.declared.entry.Entry.{Entry}
-use Rattle.mq_ledger.specs.declared.ledger.Told.{Told}
+use Rattle.mq_ledger.specs.declared.ledger.ReportedCall.{ReportedCall}
 use Rattle.mq_ledger.specs.Legal.{Book}
 use Rattle.mq_ledger.specs.Told.{Tells}
-use Rattle.mq_server.specs.declared.connection.Served.{Served}
-use Rattle.mq_server.specs.declared.connection.Served.TheVariants.{InputEnd, CutFrame}
+use Rattle.mq_server.specs.declared.connection.EndCause.{EndCause}
+use Rattle.mq_server.specs.declared.connection.EndCause.TheVariants.{InputEnd, CutFrame}
 use Rattle.mq_server.specs.declared.fault.ServeFault.{ServeFault}
 use Rattle.mq_server.specs.declared.fault.ServeFault.TheVariants.{Read, Write, Memory, Store}
 use Rattle.mq_server.specs.Delivery.{Delivery, answer_to, history_after, call, failed_call}
@@ -33,8 +33,8 @@ Refills old new piece left (Err Store) = ⊥
 -- A body was put to a ledger of that book, which then has this history and reports that more: its request came and has
 -- an answer; or it spells none; or there was no memory for what its request holds, and it wasn't put; or the store
 -- failed at it.
-abbrev pub AnswersBody : Book → Option (List Told) → List ℕ → Result (Option Reply) ServeFault
-    → List Entry → Option (List Told) → Type 0
+abbrev pub AnswersBody : Book → Option (List ReportedCall) → List ℕ → Result (Option Reply) ServeFault
+    → List Entry → Option (List ReportedCall) → Type 0
 AnswersBody b told body (Ok (Some answer)) history tells =
     (d : Delivery) × SpellsRequest body d.request × (answer ≡ answer_to b [] d) × (history ≡ history_after b (d ∷ []))
     × Tells told tells (call d answer ∷ [])
@@ -48,6 +48,6 @@ AnswersBody b told body (Err Read) history tells = ⊥
 AnswersBody b told body (Err Write) history tells = ⊥
 
 -- how a connection ends whose input does, by what stands after the frames that were answered
-abbrev pub end_at : Front → Served
+abbrev pub end_at : Front → EndCause
 end_at Nothing = InputEnd
 end_at _ = CutFrame

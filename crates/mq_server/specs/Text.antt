@@ -9,8 +9,8 @@ use Rattle.mq_request.specs.declared.message.Reply.TheVariants.{Bad}
 use Rattle.mq_frame.specs.Feed.{Front, Nothing, Cut, EmptyHead, LongHead, Whole, front, BeginsWith}
 use Rattle.mq_frame.specs.Owned.{RequestHoldsBytes}
 use Rattle.mq_frame.specs.Spelling.{SpellsRequest, frame, reply_body}
-use Rattle.mq_server.specs.declared.connection.Served.{Served}
-use Rattle.mq_server.specs.declared.connection.Served.TheVariants.{InputEnd, Enough, BadFrame, CutFrame}
+use Rattle.mq_server.specs.declared.connection.EndCause.{EndCause}
+use Rattle.mq_server.specs.declared.connection.EndCause.TheVariants.{InputEnd, Enough, BadFrame, CutFrame}
 use Rattle.mq_server.specs.declared.connection.TheConstants.{ENOUGH}
 use Rattle.mq_server.specs.Delivery.{Delivery, asked, answers}
 
@@ -63,7 +63,7 @@ IsBad (Whole body after) = SpellsNone body
 
 -- how a connection ends whose frames were answered so far: by their count, by what stands after them, and by
 -- what the input has left
-abbrev pub IsEnd : Served → ℕ → Front → Option (List ℕ) → Type 0
+abbrev pub IsEnd : EndCause → ℕ → Front → Option (List ℕ) → Type 0
 IsEnd InputEnd count behind left = (count < ENOUGH) × (behind ≡ Nothing) × IsAtEnd left
 IsEnd CutFrame count behind left = (count < ENOUGH) × (behind ≡ Cut) × IsAtEnd left
 IsEnd BadFrame count behind left = (count < ENOUGH) × IsBad behind
@@ -74,18 +74,18 @@ abbrev pub frames_of : List Reply → List ℕ
 frames_of replies = flat_map (λ r. frame (reply_body r)) replies
 
 -- the last reply of a connection that ends so: Bad, or none
-abbrev pub farewell : Served → List Reply
+abbrev pub farewell : EndCause → List Reply
 farewell BadFrame = Bad ∷ []
 farewell InputEnd = []
 farewell CutFrame = []
 farewell Enough = []
 
 -- what is written on a connection that ends so: the answers to its deliveries, and the farewell
-abbrev pub served : (List Delivery → Delivery → Reply) → List Delivery → Served → List ℕ
+abbrev pub served : (List Delivery → Delivery → Reply) → List Delivery → EndCause → List ℕ
 served answer came e = frames_of (answers answer came ++ farewell e)
 
 -- The deliveries are those of this whole input, and the connection ends so.
-pub record IsServed (input : List ℕ) (came : List Delivery) (e : Served) : Type 0 where
+pub record IsServed (input : List ℕ) (came : List Delivery) (e : EndCause) : Type 0 where
   pub rest : List ℕ
   pub asks : Asks input (asked came) rest
   pub ends : IsEnd e (length came) (next rest) (Some [])

@@ -1,5 +1,6 @@
 //! Putting a request to a ledger.
-ghost use Rattle.std.specs.Prelude.{◌≡◌, ◌⊎◌, ℕ, List, Err, IfOk, IfErr, IfSome, IsSome, MatchOption, MatchResult};
+ghost use Rattle.std.specs.Prelude.{◌≡◌, ◌⊎◌, ℕ, List, Err, IfOk, IfErr, IfSome, IsSome};
+ghost use Rattle.std.specs.Prelude.{MatchOption, MatchResult};
 ghost use Rattle.mq_request.specs.Range.{IsRequest, IsReply};
 ghost use Rattle.mq_frame.specs.Spelling.{SpellsRequest};
 ghost use Rattle.mq_ledger.specs.Leaving.{LeavesLedger};
@@ -15,8 +16,8 @@ use std::alloc::Global;
 /// The answer to a frame's body: the ledger's reply to the request that it spells, `Retry` where
 /// the ledger had no memory for it, and none where it spells no request.
 ///
-/// `Memory` where there was none for what the request holds, before it came to the ledger; `Store` where the ledger's
-/// store failed. After either the ledger means what it meant before.
+/// `Memory` where there was none for what the request holds, before it came to the ledger; `Store`
+/// where the ledger's store failed. After either the ledger means what it meant before.
 pub fn answer_body<L: Ledger>(
     alloc: Global,
     body: &[u8],
@@ -24,8 +25,10 @@ pub fn answer_body<L: Ledger>(
 ) -> Result<Option<Reply>, ServeFault>
     // Of any ledger, sound or not.
     ensures in_range { IfOk result (λ answer. IfSome answer IsReply) }
-    ensures faults { IfErr result (λ fault. (fault ≡ ServeFault.Memory) ⊎ (fault ≡ ServeFault.Store)) }
-    ensures asks { MatchResult result (λ answer. MatchOption answer (SpellsNone body.now) (λ _. SpellsOne body.now))
+    ensures faults { IfErr result (λ fault. (fault ≡ ServeFault.Memory)
+        ⊎ (fault ≡ ServeFault.Store)) }
+    ensures asks { MatchResult result (λ answer. MatchOption answer (SpellsNone body.now)
+        (λ _. SpellsOne body.now))
         (λ _. SpellsOne body.now) }
     // Memory is asked for only where the request holds bytes of its own.
     ensures full { result ≡ Err ServeFault.Memory → NeedsMemory body.now }
@@ -59,7 +62,8 @@ fn apply<L: Ledger>(request: &Request, ledger: &mut L) -> Result<Option<Reply>, 
 {
     match ledger.apply(request) {
         Ok(reply) => Ok(Some(reply)),
-        // The peer sends it again, and may find memory then; with a store that failed nothing more can be served.
+        // The peer sends it again, and may find memory then; with a store that failed nothing more
+        // can be served.
         Err(LedgerFault::Memory) => Ok(Some(Reply::Retry)),
         Err(LedgerFault::Store) => Err(ServeFault::Store),
     }

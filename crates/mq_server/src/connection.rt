@@ -1,9 +1,11 @@
-//! A connection without its socket: bytes come in as they come, whole frames are answered, and the replies wait until
-//! they are taken.
-ghost use Rattle.std.specs.Prelude.{◌≡◌, ◌<◌, ◌≤◌, ◌+◌, length, take, drop, true, false, None, Some, Err, List, OnOk, OnErr, ℕ};
+//! A connection without its socket: bytes come in as they come, whole frames are answered, and the
+//! replies wait until they are taken.
+ghost use Rattle.std.specs.Prelude.{◌≡◌, ◌<◌, ◌≤◌, ◌+◌, length, take, drop, true, false, None};
+ghost use Rattle.std.specs.Prelude.{Some, Err, List, OnOk, OnErr, ℕ};
 ghost use Rattle.mq_ledger.specs.Leaving.{LeavesLedger};
 ghost use Rattle.mq_server.specs.Held.{fresh, received, with_closed, with_replies, with_room};
-ghost use Rattle.mq_server.specs.Life.{AreAnswered, Counts, Exchange, Life, Lives, MakesCalls, StandsNext, unborn, with_bytes, with_exchanges, with_taken};
+ghost use Rattle.mq_server.specs.Life.{AreAnswered, Counts, Exchange, Life, Lives, MakesCalls};
+ghost use Rattle.mq_server.specs.Life.{StandsNext, unborn, with_bytes, with_exchanges, with_taken};
 ghost use Rattle.mq_server.specs.State.{Goes, Steps};
 ghost use Rattle.mq_server.specs.Text.{IsPartial, next};
 ghost use Rattle.mq_server.specs.declared.connection.Progress.TheVariants.{Ended};
@@ -15,9 +17,9 @@ use mq_ledger::Ledger;
 use std::alloc::{AllocError, Global};
 use std::marker::Model;
 
-/// How a connection ended.
+/// Why a connection ended well.
 #[derive(Clone, Copy, Debug, PartialEq, Eq)]
-pub enum Served {
+pub enum EndCause {
     /// The input ended after whole frames, or was empty.
     InputEnd,
     /// 10,000 frames were answered; nothing more is read.
@@ -39,20 +41,21 @@ pub enum Progress {
     /// No whole frame is there, and more may come.
     Waits,
     /// It has ended, and answers nothing more. Its last replies may wait still.
-    Ended(Result<Served, ServeFault>),
+    Ended(Result<EndCause, ServeFault>),
 }
 
 /// A connection of the quota server, without its socket.
 ///
-/// What came is given to `receive`, and `close` says that nothing more comes. `answer` answers whole frames through a
-/// ledger. The replies wait in `replies` until `take_replies` says how many bytes of them went out.
+/// What came is given to `receive`, and `close` says that nothing more comes. `answer` answers
+/// whole frames through a ledger. The replies wait in `replies` until `take_replies` says how many
+/// bytes of them went out.
 #[derive(Drop)]
 pub struct Connection {
     feed: FrameFeed,
     answered: u32,
     replies: Vec<u8>,
     is_closed: bool,
-    end: Option<Result<Served, ServeFault>>,
+    end: Option<Result<EndCause, ServeFault>>,
 }
 
 impl Model for Connection {
@@ -94,8 +97,8 @@ impl Connection {
     pub fn receive(&mut self, piece: &[u8]) -> Result<(), AllocError>
         ensures ok { OnOk result (self.new ≡ received self.old piece.now self.new.room) }
         ensures err { OnErr result (self.new ≡ with_room self.old self.new.room) }
-        // Memory is answered only where there is no room for what wasn't answered yet and the piece, and room never
-        // shrinks.
+        // Memory is answered only where there is no room for what wasn't answered yet and the
+        // piece, and room never shrinks.
         ensures full { OnErr result (self.old.room < length self.old.rest + length piece.now) }
         ensures room { self.old.room ≤ self.new.room }
         ensures lives { (l : Life) → Lives l self.old → self.old.end ≡ None →
@@ -124,7 +127,8 @@ impl Connection {
     pub fn take_replies(&mut self, count: usize)
         requires { count ≤ length self.old.replies }
         ensures taken { self.new ≡ with_replies self.old (drop count self.old.replies) }
-        ensures lives { (l : Life) → Lives l self.old → Lives (with_taken l (take count self.old.replies)) self.new }
+        ensures lives { (l : Life) → Lives l self.old → Lives
+            (with_taken l (take count self.old.replies)) self.new }
     {
         drop(self.replies.drain(..count));
     }
@@ -136,11 +140,13 @@ impl Connection {
         ensures over { (r : _) → self.old.end ≡ Some r →
             (result ≡ Ended r) × (self.new ≡ self.old) × (ledger.new ≡ ledger.old) }
         ensures leaves { LeavesLedger L.book L.has_kept L.is_sound L.has_store ledger.old ledger.new }
-        ensures store { self.old.end ≡ None → result ≡ Ended (Err ServeFault.Store) → L.has_store ledger.old }
+        ensures store { self.old.end ≡ None → result ≡ Ended (Err ServeFault.Store)
+            → L.has_store ledger.old }
 
         // Of a sound one that has kept its premise.
         ensures steps { L.has_kept ledger.new → L.is_sound ledger.old → self.old.end ≡ None →
-            Steps (L.book ledger.old) (L.told ledger.old) self.old.is_closed self.old.rest self.old.replies result
+            Steps (L.book ledger.old) (L.told ledger.old) self.old.is_closed self.old.rest
+            self.old.replies result
             self.new.rest self.new.replies (L.book ledger.new).history (L.told ledger.new) }
     {
         if let Some(end) = self.end {
@@ -156,8 +162,8 @@ impl Connection {
             Progress::Answered => {
                 self.answered += 1;
                 if self.answered == ENOUGH {
-                    self.end = Some(Ok(Served::Enough));
-                    return Progress::Ended(Ok(Served::Enough));
+                    self.end = Some(Ok(EndCause::Enough));
+                    return Progress::Ended(Ok(EndCause::Enough));
                 }
                 Progress::Answered
             }
@@ -171,10 +177,11 @@ impl Connection {
 
     /// Answers the next whole frames, at most so many.
     ///
-    /// The body of a request goes to the ledger, and the ledger's reply is held; `Retry` where the ledger had no memory
-    /// for it. A body that is no request, an empty one and one above 512 bytes is answered by `Bad`, which ends the
-    /// connection; so does the 10,000th answer. `Memory` and `Store` end it too, and the replies to the frames before
-    /// are held still. Nothing follows an end.
+    /// The body of a request goes to the ledger, and the ledger's reply is held; `Retry` where the
+    /// ledger had no memory for it. A body that is no request, an empty one and one above 512 bytes
+    /// is answered by `Bad`, which ends the connection; so does the 10,000th answer. `Memory` and
+    /// `Store` end it too, and the replies to the frames before are held still. Nothing follows an
+    /// end.
     pub fn answer<L: Ledger>(&mut self, alloc: Global, most: u32, ledger: &mut L) -> Progress
         // Of any ledger, sound or not. After an end nothing happens.
         ensures over { (r : _) → self.old.end ≡ Some r →
@@ -185,14 +192,17 @@ impl Connection {
             (self.new.end ≡ None) × (self.new.is_closed ≡ false) × IsPartial (next self.new.rest) }
         ensures closes_nothing { self.new.is_closed ≡ self.old.is_closed }
         ensures leaves { LeavesLedger L.book L.has_kept L.is_sound L.has_store ledger.old ledger.new }
-        ensures store { self.old.end ≡ None → result ≡ Ended (Err ServeFault.Store) → L.has_store ledger.old }
+        ensures store { self.old.end ≡ None → result ≡ Ended (Err ServeFault.Store)
+            → L.has_store ledger.old }
 
-        // Of a sound one that has kept its premise. The request at which the store failed is the one that stands next.
+        // Of a sound one that has kept its premise. The request at which the store failed is the
+        // one that stands next.
         ensures lives { L.has_kept ledger.new → L.is_sound ledger.old → (xs : List Exchange)
             × Counts result most (length xs)
             × (calls : MakesCalls self.old.end result (L.told ledger.old) (L.told ledger.new) xs)
             × AreAnswered (L.book ledger.old) xs (L.book ledger.new).history
-            × ((l : Life) → Lives l self.old → (rest : List ℕ) × Lives (with_exchanges l xs rest) self.new
+            × ((l : Life) → Lives l self.old → (rest : List ℕ)
+            × Lives (with_exchanges l xs rest) self.new
             × StandsNext calls.failed rest) }
     {
         if let Some(end) = self.end {

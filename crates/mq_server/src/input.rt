@@ -6,27 +6,29 @@ ghost use Rattle.mq_server.specs.Steps.{Refills};
 
 use crate::connection::Connection;
 use crate::fault::ServeFault;
-use mq_stream::{Failed, Source};
+use mq_stream::{DeviceFault, Source};
 
 /// The most bytes that one read takes.
 pub const PIECE: usize = 4_096;
 
 /// Gives a connection what one read gave, or closes it where that was nothing: at the input's end.
 ///
-/// `Memory` where the connection had no room for what was read; after an `Err` it is as before, but for its room.
+/// `Memory` where the connection had no room for what was read; after an `Err` it is as before, but
+/// for its room.
 pub fn refill<S: Source>(input: &mut S, connection: &mut Connection) -> Result<(), ServeFault>
     ensures reads { (piece : List ℕ) × (length piece ≤ PIECE)
         × Consumes (S.remaining input.old) (S.remaining input.new) piece
         × Refills connection.old connection.new piece (S.remaining input.new) result }
     // What came is answered before more is read.
-    ensures once { (piece : List ℕ) × TellsReads (S.reads input.old) (S.reads input.new) (piece ∷ []) }
+    ensures once { (piece : List ℕ) × TellsReads (S.reads input.old) (S.reads input.new)
+        (piece ∷ []) }
     ensures failed { result ≡ Err ServeFault.Read → S.has_failed input.new ≡ true }
     ensures works { result ≢ Err ServeFault.Read → S.has_failed input.new ≡ false }
 {
     let mut piece = [0u8; PIECE];
     let count = match input.read(&mut piece) {
         Ok(count) => count,
-        Err(Failed) => return Err(ServeFault::Read),
+        Err(DeviceFault) => return Err(ServeFault::Read),
     };
     if count == 0 {
         connection.close();

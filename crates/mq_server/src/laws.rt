@@ -1,5 +1,6 @@
 //! Laws of what is served. Each is the contract of a function that does nothing.
-ghost use Rattle.std.specs.Prelude.{◌≡◌, ◌⊎◌, ℕ, List, [], ◌++◌, length, map, Option, None, Some, Ok};
+ghost use Rattle.std.specs.Prelude.{◌≡◌, ◌⊎◌, ℕ, List, [], ◌++◌, length, map, Option, None, Some};
+ghost use Rattle.std.specs.Prelude.{Ok};
 ghost use Rattle.std.specs.Io.KnownBytes.{Appends};
 ghost use Rattle.mq_request.specs.declared.message.Reply.{Reply};
 ghost use Rattle.mq_ledger.specs.Answer.{replies_after};
@@ -9,13 +10,15 @@ ghost use Rattle.mq_ledger.specs.History.{requests};
 ghost use Rattle.mq_ledger.specs.Legal.{Book, IsLegalBook};
 ghost use Rattle.mq_server.specs.declared.connection.TheConstants.{ENOUGH};
 ghost use Rattle.mq_server.specs.declared.input.TheConstants.{PIECE};
-ghost use Rattle.mq_server.specs.declared.connection.Served.{Served};
-ghost use Rattle.mq_server.specs.declared.connection.Served.TheVariants.{BadFrame, Enough};
+ghost use Rattle.mq_server.specs.declared.connection.EndCause.{EndCause};
+ghost use Rattle.mq_server.specs.declared.connection.EndCause.TheVariants.{BadFrame, Enough};
 ghost use Rattle.mq_server.specs.Connection.{Wire, Serves};
 ghost use Rattle.mq_server.specs.Connections.{wires, AreServed, AreServedWhole, AppendEach};
-ghost use Rattle.mq_server.specs.Delivery.{Delivery, HasGrown, arrivals, asked, answer_to, taken_answers};
+ghost use Rattle.mq_server.specs.Delivery.{Delivery, HasGrown, arrivals, asked, answer_to};
+ghost use Rattle.mq_server.specs.Delivery.{taken_answers};
 ghost use Rattle.mq_server.specs.Held.{State, fresh};
-ghost use Rattle.mq_server.specs.Life.{AreAnswered, Exchange, Life, Lives, deliveries, replies_of, unborn};
+ghost use Rattle.mq_server.specs.Life.{AreAnswered, Exchange, Life, Lives, deliveries, replies_of};
+ghost use Rattle.mq_server.specs.Life.{unborn};
 ghost use Rattle.mq_server.specs.Text.{Asks, IsServed, LosesAlike, farewell, frames_of, served};
 
 use mq_frame::laws::{frames_stay, one_spelling};
@@ -30,17 +33,19 @@ pub fn numbers_of_serving()
 /// the input into pieces.
 pub fn any_cutting()
     // Where the input's bytes are known, what is written is what is served for all of them.
-    ensures whole { (answer : List Delivery → Delivery → Reply) (came : List Delivery) (old new : Wire)
-        (e : Served) (input : List ℕ) →
+    ensures whole { (answer : List Delivery → Delivery → Reply) (came : List Delivery)
+        (old new : Wire)
+        (e : EndCause) (input : List ℕ) →
         Serves answer came old new (Ok e) → old.remaining ≡ Some input →
         IsServed input came e × Appends old.contents new.contents (served answer came e) }
 
     // An input is served in one way, for each choice of the requests that the ledger loses.
-    ensures only { (input : List ℕ) (came others : List Delivery) (e f : Served) →
-        IsServed input came e → IsServed input others f → LosesAlike came others → (came ≡ others) × (e ≡ f) }
+    ensures only { (input : List ℕ) (came others : List Delivery) (e f : EndCause) →
+        IsServed input came e → IsServed input others f → LosesAlike came others → (came ≡ others)
+        × (e ≡ f) }
 
     // What stands after Bad and after the last answer changes nothing.
-    ensures more { (input more : List ℕ) (came : List Delivery) (e : Served) →
+    ensures more { (input more : List ℕ) (came : List Delivery) (e : EndCause) →
         (e ≡ BadFrame) ⊎ (e ≡ Enough) → IsServed input came e → IsServed (input ++ more) came e }
 {
     // Bytes that come later change no frame that is there, and a frame is that of one request.
@@ -53,8 +58,9 @@ pub fn a_life_is_served()
     // Nothing has come on a connection that is new.
     ensures begins { (room : ℕ) → Lives unborn (fresh room) }
 
-    // At an end the replies that were taken and those that wait are all that is served for these bytes.
-    ensures ended { (l : Life) (c : State) (e : Served) → Lives l c → c.end ≡ Some (Ok e) →
+    // At an end the replies that were taken and those that wait are all that is served for these
+    // bytes.
+    ensures ended { (l : Life) (c : State) (e : EndCause) → Lives l c → c.end ≡ Some (Ok e) →
         IsServed l.bytes (deliveries l.exchanges) e
         × (l.taken ++ c.replies ≡ frames_of (replies_of l.exchanges ++ farewell e)) }
 
@@ -64,7 +70,8 @@ pub fn a_life_is_served()
         × (l.taken ++ c.replies ≡ frames_of (replies_of l.exchanges)) }
 
     // Where nothing else came to the ledger in between, it is what `serve` writes.
-    ensures alone { (b : Book) (l : Life) (c : State) (e : Served) (history : List Entry) → Lives l c →
+    ensures alone { (b : Book) (l : Life) (c : State) (e : EndCause) (history : List Entry)
+        → Lives l c →
         c.end ≡ Some (Ok e) → AreAnswered b l.exchanges history →
         l.taken ++ c.replies ≡ served (answer_to b) (deliveries l.exchanges) e }
 {}
@@ -72,16 +79,20 @@ pub fn a_life_is_served()
 /// What is served on several connections in turn depends on the bytes of their inputs and on the
 /// ledger alone.
 pub fn any_cuttings()
-    // Where the inputs' bytes are known and each connection is served to its end, what is written on
-    // each is what is served for all of its input.
-    ensures whole { (b : Book) (earlier all : List Delivery) (inputs : List (List ℕ)) (holds : List (Option (List ℕ)))
-        (news : List Wire) (ends : List Served) → length holds ≡ length inputs → length ends ≡ length inputs →
+    // Where the inputs' bytes are known and each connection is served to its end, what is written
+    // on each is what is served for all of its input.
+    ensures whole { (b : Book) (earlier all : List Delivery) (inputs : List (List ℕ))
+        (holds : List (Option (List ℕ)))
+        (news : List Wire) (ends : List EndCause) → length holds ≡ length inputs
+        → length ends ≡ length inputs →
         AreServed b earlier (wires (map Some inputs) holds) news (map Ok ends) all →
-        (texts : List (List ℕ)) × AreServedWhole b earlier inputs texts ends all × AppendEach holds news texts }
+        (texts : List (List ℕ)) × AreServedWhole b earlier inputs texts ends all
+        × AppendEach holds news texts }
 
     // Inputs are served in one way, for each choice of the requests that the ledger loses.
-    ensures only { (b : Book) (earlier all others : List Delivery) (inputs texts written : List (List ℕ))
-        (ends stops : List Served) → AreServedWhole b earlier inputs texts ends all →
+    ensures only { (b : Book) (earlier all others : List Delivery)
+        (inputs texts written : List (List ℕ))
+        (ends stops : List EndCause) → AreServedWhole b earlier inputs texts ends all →
         AreServedWhole b earlier inputs written stops others → LosesAlike all others →
         (texts ≡ written) × (ends ≡ stops) × (all ≡ others) }
 {
@@ -109,6 +120,7 @@ pub fn more_deliveries()
 pub fn more_exchanges()
     ensures none { (b : Book) → IsLegalBook b → AreAnswered b [] b.history }
     ensures more { (b k : Book) (xs ys : List Exchange) (history : List Entry) → IsLegalBook k →
-        k.zone ≡ b.zone → k.default ≡ b.default → AreAnswered b xs k.history → AreAnswered k ys history →
+        k.zone ≡ b.zone → k.default ≡ b.default → AreAnswered b xs k.history
+        → AreAnswered k ys history →
         AreAnswered b (xs ++ ys) history }
 {}

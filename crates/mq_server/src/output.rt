@@ -6,18 +6,21 @@ ghost use Rattle.mq_server.specs.Held.{with_replies};
 
 use crate::connection::Connection;
 use crate::fault::ServeFault;
-use mq_stream::{Failed, Sink, write_and_flush};
+use mq_stream::{DeviceFault, Sink, write_and_flush};
 
 /// Writes and flushes the replies that wait, where there are any.
 ///
 /// After a `Write` a prefix of them went out.
 pub fn hand_on<W: Sink>(connection: &mut Connection, output: &mut W) -> Result<(), ServeFault>
-    ensures ok { OnOk result (Appends (W.contents output.old) (W.contents output.new) connection.old.replies
+    ensures ok { OnOk result (Appends (W.contents output.old)
+        (W.contents output.new) connection.old.replies
         × (connection.new ≡ with_replies connection.old [])) }
-    ensures err { IfErr result (λ fault. (fault ≡ ServeFault.Write) × (0 < length connection.old.replies)
+    ensures err { IfErr result (λ fault. (fault ≡ ServeFault.Write)
+        × (0 < length connection.old.replies)
         × AppendsFront (W.contents output.old) (W.contents output.new) connection.old.replies) }
     ensures failed { result ≡ Err ServeFault.Write → W.has_failed output.new ≡ true }
-    ensures works { W.has_failed output.old ≡ false → result ≢ Err ServeFault.Write → W.has_failed output.new ≡ false }
+    ensures works { W.has_failed output.old ≡ false → result ≢ Err ServeFault.Write
+        → W.has_failed output.new ≡ false }
     ensures flushed { IsFlushed (W.has_flushed output.old) →
         result ≢ Err ServeFault.Write → IsFlushed (W.has_flushed output.new) }
 {
@@ -31,6 +34,6 @@ pub fn hand_on<W: Sink>(connection: &mut Connection, output: &mut W) -> Result<(
             connection.take_replies(count);
             Ok(())
         }
-        Err(Failed) => Err(ServeFault::Write),
+        Err(DeviceFault) => Err(ServeFault::Write),
     }
 }

@@ -6,7 +6,7 @@ ghost use Rattle.mq_server.specs.Connection.{Serves, calls_of};
 ghost use Rattle.mq_server.specs.Delivery.{Delivery, history_after, answer_to};
 ghost use Rattle.mq_stream.specs.Flow.{IsFlushed};
 
-use crate::connection::{Connection, Progress, Served};
+use crate::connection::{Connection, EndCause, Progress};
 use crate::fault::ServeFault;
 use crate::input::refill;
 use crate::output::hand_on;
@@ -29,7 +29,7 @@ pub fn serve<S: Source, W: Sink, L: Ledger>(
     input: &mut S,
     output: &mut W,
     ledger: &mut L,
-) -> Result<Served, ServeFault>
+) -> Result<EndCause, ServeFault>
     // Of any ledger, sound or not.
     ensures read { result ≡ Err ServeFault.Read → S.has_failed input.new ≡ true }
     ensures source_works { S.has_failed input.old ≡ false →

@@ -12,7 +12,7 @@ ghost use Rattle.mq_server.specs.Steps.{end_at};
 ghost use Rattle.mq_server.specs.Text.{IsBad, next};
 
 use crate::answer::answer_body;
-use crate::connection::{Progress, Served};
+use crate::connection::{EndCause, Progress};
 use crate::fault::ServeFault;
 use mq_frame::{FrameFeed, encode_reply};
 use mq_ledger::Ledger;
@@ -20,28 +20,29 @@ use mq_request::Reply;
 use std::alloc::Global;
 
 /// How a connection ends whose input ended.
-fn input_end(feed: &FrameFeed) -> Served
+fn input_end(feed: &FrameFeed) -> EndCause
     ensures { result ≡ end_at (front feed.now.limit feed.now.rest) }
 {
     match feed.finish() {
-        Ok(()) => Served::InputEnd,
-        Err(_) => Served::CutFrame,
+        Ok(()) => EndCause::InputEnd,
+        Err(_) => EndCause::CutFrame,
     }
 }
 
 /// Answers what is no request, which ends the connection.
-fn refuse(replies: &mut Vec<u8>) -> Result<Served, ServeFault>
+fn refuse(replies: &mut Vec<u8>) -> Result<EndCause, ServeFault>
     ensures refused { IsRefused replies.old.items result replies.new.items }
     ensures full { OnErr result (HasNoRoom (vec_capacity replies.old) replies.old.items Bad) }
 {
     encode_reply(&Reply::Bad, replies)?;
-    Ok(Served::BadFrame)
+    Ok(EndCause::BadFrame)
 }
 
 /// Adds a reply to those that wait.
 fn add(reply: &Reply, replies: &mut Vec<u8>) -> Progress
     requires { IsReply reply.now }
-    ensures added { IsAdded replies.old.items (frame (reply_body reply.now)) result replies.new.items }
+    ensures added { IsAdded replies.old.items (frame (reply_body reply.now)) result
+        replies.new.items }
     ensures full { (end : _) → result ≡ Ended end →
         HasNoRoom (vec_capacity replies.old) replies.old.items reply.now }
 {
@@ -51,7 +52,8 @@ fn add(reply: &Reply, replies: &mut Vec<u8>) -> Progress
     }
 }
 
-/// Answers the frame at the front of what came, where a whole one is there. `is_closed` says that nothing more comes.
+/// Answers the frame at the front of what came, where a whole one is there. `is_closed` says that
+/// nothing more comes.
 pub fn step<L: Ledger>(
     alloc: Global,
     feed: &mut FrameFeed,
@@ -63,7 +65,8 @@ pub fn step<L: Ledger>(
     // Of any ledger, sound or not.
     ensures limit { feed.new.limit ≡ request_limit }
     ensures room { feed.new.room ≡ feed.old.room }
-    ensures moves { Moves is_closed feed.old.rest replies.old.items result feed.new.rest replies.new.items }
+    ensures moves { Moves is_closed feed.old.rest replies.old.items result feed.new.rest
+        replies.new.items }
     // What is no request ends it for memory only where Bad had no room.
     ensures full { result ≡ Ended (Err ServeFault.Memory) → IsBad (next feed.old.rest) →
         HasNoRoom (vec_capacity replies.old) replies.old.items Bad }
@@ -72,10 +75,13 @@ pub fn step<L: Ledger>(
 
     // Of a sound one that has kept its premise.
     ensures steps { L.has_kept ledger.new → L.is_sound ledger.old →
-        Steps (L.book ledger.old) (L.told ledger.old) is_closed feed.old.rest replies.old.items result
+        Steps (L.book ledger.old) (L.told ledger.old) is_closed feed.old.rest replies.old.items
+        result
         feed.new.rest replies.new.items (L.book ledger.new).history (L.told ledger.new) }
-    ensures lacks { L.has_kept ledger.new → L.is_sound ledger.old → result ≡ Ended (Err ServeFault.Memory) →
-        LacksMemory (L.book ledger.old) (L.told ledger.old) (vec_capacity replies.old) feed.old.rest replies.old.items
+    ensures lacks { L.has_kept ledger.new → L.is_sound ledger.old
+        → result ≡ Ended (Err ServeFault.Memory) →
+        LacksMemory (L.book ledger.old) (L.told ledger.old)
+        (vec_capacity replies.old) feed.old.rest replies.old.items
         feed.new.rest (L.book ledger.new).history (L.told ledger.new) }
 {
     match feed.next_body() {

@@ -37,7 +37,8 @@ fn fault_of(error: io::Error) -> FileFault
 pub fn read_limited<S: Read + Drop>(alloc: Global, source: S) -> Result<Vec<u8>, FileFault>
     ensures whole { IfOk result (λ bytes. IsText (S.remaining source) bytes.items) }
     ensures limit { IfOk result (λ bytes. vec_len bytes ≤ 65536) }
-    ensures too_large { result ≡ Err FileFault.TooLarge → IfSome (S.remaining source) (λ all. 65536 < length all) }
+    ensures too_large { result ≡ Err FileFault.TooLarge
+        → IfSome (S.remaining source) (λ all. 65536 < length all) }
 {
     let mut bytes = Vec::new(alloc);
     // One byte more than may be there shows that there is too much.
@@ -50,7 +51,8 @@ pub fn read_limited<S: Read + Drop>(alloc: Global, source: S) -> Result<Vec<u8>,
 
 /// The bytes of a settings file, at most 65,536: all that the file gives which is opened.
 pub fn read_file<R: Files + AllocGlobal>(rt: &R, path: &str) -> Result<Vec<u8>, FileFault>
-    ensures whole { IfOk result (λ bytes. (file : R.File) × IsText (R.File.remaining file) bytes.items) }
+    ensures whole { IfOk result (λ bytes. (file : R.File)
+        × IsText (R.File.remaining file) bytes.items) }
     ensures limit { IfOk result (λ bytes. vec_len bytes ≤ 65536) }
     ensures too_large { result ≡ Err FileFault.TooLarge → (file : R.File)
         × IfSome (R.File.remaining file) (λ all. 65536 < length all) }

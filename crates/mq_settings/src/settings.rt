@@ -1,7 +1,8 @@
 //! The settings of the filter and of the server, read from TOML.
 ghost use Rattle.std.specs.Prelude.{IfOk, IfErr};
 ghost use Rattle.toml.specs.Data.{Members};
-ghost use Rattle.mq_settings.specs.Settings.{Spells, IsFilterSettings, IsFilterRefusal, IsServerSettings};
+ghost use Rattle.mq_settings.specs.Settings.{Spells, IsFilterSettings, IsFilterRefusal};
+ghost use Rattle.mq_settings.specs.Settings.{IsServerSettings};
 ghost use Rattle.mq_settings.specs.Settings.{IsServerRefusal};
 
 mod address;
@@ -54,8 +55,8 @@ pub struct ServerSettings {
     pub zone: Zone,
     /// How many days before today are kept while it serves, 1 to 366: all, if nothing is said.
     pub keep: Option<u32>,
-    /// For how many milliseconds a peer may neither send nor take anything, 1 to 60,000. A whole connection has twice
-    /// as long.
+    /// For how many milliseconds a peer may neither send nor take anything, 1 to 60,000. A whole
+    /// connection has twice as long.
     pub timeout: u32,
     /// Which lines are logged: those of this level and the levels before it.
     pub log: LevelFilter,

@@ -1,20 +1,12 @@
 -- What stops a request over the rows of a legal history.
-use Rattle.std.proofs.Common.{◌≡◌, ◌<◌, nat_le, List, length, sym, subst, refl, inl, inr}
-use Rattle.std.specs.Prelude.{Result, Ok, Err, IfErr, IsErrAnd}
-use Rattle.std.proofs.lemmas.Bool.{cases_Bool}
-use Rattle.mq_lemmas.proofs.Numbers.{le_of, lt_of}
-use Rattle.mq_ledger.specs.declared.entry.Entry.{Entry}
+use Rattle.std.proofs.Common.{Err, IfErr, IsErrAnd, List, Ok, Result, inl, inr, length, nat_le, refl, subst, sym, ◌<◌, ◌≡◌}
+use Rattle.mq_store.proofs.Words.{Entry, cases_Bool, le_of, lt_of}
 use Rattle.mq_ledger.specs.declared.ledger.LedgerFault.{LedgerFault}
 use Rattle.mq_ledger.specs.declared.ledger.LedgerFault.TheVariants as ledger
-use Rattle.mq_store.specs.declared.fault.Refused.{Refused}
+use Rattle.mq_store.specs.declared.fault.Refusal.{Refusal}
 use Rattle.mq_store.specs.Causes.{refused_at, cause_in, IsCauseOver}
 
--- the rows that were read decide the request, so memory ran out
-pub of_rows : (H : List Entry) (fault : LedgerFault) → (fault ≡ ledger.Store → ⊥) → IsCauseOver H (cause_in (refused_at fault))
-of_rows H ledger.Memory decides = tt
-of_rows H ledger.Store decides = absurd (decides refl)
-
--- they decide it unless as many answers are stored as there may be
+-- the rows that were read decide the request unless as many answers are stored as there may be
 pub of_stored : (H : List Entry) (fault : LedgerFault) → (fault ≡ ledger.Store → length H < 4611686018427387904 → ⊥) → IsCauseOver H (cause_in (refused_at fault))
 of_stored H ledger.Memory decides = tt
 of_stored H ledger.Store decides = elim (cases_Bool (nat_le 4611686018427387904 (length H))) [
@@ -22,7 +14,11 @@ of_stored H ledger.Store decides = elim (cases_Bool (nat_le 4611686018427387904 
   | inr few ↦ absurd (decides refl (lt_of 4611686018427387904 (length H) few))
 ]
 
+-- they decide it, so memory ran out
+pub of_rows : (H : List Entry) (fault : LedgerFault) → (fault ≡ ledger.Store → ⊥) → IsCauseOver H (cause_in (refused_at fault))
+of_rows H fault decides = of_stored H fault (λ store few. decides store)
+
 -- a fault that was handed on
-pub stops_by : {A : Type 0} (fault : LedgerFault) (r : Result A Refused) (P : Refused → Type 0) → IsErrAnd r (λ refused. refused ≡ refused_at fault) → P (refused_at fault) → IfErr r P
+pub stops_by : {A : Type 0} (fault : LedgerFault) (r : Result A Refusal) (P : Refusal → Type 0) → IsErrAnd r (λ refused. refused ≡ refused_at fault) → P (refused_at fault) → IfErr r P
 stops_by fault (Ok x) P given so = tt
 stops_by fault (Err e) P given so = subst P (sym given) so

@@ -1,23 +1,7 @@
 -- Replies that are cleared one by one, by their places, are those of the runs.
-use Rattle.std.proofs.Common.{◌≡◌, ℕ, ◌+◌, ◌<◌, ◌≤◌, Bool, true, false, List, [], ◌∷◌, map, filter, refl, sym, ap, ap₂, subst, arith, ◌∙◌, inl, inr}
-use Rattle.std.specs.Prelude.{◌==◌, ◌&&◌, ◌||◌, if◌then◌else◌, Some, None, Result, Ok, Err, OnOk}
-use Rattle.std.specs.List.{list_any}
-use Rattle.std.specs.List.Sorted.{IsPermutation}
-use Rattle.std.proofs.lemmas.Bool.{cases_Bool}
-use Rattle.std.proofs.lemmas.Bool.Decides.{Decides-eqb}
+use Rattle.std.proofs.Common.{Bool, IsPermutation, List, None, Some, [], ap, ap₂, arith, false, filter, if◌then◌else◌, inl, inr, map, ne_eqb, refl, subst, sym, true, ℕ, ◌&&◌, ◌+◌, ◌<◌, ◌==◌, ◌||◌, ◌∙◌, ◌∷◌, ◌≡◌, ◌≤◌}
+use Rattle.mq_store.proofs.Words.{AnswerRecord, AreNumbered, Database, HasLedger, Row, Runs, State, Tables, TransactionRecord, and_false, cases_Bool, cleared, is_among, is_open_in, list_any, number_itself, other_number}
 use Rattle.std.proofs.lemmas.List.Sorted.{list_any-IsPermutation}
-use Rattle.sqlite.specs.Effect.{Database}
-use Rattle.sqlite.specs.Order.{Row}
-use Rattle.sqlite.specs.State.{State}
-use Rattle.mq_lemmas.proofs.Booleans.{and_false}
-use Rattle.mq_lemmas.proofs.Numbers.{other_number}
-use Rattle.mq_rows.specs.declared.plan.Runs.{Runs}
-use Rattle.mq_rows.specs.declared.record.AnswerRecord.{AnswerRecord}
-use Rattle.mq_rows.specs.declared.record.TransactionRecord.{TransactionRecord}
-use Rattle.mq_rows.specs.Plan.{is_among, is_open_in, cleared}
-use Rattle.mq_rows.specs.Tables.{Tables}
-use Rattle.mq_tables.specs.Ledger.{HasLedger}
-use Rattle.mq_tables.specs.Records.{AreNumbered}
 use Rattle.mq_tables.specs.Retiring.{place_row, without_reply, cleared_where, ClearsAt}
 use Rattle.mq_store.specs.GivingUp.{place_in, is_at, cleared_at, ClearsPlaces, ClearsRuns, ClosesAll, GivesUp}
 
@@ -61,12 +45,6 @@ all_at_places t all db left = subst (λ (xs : List AnswerRecord). HasLedger db (
 
 -- ---- the places of the answers that pass
 
-differ' : (m n : ℕ) → n < m → (m == n) ≡ false
-differ' m n less = elim (cases_Bool (m == n)) [
-  | inl same ↦ (let e = (Decides-eqb m n).0 same in absurd (omega (arith, e, less)))
-  | inr other ↦ other
-]
-
 itself : (b : Bool) → ((b && true) || false) ≡ b
 itself true = refl
 itself false = refl
@@ -93,40 +71,31 @@ module _ (passes : AnswerRecord → Bool) where
   same_hits : (answers : List AnswerRecord) (k : ℕ) (f : ℕ → Bool) → AreNumbered k answers → ((n : ℕ) → k ≤ n → f n ≡ hits answers n) → map (λ a. clear_if (f a.n) a) answers ≡ map (λ a. clear_if (passes a) a) answers
   same_hits [] k f numbered is = refl
   same_hits (a ∷ more) k f numbered is =
-      let own : (a.n == a.n) ≡ true = (Decides-eqb a.n a.n).1 refl in
+      let own : (a.n == a.n) ≡ true = number_itself a.n in
       let none : hits more a.n ≡ false = none_before more (k + 1) a.n numbered.1 (omega (arith, numbered.0)) in
       let here : f a.n ≡ passes a = is a.n (omega (arith, numbered.0)) ∙ ap₂ (λ (b c : Bool). (passes a && b) || c) own none ∙ itself (passes a) in
       ap₂ ◌∷◌ (ap (λ (b : Bool). clear_if b a) here)
       (same_hits more (k + 1) f numbered.1 (λ n above. is n (omega (arith, above))
-      ∙ ap (λ (b : Bool). b || hits more n) (ap (λ (b : Bool). passes a && b) (differ' n a.n (omega (arith, above, numbered.0))) ∙ and_false (passes a))))
+      ∙ ap (λ (b : Bool). b || hits more n) (ap (λ (b : Bool). passes a && b) (ne_eqb n a.n (λ e. omega (arith, above, numbered.0, e))) ∙ and_false (passes a))))
 
   pub by_places : (answers : List AnswerRecord) (rows : List Row) → AreNumbered 1 answers → IsPermutation (map place_row (filter passes answers)) rows → cleared_at rows answers ≡ cleared_where passes answers
   by_places answers rows numbered places =
       same_hits answers 1 (is_at rows) numbered (λ n above. sym (list_any-IsPermutation (λ (row : Row). n == place_in row) (map place_row (filter passes answers)) rows places) ∙ shown answers n)
 
-runs_cleared : (runs : Runs) (rows : List Row) (old mid new : Database) → mid ≡ old → ((t : Tables) → HasLedger old t → IsPermutation (map place_row (filter (λ a. is_among runs a.id.host a.id.run) t.answers)) rows) → ClearsPlaces rows mid new → ClearsRuns runs old new
+pub runs_cleared : (runs : Runs) (rows : List Row) (old mid new : Database) → mid ≡ old → ((t : Tables) → HasLedger old t → IsPermutation (map place_row (filter (λ a. is_among runs a.id.host a.id.run) t.answers)) rows) → ClearsPlaces rows mid new → ClearsRuns runs old new
 runs_cleared runs rows old mid new same places clears = λ (t : Tables) l.
     subst (λ (xs : List AnswerRecord). HasLedger new (record t { answers = xs }))
     (by_places (λ a. is_among runs a.id.host a.id.run) t.answers rows l.holds.answers.numbered (places t l))
     (clears t (subst (λ (db : Database). HasLedger db t) (sym same) l))
-
-pub runs_cleared_ok : {A E : Type 0} (runs : Runs) (rows : List Row) (old mid new : Database) (r : Result A E) → mid ≡ old → ((t : Tables) → HasLedger old t → IsPermutation (map place_row (filter (λ a. is_among runs a.id.host a.id.run) t.answers)) rows) → OnOk r (ClearsPlaces rows mid new) → OnOk r (ClearsRuns runs old new)
-runs_cleared_ok runs rows old mid new (Ok u) same places clears = runs_cleared runs rows old mid new same places clears
-runs_cleared_ok runs rows old mid new (Err e) same places clears = tt
 
 -- ---- runs are given up
 
 pub gives_none_up : (db : Database) → GivesUp None db db
 gives_none_up db = λ (t : Tables) l b p leads. record { rows = t.transactions; used = t.usage; holds = l; so = leads [] refl }
 
-gives_up : (runs : Runs) (these : List TransactionRecord) (s0 s1 s2 s3 : State) → ClearsRuns runs s0.now s1.now → s2.now ≡ s1.now → ((t : Tables) → HasLedger s1.now t → IsPermutation these (filter (is_open_in runs) t.transactions)) → ClosesAll these s2.now s3.now
+pub gives_up : (runs : Runs) (these : List TransactionRecord) (s0 s1 s2 s3 : State) → ClearsRuns runs s0.now s1.now → s2.now ≡ s1.now → ((t : Tables) → HasLedger s1.now t → IsPermutation these (filter (is_open_in runs) t.transactions)) → ClosesAll these s2.now s3.now
     → GivesUp (Some runs) s0.now s3.now
 gives_up runs these s0 s1 s2 s3 clears same found closes = λ (t : Tables) l b p leads.
     let t1 : Tables = record t { answers = cleared (Some runs) t.answers } in
     let l1 = clears t l in
     closes t1 (subst (λ (db : Database). HasLedger db t1) (sym same) l1) b p (leads these (found t1 l1))
-
-pub gives_up_ok : {A E : Type 0} (runs : Runs) (these : List TransactionRecord) (s0 s1 s2 s3 : State) (r : Result A E) → ClearsRuns runs s0.now s1.now → s2.now ≡ s1.now → ((t : Tables) → HasLedger s1.now t → IsPermutation these (filter (is_open_in runs) t.transactions))
-    → OnOk r (ClosesAll these s2.now s3.now) → OnOk r (GivesUp (Some runs) s0.now s3.now)
-gives_up_ok runs these s0 s1 s2 s3 (Ok u) clears same found closes = gives_up runs these s0 s1 s2 s3 clears same found closes
-gives_up_ok runs these s0 s1 s2 s3 (Err e) clears same found closes = tt

@@ -1,36 +1,13 @@
 -- One closing, and one more after those before.
-use Rattle.std.proofs.Common.{◌≡◌, ℕ, Bool, List, [], ◌∷◌, sym, subst}
-use Rattle.std.specs.Prelude.{Option, Some, Result, Ok, Err, OnOk}
-use Rattle.sqlite.specs.declared.error.Error.{Error}
-use Rattle.sqlite.specs.Effect.{Database}
-use Rattle.sqlite.specs.State.{State}
-use Rattle.mq_ledger.specs.Legal.{Book}
-use Rattle.mq_rows.specs.declared.plan.Plan.{Plan}
-use Rattle.mq_rows.specs.declared.plan.Write.{Write}
-use Rattle.mq_rows.specs.declared.plan.Write.TheVariants.{Keep, Insert, Update}
-use Rattle.mq_rows.specs.declared.record.TransactionRecord.{TransactionRecord}
-use Rattle.mq_rows.specs.declared.record.UsageRecord.{UsageRecord}
-use Rattle.mq_rows.specs.Plan.{Leads, same_key, set_transaction, same_day, set_usage, freed, abandoned_row, IsOneIn, LeadsAll, Has as HasRow}
-use Rattle.sqlite_rules.specs.Lists.{Has}
-use Rattle.std.proofs.Common.{inl, inr}
-use Rattle.std.specs.Prelude.{None}
-use Rattle.mq_rows.specs.Rows.{is_usage}
-use Rattle.mq_rows.specs.Tables.{Tables}
-use Rattle.mq_rows.specs.Written.{MovesLead}
-use Rattle.mq_tables.specs.Ledger.{HasLedger}
-use Rattle.mq_tables.specs.Records.{IsOneOf}
-use Rattle.mq_tables.specs.Updates.{Leaves, WritesTransaction, WritesUsage}
+use Rattle.std.proofs.Common.{Bool, List, None, Option, Some, [], inl, inr, subst, sym, ◌∷◌, ◌≡◌}
+use Rattle.mq_store.proofs.Words.{Book, Database, Has, HasLedger, Insert, IsOneIn, IsOneOf, Keep, Leads, LeadsAll, Leaves, MovesLead, Plan, State, Tables, TransactionRecord, Update, UsageRecord, Write, WritesTransaction, WritesUsage, abandoned_row, freed, is_usage, same_day, same_key, set_transaction, set_usage}
+use Rattle.mq_rows.specs.Plan.{Has as HasRow}
 use Rattle.mq_store.specs.GivingUp.{with_rows, ClosesOne, HasMoved}
 
 pub closes : (was : TransactionRecord) (u : Option UsageRecord) (s0 s1 s2 s3 : State) → ((t : Tables) → HasLedger s0.now t → IsOneOf (is_usage was.login was.day) t.usage u) → s1.now ≡ s0.now
     → WritesTransaction (Update (abandoned_row was)) s1 s2 → WritesUsage (freed was.held was.held u) s2 s3 → ClosesOne was s0.now s3.now
 closes was u s0 s1 s2 s3 found same one two = λ t l.
     (u, found t l, λ w rest order there alone. two (record t { transactions = set_transaction (abandoned_row was) w ∷ rest }) (one t (subst (λ db. HasLedger db t) (sym same) l) w rest order there alone))
-
-pub closes_ok : (was : TransactionRecord) (u : Option UsageRecord) (s0 s1 s2 s3 : State) (r : Result ℕ Error) → ((t : Tables) → HasLedger s0.now t → IsOneOf (is_usage was.login was.day) t.usage u) → s1.now ≡ s0.now
-    → WritesTransaction (Update (abandoned_row was)) s1 s2 → OnOk r (WritesUsage (freed was.held was.held u) s2 s3) → OnOk r (ClosesOne was s0.now s3.now)
-closes_ok was u s0 s1 s2 s3 (Ok n) found same one two = closes was u s0 s1 s2 s3 found same one two
-closes_ok was u s0 s1 s2 s3 (Err e) found same one two = tt
 
 -- the rows that a write leads to are those that it leaves
 pub both : {R : Type 0} (same : R → R → Bool) (set : R → R → R) (w : Write R) (rows : List R) (P Q : List R → Type 0)

@@ -1,46 +1,20 @@
 -- What the rows of a legal history show is in range.
-use Rattle.std.proofs.Common.{◌≡◌, ℕ, List, [], ◌∷◌, find, true, false, ◌==◌, refl, sym, ap, subst, inl, inr}
-use Rattle.std.specs.Prelude.{Option, Some, None, Contains}
-use Rattle.std.specs.List.{AllByRecursion}
+use Rattle.std.proofs.Common.{List, None, Option, Some, [], false, find, inl, inr, refl, subst, sym, true, ℕ, ◌==◌, ◌∷◌, ◌≡◌}
+use Rattle.mq_store.proofs.Words.{AllByRecursion, Decides-eqb, Entry, Granted, IsAmount, IsLogin, IsNext, IsRequest, Reply, Request, Reserve, UsageRecord, are_amounts, below, cases_Bool, first_so, has_reserve, is_above, is_login, is_usage, le_is, login_on, same_text, usage_row}
 use Rattle.std.specs.Cmp.Lexicographic.{bytes_decides}
-use Rattle.std.proofs.lemmas.Bool.{cases_Bool}
-use Rattle.std.proofs.lemmas.Bool.Decides.{Decides-eqb}
-use Rattle.std.proofs.lemmas.List.Elements.{All-from_recursion}
-use Rattle.mq_lemmas.proofs.Booleans.{first_so}
-use Rattle.mq_lemmas.proofs.Numbers.{le_is}
-use Rattle.mq_request.specs.declared.message.Request.{Request}
-use Rattle.mq_request.specs.declared.message.Request.TheVariants.{Reserve}
-use Rattle.mq_request.specs.declared.message.Reply.{Reply}
-use Rattle.mq_request.specs.declared.message.Reply.TheVariants.{Granted, Usage as UsageReply}
-use Rattle.mq_request.specs.Range.{IsRequest, IsAmount, IsLogin}
-use Rattle.mq_request.specs.Same.{same_text}
-use Rattle.mq_ledger.specs.declared.entry.Entry.{Entry}
-use Rattle.mq_ledger.specs.Page.{below, is_login, login_on, has_reserve}
-use Rattle.mq_rows.specs.declared.record.UsageRecord.{UsageRecord}
-use Rattle.mq_rows.specs.Listing.{are_amounts, is_above, IsNext}
-use Rattle.mq_rows.specs.Rows.{is_usage, usage_row}
+use Rattle.mq_request.specs.declared.message.Reply.TheVariants.{Usage as UsageReply}
+use Rattle.mq_store.proofs.Keyed.{contained}
 
 -- ---- amounts
 
 pub amounts : (s r c : ℕ) → IsAmount s → IsAmount r → IsAmount c → are_amounts s r c ≡ true
 amounts s r c p q o = rw (le_is s 1000000 p.to, le_is r 1000000 q.to, le_is c 1000000 o.to) refl
 
-abbrev settled_in : Reply → ℕ
-settled_in (UsageReply login day settled reserved cap) = settled
-settled_in _ = 0
-
-abbrev reserved_in : Reply → ℕ
-reserved_in (UsageReply login day settled reserved cap) = reserved
-reserved_in _ = 0
-
-abbrev cap_in : Reply → ℕ
-cap_in (UsageReply login day settled reserved cap) = cap
-cap_in _ = 0
-
 -- the amounts of two replies to a usage that are the same
 pub same_amounts : (l m : List ℕ) (d e : ℕ) (s r c s' r' c' : ℕ) → UsageReply l d s r c ≡ UsageReply m e s' r' c' → IsAmount s' → IsAmount r' → IsAmount c' → are_amounts s r c ≡ true
 same_amounts l m d e s r c s' r' c' same p q o =
-    amounts s r c (subst IsAmount (sym (ap settled_in same)) p) (subst IsAmount (sym (ap reserved_in same)) q) (subst IsAmount (sym (ap cap_in same)) o)
+    let is : (s ≡ s') × (r ≡ r') × (c ≡ c') = (cc, cc, cc) in
+    amounts s r c (subst IsAmount (sym is.0) p) (subst IsAmount (sym is.1) q) (subst IsAmount (sym is.2) o)
 
 -- ---- logins
 
@@ -67,9 +41,6 @@ has_row day H l d u is = elim (cases_Bool (has_reserve day H d l)) [
 ]
 
 -- ---- the next row of a page is the one under its key
-
-contained : (P : UsageRecord → Type 0) (rows : List UsageRecord) (u : UsageRecord) → AllByRecursion P rows → Contains rows u → P u
-contained P rows u all there = subst P there.2 (All-from_recursion P rows all there.0 u there.1)
 
 -- a row above is of that day
 day_is : (d : ℕ) (after : List ℕ) (u : UsageRecord) → is_above d after u ≡ true → d ≡ u.day

@@ -1,19 +1,7 @@
 -- Rows that are there once under their key.
-use Rattle.std.proofs.Common.{◌≡◌, inl, inr, ◌≤◌, List, [], ◌∷◌, find, filter, length, Bool, true, false, Option, Some, None, arith, refl, sym, ap, subst, ◌∙◌}
-use Rattle.std.proofs.lemmas.Bool.{cases_Bool}
-use Rattle.std.specs.List.{AllByRecursion}
-use Rattle.sqlite_rules.specs.Lists.{Has}
-use Rattle.mq_ledger.specs.Legal.{Book}
-use Rattle.mq_rows.specs.Rows.{transaction_row, usage_row, limit_row, retired_row}
-use Rattle.mq_ledger.specs.Day.{day_of}
-use Rattle.mq_rows.specs.Tables.{Tables, AreRows, those}
+use Rattle.std.proofs.Common.{Bool, Contains, List, None, Option, Some, [], ap, arith, false, filter, find, inl, inr, length, refl, subst, sym, true, ◌∙◌, ◌∷◌, ◌≡◌, ◌≤◌}
+use Rattle.mq_store.proofs.Words.{All-from_recursion, AllByRecursion, AreRows, Book, Has, IsOneOf, Tables, all_has, cases_Bool, day_of, filter_none, limit_row, retired_row, those, transaction_row, usage_row}
 use Rattle.mq_tables.specs.Finding.{AreKeyed}
-use Rattle.mq_tables.specs.Records.{IsOneOf}
-
-pub has_all : {X : Type 0} (P : X → Type 0) (xs : List X) (x : X) → AllByRecursion P xs → Has xs x → P x
-has_all P [] x all there = absurd there
-has_all P (y ∷ ys) x all (inl same) = rw same all.0
-has_all P (y ∷ ys) x all (inr more) = has_all P ys x all.1 more
 
 pub none_found : {X : Type 0} (test : X → Bool) (xs : List X) → AllByRecursion (λ x. test x ≡ false) xs → find test xs ≡ None
 none_found test [] h = refl
@@ -42,10 +30,6 @@ has_filtered test (y ∷ ys) x (inr more) passes = elim (cases_Bool (test y)) [
   | inr miss ↦ rw miss (has_filtered test ys x more passes)
 ]
 
-none_passes : {X : Type 0} (test : X → Bool) (xs : List X) → AllByRecursion (λ x. test x ≡ false) xs → filter test xs ≡ []
-none_passes test [] h = refl
-none_passes test (x ∷ xs) h = rw h.0 (none_passes test xs h.1)
-
 has_those : {X : Type 0} (o : Option X) (x : X) → Has (those o) x → Some x ≡ o
 has_those None x there = absurd there
 has_those (Some y) x (inl same) = ap Some same
@@ -53,5 +37,13 @@ has_those (Some y) x (inr more) = absurd more
 
 pub found_once : {X : Type 0} (test : X → Bool) (rows : List X) (o found : Option X) → filter test rows ≡ those o → IsOneOf test rows found → found ≡ o
 found_once test rows None None once is = refl
-found_once test rows (Some x) None once is = absurd (let e = sym (none_passes test rows is) ∙ once in cc)
+found_once test rows (Some x) None once is = absurd (let e = sym (filter_none test rows is) ∙ once in cc)
 found_once test rows o (Some x) once is = has_those o x (subst (λ (xs : List _). Has xs x) once (has_filtered test rows x is.0 is.1))
+
+-- where each that passes is the one that is found among all, so is the one that a table of all has
+pub found_of : {X : Type 0} (test : X → Bool) (rows all : List X) (x : X) → rows ≡ all → AllByRecursion (λ y. test y ≡ true → find test all ≡ Some y) all → IsOneOf test rows (Some x) → find test all ≡ Some x
+found_of test rows all x same each one = all_has (λ y. test y ≡ true → find test all ≡ Some y) all x each (subst (λ (xs : List _). Has xs x) same one.0) one.1
+
+-- what holds of each holds of one that is there
+pub contained : {X : Type 0} (P : X → Type 0) (xs : List X) (x : X) → AllByRecursion P xs → Contains xs x → P x
+contained P xs x all there = subst P there.2 (All-from_recursion P xs all there.0 x there.1)

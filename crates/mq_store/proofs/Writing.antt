@@ -1,28 +1,12 @@
 -- What is written leads to the rows of the history with one more entry.
-use Rattle.std.proofs.Common.{◌≡◌, ℕ, ◌+◌, List, [], ◌∷◌, ◌++◌, map, length, ap, arith}
-use Rattle.std.specs.Prelude.{Result, Ok, Err, OnOk}
-use Rattle.std.specs.List.{enumerate_from}
-use Rattle.sqlite.specs.declared.error.Error.{Error}
-use Rattle.sqlite.specs.State.{State}
-use Rattle.mq_ledger.specs.declared.entry.Entry.{Entry}
-use Rattle.mq_ledger.specs.Day.{day_of}
-use Rattle.mq_ledger.specs.Legal.{Book}
-use Rattle.mq_rows.specs.declared.plan.Plan.{Plan}
-use Rattle.mq_rows.specs.declared.record.AnswerRecord.{AnswerRecord}
-use Rattle.mq_rows.specs.declared.record.TransactionRecord.{TransactionRecord}
-use Rattle.mq_rows.specs.declared.record.UsageRecord.{UsageRecord}
+use Rattle.std.proofs.Common.{List, [], ap, arith, length, map, ℕ, ◌++◌, ◌+◌, ◌∷◌, ◌≡◌}
+use Rattle.mq_store.proofs.Words.{AnswerRecord, Appends, AreLimits, AreRetired, AreTransactions, AreUsage, Book, CountsArrivals, Entry, HasLedger, Plan, RetiredRecord, State, Tables, TransactionRecord, UsageRecord, WritesFloor, WritesLimit, WritesTransaction, WritesUsage, answer_row, cleared, day_of, enumerate_from, same_day, same_from, same_host, same_key, set_limit, set_run, set_transaction, set_usage}
 use Rattle.mq_rows.specs.declared.record.LimitRecord.{LimitRecord}
-use Rattle.mq_rows.specs.declared.record.RetiredRecord.{RetiredRecord}
-use Rattle.mq_rows.specs.Plan.{same_key, set_transaction, same_day, set_usage, same_from, set_limit, same_host, set_run, cleared}
-use Rattle.mq_rows.specs.Rows.{answer_row}
-use Rattle.mq_rows.specs.Tables.{Tables, AreTransactions, AreUsage, AreLimits, AreRetired}
-use Rattle.mq_tables.specs.Ledger.{HasLedger}
-use Rattle.mq_tables.specs.Updates.{Appends, CountsArrivals, WritesTransaction, WritesUsage, WritesLimit, WritesFloor}
 use Rattle.mq_store.specs.GivingUp.{GivesUp, with_rows}
 use Rattle.mq_store.specs.Taking.{MovesRows, WritesPlan}
 use Rattle.mq_store.proofs.Closings.{both}
 
-moves : (p : Plan) (s0 s1 s2 s3 s4 : State) → WritesTransaction p.transaction s0 s1 → WritesUsage p.usage s1 s2 → WritesLimit p.limit s2 s3 → WritesFloor p.retired s3 s4 → MovesRows p s0.now s4.now
+pub moves : (p : Plan) (s0 s1 s2 s3 s4 : State) → WritesTransaction p.transaction s0 s1 → WritesUsage p.usage s1 s2 → WritesLimit p.limit s2 s3 → WritesFloor p.retired s3 s4 → MovesRows p s0.now s4.now
 moves p s0 s1 s2 s3 s4 one two three four = λ (b : Book) (t : Tables) l lead.
     let ts = both same_key set_transaction p.transaction t.transactions (AreTransactions (day_of b.zone) b.history)
     (λ (after : List TransactionRecord). HasLedger s1.now (record t { transactions = after })) lead.moves.transactions (one t l) in
@@ -42,10 +26,6 @@ moves p s0 s1 s2 s3 s4 one two three four = λ (b : Book) (t : Tables) l lead.
       current = lead.current;
     }
 
-pub moves_ok : (p : Plan) (s0 s1 s2 s3 s4 : State) (r : Result ℕ Error) → WritesTransaction p.transaction s0 s1 → WritesUsage p.usage s1 s2 → WritesLimit p.limit s2 s3 → OnOk r (WritesFloor p.retired s3 s4) → OnOk r (MovesRows p s0.now s4.now)
-moves_ok p s0 s1 s2 s3 s4 (Ok n) one two three four = moves p s0 s1 s2 s3 s4 one two three four
-moves_ok p s0 s1 s2 s3 s4 (Err e) one two three four = tt
-
 -- the last of the rows of a history has the next place
 next_place : (K : List Entry) (n : ℕ) (H : List Entry) (xs : List AnswerRecord) (a : AnswerRecord) → xs ++ a ∷ [] ≡ map (λ p. answer_row K p.0 p.1) (enumerate_from n H) → a.n ≡ n + length xs
 next_place K n [] [] a h = absurd (cc h)
@@ -55,7 +35,7 @@ next_place K n (x ∷ H) (y ∷ ys) a h =
     let e : ys ++ a ∷ [] ≡ map (λ p. answer_row K p.0 p.1) (enumerate_from (n + 1) H) = cc h in
     omega (arith, next_place K (n + 1) H ys a e)
 
-writes : (p : Plan) (s0 s1 s2 s3 s4 : State) → GivesUp p.given_up s0.now s1.now → Appends p.answer s1 s2 → CountsArrivals p.arrivals s2 s3 → MovesRows p s3.now s4.now → WritesPlan p s0.now s4.now
+pub writes : (p : Plan) (s0 s1 s2 s3 s4 : State) → GivesUp p.given_up s0.now s1.now → Appends p.answer s1 s2 → CountsArrivals p.arrivals s2 s3 → MovesRows p s3.now s4.now → WritesPlan p s0.now s4.now
 writes p s0 s1 s2 s3 s4 zero one two three = λ (b : Book) (t : Tables) l current lead.
     let up = zero t l b p lead.moves in
     let place : p.answer.n ≡ 1 + length (cleared p.given_up t.answers) = next_place b.history 1 b.history (cleared p.given_up t.answers) p.answer lead.answers in
@@ -70,7 +50,3 @@ writes p s0 s1 s2 s3 s4 zero one two three = λ (b : Book) (t : Tables) l curren
       limits = lead.limits;
       retired = lead.retired;
     })
-
-pub writes_ok : (p : Plan) (s0 s1 s2 s3 s4 : State) (r : Result ℕ Error) → GivesUp p.given_up s0.now s1.now → Appends p.answer s1 s2 → CountsArrivals p.arrivals s2 s3 → OnOk r (MovesRows p s3.now s4.now) → OnOk r (WritesPlan p s0.now s4.now)
-writes_ok p s0 s1 s2 s3 s4 (Ok n) zero one two three = writes p s0 s1 s2 s3 s4 zero one two three
-writes_ok p s0 s1 s2 s3 s4 (Err e) zero one two three = tt

@@ -12,8 +12,8 @@ use Rattle.mq_ledger.specs.Legal.{IsLegalBook}
 use Rattle.mq_rows.specs.declared.record.TransactionRecord.{TransactionRecord}
 use Rattle.mq_forget.specs.Remembered.{day_named, is_set, stays, remembered}
 use Rattle.mq_forget.specs.Carried.{IsAt}
-use Rattle.mq_store.specs.declared.recall.Answered.{Answered}
-use Rattle.mq_store.specs.declared.carry.Judged.{Judged}
+use Rattle.mq_store.specs.declared.recall.RecalledAnswer.{RecalledAnswer}
+use Rattle.mq_store.specs.declared.carry.JudgedAnswer.{JudgedAnswer}
 use Rattle.mq_store.specs.Taking.{HasBook, book_of}
 
 -- What is read of the old store, whatever the history is of which its tables are the rows.
@@ -39,13 +39,13 @@ IsWhereKnown None reply = Unit {0}
 IsWhereKnown (Some a) reply = reply ≡ a
 
 -- the entry at that place has the request, and the reply where there is one
-pub record IsAnswered (H : List Entry) (place : ℕ) (a : Answered) : Type 0 where
+pub record IsAnswered (H : List Entry) (place : ℕ) (a : RecalledAnswer) : Type 0 where
   pub reply : Reply
   pub at : IsAt H place (record { request = a.request; reply = reply })
   pub is : IsWhereKnown a.reply reply
 
 -- so it is of each history of which the tables are the rows
-abbrev pub IsAnsweredAt : ℕ → Database → Answered → Type 0
+abbrev pub IsAnsweredAt : ℕ → Database → RecalledAnswer → Type 0
 IsAnsweredAt place db a =
     (zone : Zone) (default : ℕ) (H : List Entry) → HasBook (book_of zone default H) db → IsAnswered H place a
 
@@ -55,20 +55,20 @@ IsTold day D H e None = stays day D H e ≡ is_set e.request e.reply
 IsTold day D H e (Some b) = stays day D H e ≡ b
 
 -- so it is of an entry with that request, and with that reply where there is one
-abbrev pub TellsStaying : Zone → ℕ → Answered → Database → Option Bool → Type 0
+abbrev pub TellsStaying : Zone → ℕ → RecalledAnswer → Database → Option Bool → Type 0
 TellsStaying zone D a db told =
     (default : ℕ) (H : List Entry) → HasBook (book_of zone default H) db
     → (reply : Reply) → IsWhereKnown a.reply reply
     → IsTold (day_of zone) D H (record { request = a.request; reply = reply }) told
 
 -- the entry at that place has the request, and it is told whether it stays
-pub record IsJudged (day : ℕ → ℕ) (D : ℕ) (H : List Entry) (place : ℕ) (judged : Judged) : Type 0 where
+pub record IsJudged (day : ℕ → ℕ) (D : ℕ) (H : List Entry) (place : ℕ) (judged : JudgedAnswer) : Type 0 where
   pub reply : Reply
   pub at : IsAt H place (record { request = judged.request; reply = reply })
   pub told : IsTold day D H (record { request = judged.request; reply = reply }) judged.is_staying
 
 -- so it is of each history of which the tables are the rows
-abbrev pub IsJudgedAt : Zone → ℕ → ℕ → Database → Judged → Type 0
+abbrev pub IsJudgedAt : Zone → ℕ → ℕ → Database → JudgedAnswer → Type 0
 IsJudgedAt zone D place db judged =
     (default : ℕ) (H : List Entry) → HasBook (book_of zone default H) db → IsJudged (day_of zone) D H place judged
 

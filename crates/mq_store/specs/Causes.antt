@@ -12,27 +12,27 @@ use Rattle.mq_ledger.specs.declared.zone.Zone.{Zone}
 use Rattle.mq_ledger.specs.Answer.{known_by}
 use Rattle.mq_store.specs.declared.fault.StoreCause.{StoreCause}
 use Rattle.mq_store.specs.declared.fault.StoreCause.TheVariants as cause
-use Rattle.mq_store.specs.declared.fault.Refused.{Refused}
-use Rattle.mq_store.specs.declared.fault.Refused.TheVariants.{Memory, Store}
+use Rattle.mq_store.specs.declared.fault.Refusal.{Refusal}
+use Rattle.mq_store.specs.declared.fault.Refusal.TheVariants.{Memory, Store}
 use Rattle.mq_store.specs.Taking.{HasBook, book_of}
 
 -- where the library refuses a statement so: memory that runs out, and any other cause
-abbrev pub refused_by : Error → Refused
+abbrev pub refused_by : Error → Refusal
 refused_by (SqliteFailure OutOfMemory) = Memory
 refused_by e = Store (cause.Refused e)
 
 -- where the rows that were read decide nothing
-abbrev pub refused_at : LedgerFault → Refused
+abbrev pub refused_at : LedgerFault → Refusal
 refused_at ledger.Memory = Memory
 refused_at ledger.Store = Store cause.Content
 
 -- what the ledger answers
-abbrev pub answer_to : Refused → LedgerFault
+abbrev pub answer_to : Refusal → LedgerFault
 answer_to Memory = ledger.Memory
 answer_to (Store c) = ledger.Store
 
 -- why the store failed, where it did
-abbrev pub cause_in : Refused → Option StoreCause
+abbrev pub cause_in : Refusal → Option StoreCause
 cause_in Memory = None
 cause_in (Store c) = Some c
 
@@ -43,14 +43,14 @@ IsCauseOver H (Some (cause.Refused e)) = ⊤
 IsCauseOver H (Some cause.Content) = 4611686018427387904 ≤ length H
 
 -- so it is, whatever the history is of which the tables are the rows
-abbrev pub StopsOver : Zone → ℕ → Database → Refused → Type 0
+abbrev pub StopsOver : Zone → ℕ → Database → Refusal → Type 0
 StopsOver zone default db refused = (H : List Entry) → HasBook (book_of zone default H) db → IsCauseOver H (cause_in refused)
 
 -- so it is where the number is new
-abbrev pub StopsNew : Zone → ℕ → Id → Database → Refused → Type 0
+abbrev pub StopsNew : Zone → ℕ → Id → Database → Refusal → Type 0
 StopsNew zone default id db refused =
     (H : List Entry) → HasBook (book_of zone default H) db → known_by H (Some id) ≡ false → IsCauseOver H (cause_in refused)
 
 -- so it is whatever the zone is
-abbrev pub StopsReading : ℕ → Database → Refused → Type 0
+abbrev pub StopsReading : ℕ → Database → Refusal → Type 0
 StopsReading default db refused = (zone : Zone) → StopsOver zone default db refused

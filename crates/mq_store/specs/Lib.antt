@@ -3,6 +3,7 @@ pub mod Causes
 pub mod Opening
 pub mod Soundness
 pub mod Taking
+pub mod Inside
 pub mod GivingUp
 pub mod Paging
 pub mod Crash

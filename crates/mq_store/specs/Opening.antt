@@ -32,9 +32,9 @@ use Rattle.mq_tables.specs.Settings.{SettingRow, HasSetting, shown_of, rule_text
 use Rattle.mq_store.specs.declared.fault.OpenFault.{OpenFault}
 use Rattle.mq_store.specs.declared.fault.OpenFault.TheVariants.{NotOurs, ZoneDiffers, DefaultDiffers, Damaged}
 use Rattle.mq_store.specs.declared.fault.OpenFault.TheVariants.{Memory, Store}
-use Rattle.mq_store.specs.declared.fault.Refused.{Refused}
-use Rattle.mq_store.specs.declared.opening.Known.{Known}
-use Rattle.mq_store.specs.declared.fault.Refused.TheVariants as refused
+use Rattle.mq_store.specs.declared.fault.Refusal.{Refusal}
+use Rattle.mq_store.specs.declared.opening.KnownLedger.{KnownLedger}
+use Rattle.mq_store.specs.declared.fault.Refusal.TheVariants as refused
 use Rattle.mq_store.specs.declared.fault.StoreCause.TheVariants as cause
 use Rattle.mq_store.specs.Auditing.{IsAuditIn}
 
@@ -242,19 +242,19 @@ IsOf zone default schema s rule r =
 -- What an audit finds after the settings.
 
 -- memory or the store stopped it
-abbrev pub open_fault : Refused → OpenFault
+abbrev pub open_fault : Refusal → OpenFault
 open_fault refused.Memory = Memory
 open_fault (refused.Store c) = Store c
 
 -- nothing where each pair is right, else the pair that isn't
-abbrev pub audit_fault : Result Audit Refused → Option OpenFault
+abbrev pub audit_fault : Result Audit Refusal → Option OpenFault
 audit_fault (Ok (Sound days transactions)) = None
 audit_fault (Ok (Wrong login day)) = Some (Damaged login day)
 audit_fault (Err fault) = Some (open_fault fault)
 
 -- the fault is that of an audit of these rows
 pub record IsChecked (zone : Zone) (default : ℕ) (db : Database) (fault : Option OpenFault) : Type 0 where
-  pub found : Result Audit Refused
+  pub found : Result Audit Refusal
   pub is_audit : IfOk found (IsAuditIn zone default db)
   pub fault_is : fault ≡ audit_fault found
 
@@ -278,7 +278,7 @@ abbrev pub IsFoundOf : Zone → ℕ → Database → SettingRow → Option (List
 IsFoundOf zone default db s rule = IsInTurn (IsOf zone default db.schema s rule) (IsChecked zone default db)
 
 -- the version that was found, or why it isn't this ledger
-abbrev pub version_of : Result Known OpenFault → Result ℕ OpenFault
+abbrev pub version_of : Result KnownLedger OpenFault → Result ℕ OpenFault
 version_of (Ok known) = Ok known.version
 version_of (Err f) = Err f
 

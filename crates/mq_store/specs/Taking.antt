@@ -18,8 +18,8 @@ use Rattle.mq_rows.specs.Rows.{IsSetting, answer_rows}
 use Rattle.mq_rows.specs.Tables.{Tables, AreLimits, AreRetired, AreRows}
 use Rattle.mq_rows.specs.Written.{MovesLead, LeadTo}
 use Rattle.mq_tables.specs.Ledger.{HasLedger, IsCurrent}
-use Rattle.mq_store.specs.declared.take.Taken.{Taken}
-use Rattle.mq_store.specs.declared.take.Taken.TheVariants.{Read, Written}
+use Rattle.mq_store.specs.declared.take.TakenRequest.{TakenRequest}
+use Rattle.mq_store.specs.declared.take.TakenRequest.TheVariants.{Read, Written}
 
 -- the tables are the rows of this book, in the version that a ledger has once it is opened
 pub record HasRows (b : Book) (db : Database) : Type 0 where
@@ -106,7 +106,7 @@ ArrivesAs is zone default r old =
     (H : List Entry) → HasBook (book_of zone default H) old → is_first (requests H) r ≡ is
 
 -- so it is; the first request of its number is written, and at any other the store is as it was
-abbrev pub IsTaken : Zone → ℕ → Request → Database → Database → Taken → Type 0
+abbrev pub IsTaken : Zone → ℕ → Request → Database → Database → TakenRequest → Type 0
 IsTaken zone default r old new (Read a) =
     Applies zone default r a old new × (new ≡ old) × ArrivesAs false zone default r old
 IsTaken zone default r old new (Written a) = Applies zone default r a old new × ArrivesAs true zone default r old
@@ -119,6 +119,6 @@ IsReplied default r db a =
     (zone : Zone) (H : List Entry) → HasBook (book_of zone default H) db → a ≡ reply (day_of zone) default H r
 
 -- the reply, whether anything was written or not
-abbrev pub reply_in : Taken → Reply
+abbrev pub reply_in : TakenRequest → Reply
 reply_in (Read a) = a
 reply_in (Written a) = a

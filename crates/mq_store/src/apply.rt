@@ -10,8 +10,8 @@ ghost use Rattle.mq_store.specs.Crash.{LeavesNew, LeavesOld, AreApplied};
 ghost use Rattle.mq_store.specs.Soundness.{HasKept};
 ghost use Rattle.mq_store.specs.Taking.{Applies};
 
-use crate::fault::Refused;
-use crate::take::{Taken, take};
+use crate::fault::Refusal;
+use crate::take::{TakenRequest, take};
 use mq_ledger::Zone;
 use mq_request::{Reply, Request};
 use mq_tables::laws::trees_have_one_schema;
@@ -25,7 +25,7 @@ pub(crate) fn apply<S: Alter>(
     zone: Zone,
     default: u32,
     request: &Request,
-) -> Result<Reply, Refused>
+) -> Result<Reply, Refusal>
     requires in_range { IsRequest request.now }
     requires autocommit { connection.old.in_transaction ≡ false }
     ensures autocommit { connection.new.in_transaction ≡ false }
@@ -40,19 +40,22 @@ pub(crate) fn apply<S: Alter>(
     ensures cause { HasCleanDisk (state S.Store connection.new)
         → IfErr result (StopsOver zone default (state S.Store connection.old).now) }
     ensures crash_new { HasCleanDisk (state S.Store connection.new) → IfOk result
-        (λ a. LeavesNew zone default request.now a (state S.Store connection.old) (state S.Store connection.new)) }
+        (λ a. LeavesNew zone default request.now a (state S.Store connection.old)
+        (state S.Store connection.new)) }
     ensures crash_old { HasCleanDisk (state S.Store connection.new) → OnOk result
-        (LeavesOld zone default request.now (state S.Store connection.old) (state S.Store connection.new)) }
+        (LeavesOld zone default request.now (state S.Store connection.old)
+        (state S.Store connection.new)) }
     ensures crash_err { HasCleanDisk (state S.Store connection.new) → OnErr result ((db : Trees)
         → (state S.Store connection.new).may_leave db → (state S.Store connection.old).may_leave db
         ⊎ AreApplied zone default request.now (state S.Store connection.old).now db) }
 {
     trees_have_one_schema();
+    // (its clause says that outside a transaction the tables are those of the last commit)
     let _settled = connection.is_autocommit();
     let mut tx = connection.transaction();
     let reply = match take(alloc, &mut tx, zone, default, request)? {
-        Taken::Read(reply) => return Ok(reply),
-        Taken::Written(reply) => reply,
+        TakenRequest::Read(reply) => return Ok(reply),
+        TakenRequest::Written(reply) => reply,
     };
     tx.commit()?;
     Ok(reply)

@@ -8,7 +8,7 @@ ghost use Rattle.mq_rows.specs.Books.{AreBooksOf, no_rows};
 ghost use Rattle.mq_tables.specs.Reading.{Spares};
 ghost use Rattle.mq_store.specs.Auditing.{IsAuditOfAll, IsAuditIn};
 
-use crate::fault::Refused;
+use crate::fault::Refusal;
 use mq_ledger::Zone;
 use mq_rows::{Audit, Books};
 use mq_tables::figures::{read_figures, rows_have_figures};
@@ -25,14 +25,16 @@ pub struct RowCounts {
 }
 
 /// What an audit answers by books that have no row yet.
-fn audit_by<S: Alter>(connection: &mut Connection<S>, books: &mut Books) -> Result<Audit, Refused>
+fn audit_by<S: Alter>(connection: &mut Connection<S>, books: &mut Books) -> Result<Audit, Refusal>
     requires autocommit { connection.old.in_transaction ≡ false }
     ensures autocommit { connection.new.in_transaction ≡ false }
     ensures limit { connection.new.step_limit ≡ connection.old.step_limit }
-    ensures clean { HasCleanDisk (state S.Store connection.new) → HasCleanDisk (state S.Store connection.old) }
+    ensures clean { HasCleanDisk (state S.Store connection.new)
+        → HasCleanDisk (state S.Store connection.old) }
     ensures open { HasCleanDisk (state S.Store connection.new)
         → OnOk result (IsTrue (state S.Store connection.old).is_open) }
-    ensures audited { HasCleanDisk (state S.Store connection.new) → IfOk result (λ audit. (zone : AnyZone) (default : ℕ)
+    ensures audited { HasCleanDisk (state S.Store connection.new)
+        → IfOk result (λ audit. (zone : AnyZone) (default : ℕ)
         → AreBooksOf zone default no_rows books.old
         → IsAuditOfAll zone default (state S.Store connection.old).now audit) }
     ensures spares { HasCleanDisk (state S.Store connection.new)
@@ -48,11 +50,12 @@ pub(crate) fn audit_store<S: Alter>(
     connection: &mut Connection<S>,
     zone: Zone,
     default: u32,
-) -> Result<Audit, Refused>
+) -> Result<Audit, Refusal>
     requires autocommit { connection.old.in_transaction ≡ false }
     ensures autocommit { connection.new.in_transaction ≡ false }
     ensures limit { connection.new.step_limit ≡ connection.old.step_limit }
-    ensures clean { HasCleanDisk (state S.Store connection.new) → HasCleanDisk (state S.Store connection.old) }
+    ensures clean { HasCleanDisk (state S.Store connection.new)
+        → HasCleanDisk (state S.Store connection.old) }
     ensures open { HasCleanDisk (state S.Store connection.new)
         → OnOk result (IsTrue (state S.Store connection.old).is_open) }
     ensures audited { HasCleanDisk (state S.Store connection.new)
@@ -60,6 +63,7 @@ pub(crate) fn audit_store<S: Alter>(
     ensures spares { HasCleanDisk (state S.Store connection.new)
         → Spares (state S.Store connection.old) (state S.Store connection.new) }
 {
+    // (its clause says that what an open connection has is a sound database)
     let _sound = connection.schema();
     rows_have_figures();
     let mut books = Books::new(alloc, zone, default);

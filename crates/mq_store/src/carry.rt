@@ -1,26 +1,29 @@
-//! What is remembered of an old store, put into a new one step by step, inside a transaction of each.
+//! What is remembered of an old store, put into a new one step by step, inside a transaction of
+//! each.
 //!
-//! A step looks at one answer of the old store, and the new one takes its request where the answer stays. A limit from
-//! an earlier day stays where it was set. Its row says so by the reply, which a retire clears where it gives the run
-//! up. Such a reply is found again by a scratch ledger in memory, which applies the requests of the old store up to
-//! that one, in their order, one a step. It goes on from where it was, so that it applies each at most once, and none
-//! where no such reply is wanted.
+//! A step looks at one answer of the old store, and the new one takes its request where the answer
+//! stays. A limit from an earlier day stays where it was set. Its row says so by the reply, which a
+//! retire clears where it gives the run up. Such a reply is found again by a scratch ledger in
+//! memory, which applies the requests of the old store up to that one, in their order, one a step.
+//! It goes on from where it was, so that it applies each at most once, and none where no such reply
+//! is wanted.
 
-ghost use Rattle.std.specs.Prelude.{◌≡◌, ◌<◌, ◌≤◌, ◌+◌, ◌^◌, None, IsTrue, IfOk, OnOk};
+ghost use Rattle.std.specs.Prelude.{◌<◌, ◌+◌, ◌^◌, None, IsTrue, IfOk, OnOk};
 ghost use Rattle.sqlite.specs.Held.{state};
 ghost use Rattle.sqlite.specs.State.{HasCleanDisk};
 ghost use Rattle.sqlite.specs.Steps.{over_memory};
 ghost use Rattle.mq_request.specs.Range.{IsRequest};
-ghost use Rattle.mq_tables.specs.Inside.{LeavesCommit};
+ghost use Rattle.mq_tables.specs.Inside.{IsInside, LeavesCommit};
+ghost use Rattle.mq_store.specs.Inside.{Answers, ChangesNothing, Finds, StaysInside, Turns};
 ghost use Rattle.mq_store.specs.Carrying.{IsJudgedAt, Follows, SetsAgain, CarriesOne};
 ghost use Rattle.mq_store.specs.Renewing.{Renews, RenewsBy};
-ghost use Rattle.mq_store.specs.Taking.{Stays, Applies};
+ghost use Rattle.mq_store.specs.Taking.{Applies};
 
-use crate::fault::Refused;
+use crate::fault::Refusal;
 use crate::laws::{entries_are_carried, entries_are_followed};
-use crate::reached::Reached;
+use crate::reached::RenewalPlace;
 use crate::recall::{answered_at, is_set, stays};
-use crate::take::{Taken, take};
+use crate::take::{TakenRequest, take};
 use mq_ledger::Zone;
 use mq_request::{Reply, Request};
 use sqlite::{Alter, MemStore, Transaction};
@@ -36,9 +39,10 @@ pub(crate) struct Terms {
     pub day: u32,
 }
 
-/// The request of an answer, and whether it stays. `None`: only its reply could tell, and that was cleared.
+/// The request of an answer, and whether it stays. `None`: only its reply could tell, and that was
+/// cleared.
 #[derive(Drop)]
-pub(crate) struct Judged {
+pub(crate) struct JudgedAnswer {
     pub request: Request,
     pub is_staying: Option<bool>,
 }
@@ -50,18 +54,17 @@ fn judge<S: Alter>(
     from: &mut Transaction<'_, S>,
     terms: &Terms,
     place: u64,
-) -> Result<Judged, Refused>
+) -> Result<JudgedAnswer, Refusal>
     requires { place + 1 < 2 ^ 63 }
-    ensures stays { HasCleanDisk (state S.Store from.new.conn.now)
-        → OnOk result (Stays (state S.Store from.old.conn.now) (state S.Store from.new.conn.now)) }
-    ensures judged { HasCleanDisk (state S.Store from.new.conn.now)
-        → IfOk result (IsJudgedAt terms.now.zone terms.now.day place (state S.Store from.old.conn.now).now) }
+    ensures stays { ChangesNothing S.Store from.old from.new result }
+    ensures judged { Finds S.Store from.old from.new result
+        (IsJudgedAt terms.now.zone terms.now.day place) }
     ensures in_range { IfOk result (λ judged. IsRequest judged.request) }
     ensures leaves { LeavesCommit S.Store from.old from.new }
 {
     let answered = answered_at(alloc, from, place)?;
     let is_staying = stays(from, terms.zone, terms.day, &answered)?;
-    Ok(Judged {
+    Ok(JudgedAnswer {
         request: answered.request,
         is_staying,
     })
@@ -73,20 +76,17 @@ fn take_any<S: Alter>(
     tx: &mut Transaction<'_, S>,
     terms: &Terms,
     request: &Request,
-) -> Result<Reply, Refused>
+) -> Result<Reply, Refusal>
     requires in_range { IsRequest request.now }
-    requires inside { HasCleanDisk (state S.Store tx.old.conn.now)
-        → IsTrue (state S.Store tx.old.conn.now).in_transaction }
-    ensures inside { HasCleanDisk (state S.Store tx.new.conn.now)
-        → OnOk result (IsTrue (state S.Store tx.new.conn.now).in_transaction) }
-    ensures taken { HasCleanDisk (state S.Store tx.new.conn.now)
-        → IfOk result (λ a. Applies terms.now.zone terms.now.default request.now a
-        (state S.Store tx.old.conn.now).now (state S.Store tx.new.conn.now).now) }
+    requires inside { IsInside S.Store tx.old }
+    ensures inside { StaysInside S.Store tx.old tx.new result }
+    ensures taken { Answers S.Store tx.old tx.new result
+        (Applies terms.now.zone terms.now.default request.now) }
     ensures leaves { LeavesCommit S.Store tx.old tx.new }
 {
     match take(alloc, tx, terms.zone, terms.default, request)? {
-        Taken::Read(reply) => Ok(reply),
-        Taken::Written(reply) => Ok(reply),
+        TakenRequest::Read(reply) => Ok(reply),
+        TakenRequest::Written(reply) => Ok(reply),
     }
 }
 
@@ -98,33 +98,34 @@ fn follow_one<S: Alter>(
     scratch: &mut Transaction<'_, MemStore>,
     terms: &Terms,
     place: u64,
-) -> Result<(), Refused>
+) -> Result<(), Refusal>
     requires place { place + 1 < 2 ^ 63 }
     requires inside { IsTrue (state over_memory scratch.old.conn.now).in_transaction }
-    ensures stays { HasCleanDisk (state S.Store from.new.conn.now)
-        → OnOk result (Stays (state S.Store from.old.conn.now) (state S.Store from.new.conn.now)) }
+    ensures stays { ChangesNothing S.Store from.old from.new result }
     ensures inside { OnOk result (IsTrue (state over_memory scratch.new.conn.now).in_transaction) }
     ensures follows { HasCleanDisk (state S.Store from.new.conn.now)
-        → OnOk result (Follows terms.now.zone terms.now.default place (state S.Store from.old.conn.now).now
+        → OnOk result (Follows terms.now.zone terms.now.default place
+        (state S.Store from.old.conn.now).now
         (state over_memory scratch.old.conn.now).now (state over_memory scratch.new.conn.now).now) }
     ensures from_leaves { LeavesCommit S.Store from.old from.new }
     ensures scratch_leaves { LeavesCommit over_memory scratch.old scratch.new }
 {
     entries_are_followed();
     let answered = answered_at(alloc, from, place)?;
+    // (the old ledger gave it)
     let _reply = take_any(alloc, scratch, terms, &answered.request)?;
     Ok(())
 }
 
-/// Whether a request, the next that the scratch ledger has to apply, is a limit that was set: by the reply that it gets
-/// there.
+/// Whether a request, the next that the scratch ledger has to apply, is a limit that was set: by
+/// the reply that it gets there.
 #[tactic(auto, using(crate::proofs::Chain::calls))]
 fn set_again(
     alloc: Global,
     scratch: &mut Transaction<'_, MemStore>,
     terms: &Terms,
     request: &Request,
-) -> Result<bool, Refused>
+) -> Result<bool, Refusal>
     requires in_range { IsRequest request.now }
     requires inside { IsTrue (state over_memory scratch.old.conn.now).in_transaction }
     ensures inside { OnOk result (IsTrue (state over_memory scratch.new.conn.now).in_transaction) }
@@ -145,27 +146,25 @@ fn carry_one<T: Alter>(
     terms: &Terms,
     request: &Request,
     is_staying: bool,
-) -> Result<(), Refused>
+) -> Result<(), Refusal>
     requires in_range { IsRequest request.now }
-    requires inside { HasCleanDisk (state T.Store into.old.conn.now)
-        → IsTrue (state T.Store into.old.conn.now).in_transaction }
-    ensures inside { HasCleanDisk (state T.Store into.new.conn.now)
-        → OnOk result (IsTrue (state T.Store into.new.conn.now).in_transaction) }
-    ensures carried { HasCleanDisk (state T.Store into.new.conn.now)
-        → OnOk result (CarriesOne terms.now.zone terms.now.default terms.now.day request.now is_staying
-        (state T.Store into.old.conn.now).now (state T.Store into.new.conn.now).now) }
+    requires inside { IsInside T.Store into.old }
+    ensures inside { StaysInside T.Store into.old into.new result }
+    ensures carried { Turns T.Store into.old into.new result
+        (CarriesOne terms.now.zone terms.now.default terms.now.day request.now is_staying) }
     ensures leaves { LeavesCommit T.Store into.old into.new }
 {
     entries_are_carried();
     if !is_staying {
         return Ok(());
     }
+    // (the old ledger gave it)
     let _reply = take_any(alloc, into, terms, request)?;
     Ok(())
 }
 
-/// A step at an answer of which only the reply could tell. The scratch ledger finds it again, or where it isn't there
-/// yet, goes on by one answer.
+/// A step at an answer of which only the reply could tell. The scratch ledger finds it again, or
+/// where it isn't there yet, goes on by one answer.
 #[tactic(auto, using(crate::proofs::Chain::calls))]
 fn step_apart<S: Alter, T: Alter>(
     alloc: Global,
@@ -173,40 +172,39 @@ fn step_apart<S: Alter, T: Alter>(
     into: &mut Transaction<'_, T>,
     scratch: &mut Transaction<'_, MemStore>,
     terms: &Terms,
-    at: Reached,
+    at: RenewalPlace,
     request: &Request,
-) -> Result<Reached, Refused>
+) -> Result<RenewalPlace, Refusal>
     requires place { at.place + 1 < 2 ^ 63 }
     requires in_range { IsRequest request.now }
     requires inside { IsTrue (state over_memory scratch.old.conn.now).in_transaction }
-    requires into_inside { HasCleanDisk (state T.Store into.old.conn.now)
-        → IsTrue (state T.Store into.old.conn.now).in_transaction }
-    ensures stays { HasCleanDisk (state S.Store from.new.conn.now)
-        → OnOk result (Stays (state S.Store from.old.conn.now) (state S.Store from.new.conn.now)) }
+    requires into_inside { IsInside T.Store into.old }
+    ensures stays { ChangesNothing S.Store from.old from.new result }
     ensures inside { OnOk result (IsTrue (state over_memory scratch.new.conn.now).in_transaction) }
-    ensures into_inside { HasCleanDisk (state T.Store into.new.conn.now)
-        → OnOk result (IsTrue (state T.Store into.new.conn.now).in_transaction) }
+    ensures into_inside { StaysInside T.Store into.old into.new result }
     ensures more { IfOk result (λ to. at.place + at.followed < to.place + to.followed) }
-    ensures renews { HasCleanDisk (state S.Store from.new.conn.now) → HasCleanDisk (state T.Store into.new.conn.now)
+    ensures renews { HasCleanDisk (state S.Store from.new.conn.now)
+        → HasCleanDisk (state T.Store into.new.conn.now)
         → IfOk result (λ to. RenewsBy terms.now.zone terms.now.default terms.now.day
-        (record { request = request.now; is_staying = None }) at to (state S.Store from.old.conn.now).now
+        (record { request = request.now; is_staying = None }) at to
+        (state S.Store from.old.conn.now).now
         (state T.Store into.old.conn.now).now (state T.Store into.new.conn.now).now
         (state over_memory scratch.old.conn.now).now (state over_memory scratch.new.conn.now).now) }
     ensures from_leaves { LeavesCommit S.Store from.old from.new }
     ensures into_leaves { LeavesCommit T.Store into.old into.new }
     ensures scratch_leaves { LeavesCommit over_memory scratch.old scratch.new }
 {
-    let Reached { place, followed } = at;
+    let RenewalPlace { place, followed } = at;
     if followed < place {
         follow_one(alloc, from, scratch, terms, followed)?;
-        return Ok(Reached {
+        return Ok(RenewalPlace {
             place,
             followed: followed + 1,
         });
     }
     let is_staying = set_again(alloc, scratch, terms, request)?;
     carry_one(alloc, into, terms, request, is_staying)?;
-    Ok(Reached {
+    Ok(RenewalPlace {
         place: place + 1,
         followed: place + 1,
     })
@@ -220,22 +218,21 @@ fn step_by<S: Alter, T: Alter>(
     into: &mut Transaction<'_, T>,
     scratch: &mut Transaction<'_, MemStore>,
     terms: &Terms,
-    at: Reached,
-    judged: &Judged,
-) -> Result<Reached, Refused>
+    at: RenewalPlace,
+    judged: &JudgedAnswer,
+) -> Result<RenewalPlace, Refusal>
     requires place { at.place + 1 < 2 ^ 63 }
     requires in_range { IsRequest judged.now.request }
     requires inside { IsTrue (state over_memory scratch.old.conn.now).in_transaction }
-    requires into_inside { HasCleanDisk (state T.Store into.old.conn.now)
-        → IsTrue (state T.Store into.old.conn.now).in_transaction }
-    ensures stays { HasCleanDisk (state S.Store from.new.conn.now)
-        → OnOk result (Stays (state S.Store from.old.conn.now) (state S.Store from.new.conn.now)) }
+    requires into_inside { IsInside T.Store into.old }
+    ensures stays { ChangesNothing S.Store from.old from.new result }
     ensures inside { OnOk result (IsTrue (state over_memory scratch.new.conn.now).in_transaction) }
-    ensures into_inside { HasCleanDisk (state T.Store into.new.conn.now)
-        → OnOk result (IsTrue (state T.Store into.new.conn.now).in_transaction) }
+    ensures into_inside { StaysInside T.Store into.old into.new result }
     ensures more { IfOk result (λ to. at.place + at.followed < to.place + to.followed) }
-    ensures renews { HasCleanDisk (state S.Store from.new.conn.now) → HasCleanDisk (state T.Store into.new.conn.now)
-        → IfOk result (λ to. RenewsBy terms.now.zone terms.now.default terms.now.day judged.now at to
+    ensures renews { HasCleanDisk (state S.Store from.new.conn.now)
+        → HasCleanDisk (state T.Store into.new.conn.now)
+        → IfOk result (λ to. RenewsBy terms.now.zone terms.now.default terms.now.day judged.now at
+        to
         (state S.Store from.old.conn.now).now
         (state T.Store into.old.conn.now).now (state T.Store into.new.conn.now).now
         (state over_memory scratch.old.conn.now).now (state over_memory scratch.new.conn.now).now) }
@@ -247,7 +244,7 @@ fn step_by<S: Alter, T: Alter>(
     match judged.is_staying {
         Some(is_staying) => {
             carry_one(alloc, into, terms, request, is_staying)?;
-            Ok(Reached {
+            Ok(RenewalPlace {
                 place: at.place + 1,
                 followed: at.followed,
             })
@@ -256,8 +253,8 @@ fn step_by<S: Alter, T: Alter>(
     }
 }
 
-/// Takes over the answer at the place that was reached, where it stays. Where only its reply could tell, and the scratch
-/// ledger isn't there yet, that one goes on by one answer instead.
+/// Takes over the answer at the place that was reached, where it stays. Where only its reply could
+/// tell, and the scratch ledger isn't there yet, that one goes on by one answer instead.
 #[tactic(auto, using(crate::proofs::Chain::calls))]
 pub(crate) fn step<S: Alter, T: Alter>(
     alloc: Global,
@@ -265,19 +262,17 @@ pub(crate) fn step<S: Alter, T: Alter>(
     into: &mut Transaction<'_, T>,
     scratch: &mut Transaction<'_, MemStore>,
     terms: &Terms,
-    at: Reached,
-) -> Result<Reached, Refused>
+    at: RenewalPlace,
+) -> Result<RenewalPlace, Refusal>
     requires place { at.place + 1 < 2 ^ 63 }
     requires inside { IsTrue (state over_memory scratch.old.conn.now).in_transaction }
-    requires into_inside { HasCleanDisk (state T.Store into.old.conn.now)
-        → IsTrue (state T.Store into.old.conn.now).in_transaction }
-    ensures stays { HasCleanDisk (state S.Store from.new.conn.now)
-        → OnOk result (Stays (state S.Store from.old.conn.now) (state S.Store from.new.conn.now)) }
+    requires into_inside { IsInside T.Store into.old }
+    ensures stays { ChangesNothing S.Store from.old from.new result }
     ensures inside { OnOk result (IsTrue (state over_memory scratch.new.conn.now).in_transaction) }
-    ensures into_inside { HasCleanDisk (state T.Store into.new.conn.now)
-        → OnOk result (IsTrue (state T.Store into.new.conn.now).in_transaction) }
+    ensures into_inside { StaysInside T.Store into.old into.new result }
     ensures more { IfOk result (λ to. at.place + at.followed < to.place + to.followed) }
-    ensures renews { HasCleanDisk (state S.Store from.new.conn.now) → HasCleanDisk (state T.Store into.new.conn.now)
+    ensures renews { HasCleanDisk (state S.Store from.new.conn.now)
+        → HasCleanDisk (state T.Store into.new.conn.now)
         → IfOk result (λ to. Renews terms.now.zone terms.now.default terms.now.day at to
         (state S.Store from.old.conn.now).now
         (state T.Store into.old.conn.now).now (state T.Store into.new.conn.now).now

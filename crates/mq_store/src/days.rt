@@ -9,17 +9,19 @@ ghost use Rattle.mq_rows.specs.Tables.{Tables};
 ghost use Rattle.mq_tables.specs.Inside.{LeavesCommit};
 ghost use Rattle.mq_tables.specs.Ledger.{HasLedger};
 ghost use Rattle.mq_tables.specs.Reading.{Spares};
+ghost use Rattle.mq_store.specs.Inside.{Finds};
 ghost use Rattle.mq_store.specs.Days.{AreDaysOf, AreReservedDays};
 ghost use Rattle.mq_store.specs.Soundness.{book_in, HasKept, IsSound};
 
-use crate::fault::{Refused, noted};
+use crate::fault::{Refusal, noted};
 use crate::ledger::SqlLedger;
 use mq_ledger::LedgerFault;
 use mq_rows::laws::days_are_reserved;
 use mq_tables::days::{newest_day, oldest_day};
 use sqlite::{Alter, Connection, Error, Transaction};
 
-/// The first day on which a reserve was granted, and the last. A day counts too where all of its reserves were released.
+/// The first day on which a reserve was granted, and the last. A day counts too where all of its
+/// reserves were released.
 #[derive(Clone, Copy, Debug, PartialEq, Eq)]
 pub struct ReservedDays {
     /// Days since 1970-01-01, by the ledger's zone.
@@ -28,10 +30,10 @@ pub struct ReservedDays {
     pub newest: u32,
 }
 
+/// The earliest day of the rows of `usage`, and the latest, inside a transaction.
 #[tactic(auto, using(crate::proofs::Chain::calls))]
 fn days_in<S: Alter>(tx: &mut Transaction<'_, S>) -> Result<Option<ReservedDays>, Error>
-    ensures found { HasCleanDisk (state S.Store tx.new.conn.now)
-        → IfOk result (λ days. (t : Tables) → HasLedger (state S.Store tx.old.conn.now).now t
+    ensures found { Finds S.Store tx.old tx.new result (λ db days. (t : Tables) → HasLedger db t
         → AreDaysOf t.usage days) }
     ensures leaves { LeavesCommit S.Store tx.old tx.new }
 {
@@ -44,35 +46,38 @@ fn days_in<S: Alter>(tx: &mut Transaction<'_, S>) -> Result<Option<ReservedDays>
     Ok(Some(ReservedDays { oldest, newest }))
 }
 
-/// The earliest day of the rows of `usage`, and the latest. Nothing is written.
-fn days_in_store<S: Alter>(connection: &mut Connection<S>) -> Result<Option<ReservedDays>, Refused>
+/// The same in a transaction of its own. Nothing is written.
+fn days_in_store<S: Alter>(connection: &mut Connection<S>) -> Result<Option<ReservedDays>, Refusal>
     requires autocommit { connection.old.in_transaction ≡ false }
     ensures autocommit { connection.new.in_transaction ≡ false }
     ensures limit { connection.new.step_limit ≡ connection.old.step_limit }
-    ensures clean { HasCleanDisk (state S.Store connection.new) → HasCleanDisk (state S.Store connection.old) }
+    ensures clean { HasCleanDisk (state S.Store connection.new)
+        → HasCleanDisk (state S.Store connection.old) }
     ensures found { HasCleanDisk (state S.Store connection.new) → IfOk result (λ days. (t : Tables)
         → HasLedger (state S.Store connection.old).now t → AreDaysOf t.usage days) }
     ensures spares { HasCleanDisk (state S.Store connection.new)
         → Spares (state S.Store connection.old) (state S.Store connection.new) }
 {
+    // (its clause says that outside a transaction the tables are those of the last commit)
     let _settled = connection.is_autocommit();
     let mut tx = connection.transaction();
     Ok(days_in(&mut tx)?)
 }
 
 impl<S: Alter> SqlLedger<S> {
-    /// The first day on which a reserve was granted, and the last; `None` where none was. Nothing is written. Meanwhile the
-    /// days of all rows of `usage` are in memory.
+    /// The first day on which a reserve was granted, and the last; `None` where none was. Nothing
+    /// is written. Meanwhile the days of all rows of `usage` are in memory.
     ///
-    /// The fault is `Memory`, or `Store` where a statement was refused for another cause. A crash after it,
-    /// whatever it answered, leaves what a crash before it could leave.
+    /// The fault is `Memory`, or `Store` where a statement was refused for another cause. A crash
+    /// after it, whatever it answered, leaves what a crash before it could leave.
     pub fn days(&mut self) -> Result<Option<ReservedDays>, LedgerFault>
         ensures lent { (self.new.zone ≡ self.old.zone) × (self.new.default ≡ self.old.default) }
         ensures counts { self.new.found ≡ self.old.found }
         ensures noted { (result ≡ Err LedgerFault.Store) ↔ IsTrue (is_some self.new.cause) }
         ensures days { HasKept (state S.Store self.new.connection)
             → IsSound self.old.zone self.old.default (state S.Store self.old.connection)
-            → IfOk result (AreReservedDays (day_of self.old.zone) (book_in self.old.zone self.old.default
+            → IfOk result (AreReservedDays (day_of self.old.zone)
+            (book_in self.old.zone self.old.default
             (state S.Store self.old.connection).now).history) }
         ensures sound { HasKept (state S.Store self.new.connection)
             → IsSound self.old.zone self.old.default (state S.Store self.old.connection)
@@ -85,7 +90,8 @@ impl<S: Alter> SqlLedger<S> {
 
         // What an open after a crash may find.
         ensures crash { HasCleanDisk (state S.Store self.new.connection) → (db : Trees)
-            → (state S.Store self.new.connection).may_leave db → (state S.Store self.old.connection).may_leave db }
+            → (state S.Store self.new.connection).may_leave db
+            → (state S.Store self.old.connection).may_leave db }
     {
         days_are_reserved();
         self.cause = None;

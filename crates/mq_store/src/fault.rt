@@ -4,12 +4,14 @@ ghost use Rattle.std.specs.Prelude.{◌≡◌, ◌&&◌, Some, None};
 ghost use Rattle.std.specs.Ordering.{int_eq};
 ghost use Rattle.mq_ledger.specs.Day.{minutes_in, rule_in};
 ghost use Rattle.mq_store.specs.Causes.{answer_to, cause_in};
-ghost use Rattle.mq_store.specs.Opening.{fault_of, fault_of_code, fault_in, fault_where, fault_by_rule};
-ghost use Rattle.mq_store.specs.Opening.{fault_by_any_rule, fault_by_floors, known_version, same_rule, create_fault};
+ghost use Rattle.mq_store.specs.Opening.{fault_of, fault_of_code, fault_in, fault_where};
+ghost use Rattle.mq_store.specs.Opening.{fault_by_rule};
+ghost use Rattle.mq_store.specs.Opening.{fault_by_any_rule, fault_by_floors, known_version};
+ghost use Rattle.mq_store.specs.Opening.{same_rule, create_fault};
 ghost use Rattle.mq_store.specs.Opening.{open_fault, within};
 
 use mq_ledger::{LedgerFault, Zone};
-use mq_request::{Escaped, Login};
+use mq_request::{EscapedText, Login};
 use mq_tables::floor::are_floors;
 use mq_tables::rule::rule_of;
 use mq_tables::setting::Setting;
@@ -23,30 +25,33 @@ pub enum StoreCause {
     /// The store's library refused a statement. The text is its own, as `database or disk is full`.
     #[error("{0}")]
     Refused(Error),
-    /// The rows that were read are none of a ledger's; or a number is new where 4,611,686,018,427,387,904 answers are stored.
+    /// The rows that were read are none of a ledger's; or a number is new where
+    /// 4,611,686,018,427,387,904 answers are stored.
     #[error("rows are none of a ledger's")]
     Content,
 }
 
-/// Why a store isn't opened, or isn't made a ledger's. Of the first four, which speak of what it holds,
-/// the first that applies is told.
+/// Why a store isn't opened, or isn't made a ledger's. Of the first four, which speak of what it
+/// holds, the first that applies is told.
 #[derive(Debug, Drop, PartialEq, Described)]
 pub enum OpenFault {
-    /// To make: a table of one of the ledger's names is there. To open: the row of settings can't be read or
-    /// isn't there, or its version is none of a ledger's; what its version has for rule and floors can't be read,
-    /// or isn't there; or a table has a name that only a later version has.
+    /// To make: a table of one of the ledger's names is there. To open: the row of settings can't
+    /// be read or isn't there, or its version is none of a ledger's; what its version has for rule
+    /// and floors can't be read, or isn't there; or a table has a name that only a later version
+    /// has.
     #[error("store is not this ledger")]
     NotOurs,
-    /// It was made with another zone: with another offset, with another rule, or with one in place of
-    /// the other.
+    /// It was made with another zone: with another offset, with another rule, or with one in place
+    /// of the other.
     #[error("store has another zone")]
     ZoneDiffers,
     /// It was made with another default.
     #[error("store has another default")]
     DefaultDiffers,
-    /// To open: what the tables say of this login and ledger day doesn't agree; of all such pairs it is the
-    /// least, by the bytes of the login, then by the day. The text has the login as [`Escaped`] does.
-    #[error("store is damaged: login {name} day {day}", name = Escaped(.login.as_slice()))]
+    /// To open: what the tables say of this login and ledger day doesn't agree; of all such pairs
+    /// it is the least, by the bytes of the login, then by the day. The text has the login as
+    /// [`EscapedText`] does.
+    #[error("store is damaged: login {name} day {day}", name = EscapedText(.login.as_slice()))]
     Damaged { login: Login, day: i64 },
     /// A growth was refused. What the store holds isn't known.
     #[error("out of memory")]
@@ -117,7 +122,8 @@ fn has_rule(zone: &Zone, text: &[u8]) -> bool
 }
 
 fn is_zone_without_rule(zone: &Zone, setting: &Setting) -> bool
-    ensures { result ≡ int_eq setting.now.minutes (minutes_in zone.now) && same_rule (rule_in zone.now) None }
+    ensures { result ≡ int_eq setting.now.minutes (minutes_in zone.now)
+        && same_rule (rule_in zone.now) None }
 {
     setting.minutes == i64::from(zone.minutes()) && has_no_rule(zone)
 }
@@ -141,7 +147,8 @@ fn fault_where(is_zone: bool, default: u32, setting: &Setting) -> Option<OpenFau
     None
 }
 
-/// Why a ledger of that zone and default isn't opened where its settings are so, and it has no rule.
+/// Why a ledger of that zone and default isn't opened where its settings are so, and it has no
+/// rule.
 pub(crate) fn fault_without_rule(zone: Zone, default: u32, setting: &Setting) -> Option<OpenFault>
     ensures { result ≡ fault_in zone default setting.now None }
 {
@@ -201,7 +208,7 @@ pub(crate) fn fault_by_floors(floors: &Result<Vec<Row>, Error>) -> Option<OpenFa
 
 /// Why a request isn't taken, or something of a ledger isn't read.
 #[derive(Drop)]
-pub(crate) enum Refused {
+pub(crate) enum Refusal {
     /// A growth was refused.
     Memory,
     /// The store failed, for this cause.
@@ -209,12 +216,12 @@ pub(crate) enum Refused {
 }
 
 /// Why a ledger isn't opened where its audit is stopped so.
-pub(crate) fn open_fault(refused: Refused) -> OpenFault
+pub(crate) fn open_fault(refused: Refusal) -> OpenFault
     ensures { result ≡ open_fault refused }
 {
     match refused {
-        Refused::Memory => OpenFault::Memory,
-        Refused::Store(cause) => OpenFault::Store(cause),
+        Refusal::Memory => OpenFault::Memory,
+        Refusal::Store(cause) => OpenFault::Store(cause),
     }
 }
 
@@ -235,66 +242,67 @@ pub(crate) fn within() -> OpenFault
     OpenFault::Store(StoreCause::Refused(Error::SqliteFailure(ErrorCode::TransactionState)))
 }
 
-/// What a ledger answers. Its cause is noted where the store failed, and that there is none where memory ran out.
-pub(crate) fn noted(cause: &mut Option<StoreCause>, refused: Refused) -> LedgerFault
+/// What a ledger answers. Its cause is noted where the store failed, and that there is none where
+/// memory ran out.
+pub(crate) fn noted(cause: &mut Option<StoreCause>, refused: Refusal) -> LedgerFault
     ensures answer { result ≡ answer_to refused }
     ensures noted { cause.new ≡ cause_in refused }
 {
     match refused {
-        Refused::Memory => {
+        Refusal::Memory => {
             *cause = None;
             LedgerFault::Memory
         }
-        Refused::Store(found) => {
+        Refusal::Store(found) => {
             *cause = Some(found);
             LedgerFault::Store
         }
     }
 }
 
-impl From<Error> for Refused {
+impl From<Error> for Refusal {
     ghost use Rattle.mq_store.specs.Causes.{refused_by};
 
     ghost from_gives = { λ error refused. refused ≡ refused_by error };
 
-    fn from(error: Error) -> Refused {
+    fn from(error: Error) -> Refusal {
         match error {
-            Error::SqliteFailure(ErrorCode::OutOfMemory) => Refused::Memory,
-            _ => Refused::Store(StoreCause::Refused(error)),
+            Error::SqliteFailure(ErrorCode::OutOfMemory) => Refusal::Memory,
+            _ => Refusal::Store(StoreCause::Refused(error)),
         }
     }
 }
 
 /// Rows that decide nothing are no ledger's.
-impl From<LedgerFault> for Refused {
+impl From<LedgerFault> for Refusal {
     ghost use Rattle.mq_store.specs.Causes.{refused_at};
 
     ghost from_gives = { λ fault refused. refused ≡ refused_at fault };
 
-    fn from(fault: LedgerFault) -> Refused {
+    fn from(fault: LedgerFault) -> Refusal {
         match fault {
-            LedgerFault::Memory => Refused::Memory,
-            LedgerFault::Store => Refused::Store(StoreCause::Content),
+            LedgerFault::Memory => Refusal::Memory,
+            LedgerFault::Store => Refusal::Store(StoreCause::Content),
         }
     }
 }
 
-impl From<AllocError> for Refused {
-    ghost use Rattle.mq_store.specs.declared.fault.Refused.TheVariants.{Memory};
+impl From<AllocError> for Refusal {
+    ghost use Rattle.mq_store.specs.declared.fault.Refusal.TheVariants.{Memory};
 
     ghost from_gives = { λ _ refused. refused ≡ Memory };
 
-    fn from(_error: AllocError) -> Refused {
-        Refused::Memory
+    fn from(_error: AllocError) -> Refusal {
+        Refusal::Memory
     }
 }
 
-impl<T: Drop> From<AllocFailed<T>> for Refused {
-    ghost use Rattle.mq_store.specs.declared.fault.Refused.TheVariants.{Memory};
+impl<T: Drop> From<AllocFailed<T>> for Refusal {
+    ghost use Rattle.mq_store.specs.declared.fault.Refusal.TheVariants.{Memory};
 
     ghost from_gives = { λ _ refused. refused ≡ Memory };
 
-    fn from(_error: AllocFailed<T>) -> Refused {
-        Refused::Memory
+    fn from(_error: AllocFailed<T>) -> Refusal {
+        Refusal::Memory
     }
 }

@@ -5,7 +5,8 @@ ghost use Rattle.sqlite.specs.Held.{state};
 ghost use Rattle.sqlite.specs.State.{HasCleanDisk};
 ghost use Rattle.sqlite.specs.Tree.{Trees};
 ghost use Rattle.mq_tables.specs.Making.{has_ledger_table};
-ghost use Rattle.mq_store.specs.Forgetting.{IsFree, AreFilled, IsRemembered, FindsFilled, FindsFilledOr};
+ghost use Rattle.mq_store.specs.Forgetting.{IsFree, AreFilled, IsRemembered, FindsFilled};
+ghost use Rattle.mq_store.specs.Forgetting.{FindsFilledOr};
 ghost use Rattle.mq_store.specs.Opening.{within, IsStop};
 ghost use Rattle.mq_store.specs.Soundness.{HasKept, IsSound};
 ghost use Rattle.mq_store.specs.declared.fault.OpenFault.TheVariants.{NotOurs};
@@ -22,18 +23,19 @@ use sqlite::{Alter, Connection};
 use std::alloc::Global;
 
 impl<S: Alter> SqlLedger<S> {
-    /// Makes a new ledger that has what an old one remembers from a day on: the limits that were set, the
-    /// retires, and each answer about that day or a later one, in their order and with their replies. It has
-    /// the zone and the default of the old one. Tables and answers are written in one transaction, over
-    /// whatever the new store holds. `day` is a day number since 1970-01-01.
+    /// Makes a new ledger that has what an old one remembers from a day on: the limits that were
+    /// set, the retires, and each answer about that day or a later one, in their order and with
+    /// their replies. It has the zone and the default of the old one. Tables and answers are
+    /// written in one transaction, over whatever the new store holds. `day` is a day number since
+    /// 1970-01-01.
     ///
-    /// The old ledger is read only. It isn't asked anything else meanwhile, and each answer costs a few
-    /// statements; a retire that cleared the reply of a limit from an earlier day makes the first such limit
-    /// cost as much as applying all answers before it in memory.
+    /// The old ledger is read only. It isn't asked anything else meanwhile, and each answer costs a
+    /// few statements; a retire that cleared the reply of a limit from an earlier day makes the
+    /// first such limit cost as much as applying all answers before it in memory.
     ///
-    /// Refused, the new store has the tables that it had. `NotOurs` comes exactly where a table of one of the
-    /// seven names is there; its other faults are `Memory` and `Store`, of either store. A connection
-    /// within a transaction is `Store`.
+    /// Refused, the new store has the tables that it had. `NotOurs` comes exactly where a table of
+    /// one of the seven names is there; its other faults are `Memory` and `Store`, of either store.
+    /// A connection within a transaction is `Store`.
     pub fn carry_over<T: Alter>(
         alloc: Global,
         old: &mut SqlLedger<T>,
@@ -46,8 +48,8 @@ impl<S: Alter> SqlLedger<S> {
         ensures open { IfOk result (λ l. HasCleanDisk (state S.Store l.connection)
             → IsTrue (state S.Store l.connection).is_open) }
 
-        // It is a sound ledger whose history is exactly what is remembered of the old one's, where the old one is
-        // sound and no foreign key that was there names a table of ours.
+        // It is a sound ledger whose history is exactly what is remembered of the old one's, where
+        // the old one is sound and no foreign key that was there names a table of ours.
         ensures remembered { IfOk result (λ l. HasCleanDisk (state T.Store old.new.connection)
             → HasCleanDisk (state S.Store l.connection)
             → IsSound old.old.zone old.old.default (state T.Store old.old.connection)
@@ -59,7 +61,8 @@ impl<S: Alter> SqlLedger<S> {
         ensures not_ours { IfErr result (λ e. e.fault ≡ NotOurs
             → IsTrue (has_ledger_table (state S.Store connection).now.schema)) }
         ensures not_ours_same { IfErr result (λ e. e.fault ≡ NotOurs → e.connection ≡ connection) }
-        ensures ours_ok { IfOk result (λ _. has_ledger_table (state S.Store connection).now.schema ≡ false) }
+        ensures ours_ok { IfOk result (λ _. has_ledger_table (state S.Store connection).now.schema
+            ≡ false) }
         ensures ours_err { IfErr result (λ e. connection.in_transaction ≡ false
             → IsTrue (has_ledger_table (state S.Store connection).now.schema) → e.fault ≡ NotOurs) }
         ensures err { IfErr result (λ e. HasCleanDisk (state S.Store e.connection)
@@ -76,22 +79,28 @@ impl<S: Alter> SqlLedger<S> {
         // The connection is outside a transaction where it was lent so, and a ledger's always is.
         ensures autocommit_ok { IfOk result (λ l. (connection.in_transaction ≡ false)
             × (l.connection.in_transaction ≡ false)) }
-        ensures autocommit_err { IfErr result (λ e. e.connection.in_transaction ≡ connection.in_transaction) }
+        ensures autocommit_err { IfErr result (λ e. e.connection.in_transaction
+            ≡ connection.in_transaction) }
         ensures within { IfErr result (λ e. IsTrue connection.in_transaction
             → (e.fault ≡ within) × (e.connection ≡ connection)) }
 
         // The old one is as it was, and a crash leaves of it what a crash before could leave.
         ensures old_lent { (old.new.zone ≡ old.old.zone) × (old.new.default ≡ old.old.default)
             × (old.new.found ≡ old.old.found) × (old.new.cause ≡ old.old.cause) }
-        ensures old_kept { HasKept (state T.Store old.new.connection) → HasKept (state T.Store old.old.connection) }
+        ensures old_kept { HasKept (state T.Store old.new.connection)
+            → HasKept (state T.Store old.old.connection) }
         ensures old_same { HasKept (state T.Store old.new.connection)
             → (state T.Store old.new.connection).now ≡ (state T.Store old.old.connection).now }
         ensures old_crash { HasCleanDisk (state T.Store old.new.connection) → (db : Trees)
-            → (state T.Store old.new.connection).may_leave db → (state T.Store old.old.connection).may_leave db }
+            → (state T.Store old.new.connection).may_leave db
+            → (state T.Store old.old.connection).may_leave db }
 
-        // What an open of the new store after a crash may find: all of the new ledger, or none of it.
-        ensures crash_ok { IfOk result (λ l. HasCleanDisk (state S.Store l.connection) → (db : Trees)
-            → (state S.Store l.connection).may_leave db → db ≡ (state S.Store l.connection).now.trees) }
+        // What an open of the new store after a crash may find: all of the new ledger, or none of
+        // it.
+        ensures crash_ok { IfOk result (λ l. HasCleanDisk (state S.Store l.connection)
+            → (db : Trees)
+            → (state S.Store l.connection).may_leave db
+            → db ≡ (state S.Store l.connection).now.trees) }
         ensures crash_err { IfErr result (λ e. HasCleanDisk (state T.Store old.new.connection)
             → HasCleanDisk (state S.Store e.connection) → (db : Trees)
             → (state S.Store e.connection).may_leave db → (state S.Store connection).may_leave db

@@ -1,12 +1,12 @@
 //! A retire gives runs up: what their open transactions hold is settled, and the replies of their
-//! answers are cleared, one by one, so that no more than one row is in memory besides the list of them.
+//! answers are cleared, one by one, so that no more than one row is in memory besides the list of
+//! them.
 
-ghost use Rattle.std.specs.Prelude.{◌≡◌, ◌<◌, ◌^◌, Some, All, IsTrue, IfOk, OnOk};
-ghost use Rattle.sqlite.specs.Held.{state};
-ghost use Rattle.sqlite.specs.State.{HasCleanDisk};
+ghost use Rattle.std.specs.Prelude.{◌≡◌, ◌<◌, ◌^◌, Some, All, IfOk};
 ghost use Rattle.mq_rows.specs.Plan.{abandoned_row, freed};
 ghost use Rattle.mq_rows.specs.Storable.{IsStorable, AreStorableRuns};
-ghost use Rattle.mq_tables.specs.Inside.{LeavesCommit};
+ghost use Rattle.mq_tables.specs.Inside.{IsInside, LeavesCommit};
+ghost use Rattle.mq_store.specs.Inside.{StaysInside, Turns};
 ghost use Rattle.mq_store.specs.GivingUp.{ClosesOne, ClosesAll, ClearsPlaces, ClearsRuns, GivesUp};
 
 use mq_rows::{Runs, TransactionRecord, UsageRecord, Write};
@@ -34,8 +34,8 @@ fn abandoned(was: &TransactionRecord) -> Result<TransactionRecord, AllocError>
     })
 }
 
-/// What becomes of a login's row of a day where a transaction that held so many is closed with all of
-/// them settled. Rows of no ledger are an error of the store.
+/// What becomes of a login's row of a day where a transaction that held so many is closed with all
+/// of them settled. Rows of no ledger are an error of the store.
 fn settled(held: u32, row: Option<UsageRecord>) -> Result<Write<UsageRecord>, Error>
     ensures { IfOk result (λ write. write ≡ freed held held row) }
 {
@@ -62,12 +62,9 @@ fn settled(held: u32, row: Option<UsageRecord>) -> Result<Write<UsageRecord>, Er
 #[tactic(auto, using(crate::proofs::Chain::calls))]
 fn close_one<S: Alter>(tx: &mut Transaction<'_, S>, was: &TransactionRecord) -> Result<usize, Error>
     requires storable { IsStorable was.now }
-    requires inside { HasCleanDisk (state S.Store tx.old.conn.now)
-        → IsTrue (state S.Store tx.old.conn.now).in_transaction }
-    ensures inside { HasCleanDisk (state S.Store tx.new.conn.now)
-        → OnOk result (IsTrue (state S.Store tx.new.conn.now).in_transaction) }
-    ensures closed { HasCleanDisk (state S.Store tx.new.conn.now)
-        → OnOk result (ClosesOne was.now (state S.Store tx.old.conn.now).now (state S.Store tx.new.conn.now).now) }
+    requires inside { IsInside S.Store tx.old }
+    ensures inside { StaysInside S.Store tx.old tx.new result }
+    ensures closed { Turns S.Store tx.old tx.new result (ClosesOne was.now) }
     ensures leaves { LeavesCommit S.Store tx.old tx.new }
 {
     let usage = find_usage(tx, &was.login, was.day)?;
@@ -84,16 +81,13 @@ fn close_all<S: Alter>(
     these: &[TransactionRecord],
 ) -> Result<(), Error>
     requires storable { All IsStorable these.now }
-    requires inside { HasCleanDisk (state S.Store tx.old.conn.now)
-        → IsTrue (state S.Store tx.old.conn.now).in_transaction }
-    ensures inside { HasCleanDisk (state S.Store tx.new.conn.now)
-        → OnOk result (IsTrue (state S.Store tx.new.conn.now).in_transaction) }
-    ensures closed { HasCleanDisk (state S.Store tx.new.conn.now)
-        → OnOk result (ClosesAll these.now (state S.Store tx.old.conn.now).now (state S.Store tx.new.conn.now).now) }
+    requires inside { IsInside S.Store tx.old }
+    ensures inside { StaysInside S.Store tx.old tx.new result }
+    ensures closed { Turns S.Store tx.old tx.new result (ClosesAll these.now) }
     ensures leaves { LeavesCommit S.Store tx.old tx.new }
 {
     for was in these {
-        let _count = close_one(tx, was)?;
+        close_one(tx, was)?;
     }
     Ok(())
 }
@@ -101,18 +95,14 @@ fn close_all<S: Alter>(
 /// Clears the replies of the answers at the places that these rows show, one after another.
 #[tactic(auto, using(crate::proofs::Chain::calls))]
 fn clear_all<S: Alter>(tx: &mut Transaction<'_, S>, places: &[Row]) -> Result<(), Error>
-    requires inside { HasCleanDisk (state S.Store tx.old.conn.now)
-        → IsTrue (state S.Store tx.old.conn.now).in_transaction }
-    ensures inside { HasCleanDisk (state S.Store tx.new.conn.now)
-        → OnOk result (IsTrue (state S.Store tx.new.conn.now).in_transaction) }
-    ensures cleared { HasCleanDisk (state S.Store tx.new.conn.now)
-        → OnOk result (ClearsPlaces places.now (state S.Store tx.old.conn.now).now
-        (state S.Store tx.new.conn.now).now) }
+    requires inside { IsInside S.Store tx.old }
+    ensures inside { StaysInside S.Store tx.old tx.new result }
+    ensures cleared { Turns S.Store tx.old tx.new result (ClearsPlaces places.now) }
     ensures leaves { LeavesCommit S.Store tx.old tx.new }
 {
     for place in places {
         let n = natural_at(place, 0)?;
-        let _count = clear_reply(tx, n)?;
+        clear_reply(tx, n)?;
     }
     Ok(())
 }
@@ -121,12 +111,9 @@ fn clear_all<S: Alter>(tx: &mut Transaction<'_, S>, places: &[Row]) -> Result<()
 #[tactic(auto, using(crate::proofs::Chain::calls))]
 fn clear_runs<S: Alter>(tx: &mut Transaction<'_, S>, runs: &Runs) -> Result<(), Error>
     requires in_range { (runs.now.from < 2 ^ 63) × (runs.now.to < 2 ^ 63) }
-    requires inside { HasCleanDisk (state S.Store tx.old.conn.now)
-        → IsTrue (state S.Store tx.old.conn.now).in_transaction }
-    ensures inside { HasCleanDisk (state S.Store tx.new.conn.now)
-        → OnOk result (IsTrue (state S.Store tx.new.conn.now).in_transaction) }
-    ensures cleared { HasCleanDisk (state S.Store tx.new.conn.now)
-        → OnOk result (ClearsRuns runs.now (state S.Store tx.old.conn.now).now (state S.Store tx.new.conn.now).now) }
+    requires inside { IsInside S.Store tx.old }
+    ensures inside { StaysInside S.Store tx.old tx.new result }
+    ensures cleared { Turns S.Store tx.old tx.new result (ClearsRuns runs.now) }
     ensures leaves { LeavesCommit S.Store tx.old tx.new }
 {
     let places = answer_places(tx, runs)?;
@@ -141,12 +128,9 @@ fn give_up_runs<S: Alter>(
     runs: &Runs,
 ) -> Result<(), Error>
     requires in_range { (runs.now.from < 2 ^ 63) × (runs.now.to < 2 ^ 63) }
-    requires inside { HasCleanDisk (state S.Store tx.old.conn.now)
-        → IsTrue (state S.Store tx.old.conn.now).in_transaction }
-    ensures inside { HasCleanDisk (state S.Store tx.new.conn.now)
-        → OnOk result (IsTrue (state S.Store tx.new.conn.now).in_transaction) }
-    ensures given_up { HasCleanDisk (state S.Store tx.new.conn.now)
-        → OnOk result (GivesUp (Some runs.now) (state S.Store tx.old.conn.now).now (state S.Store tx.new.conn.now).now) }
+    requires inside { IsInside S.Store tx.old }
+    ensures inside { StaysInside S.Store tx.old tx.new result }
+    ensures given_up { Turns S.Store tx.old tx.new result (GivesUp (Some runs.now)) }
     ensures leaves { LeavesCommit S.Store tx.old tx.new }
 {
     clear_runs(tx, runs)?;
@@ -162,12 +146,9 @@ pub(crate) fn give_up<S: Alter>(
     runs: &Option<Runs>,
 ) -> Result<(), Error>
     requires storable { AreStorableRuns runs.now }
-    requires inside { HasCleanDisk (state S.Store tx.old.conn.now)
-        → IsTrue (state S.Store tx.old.conn.now).in_transaction }
-    ensures inside { HasCleanDisk (state S.Store tx.new.conn.now)
-        → OnOk result (IsTrue (state S.Store tx.new.conn.now).in_transaction) }
-    ensures given_up { HasCleanDisk (state S.Store tx.new.conn.now)
-        → OnOk result (GivesUp runs.now (state S.Store tx.old.conn.now).now (state S.Store tx.new.conn.now).now) }
+    requires inside { IsInside S.Store tx.old }
+    ensures inside { StaysInside S.Store tx.old tx.new result }
+    ensures given_up { Turns S.Store tx.old tx.new result (GivesUp runs.now) }
     ensures leaves { LeavesCommit S.Store tx.old tx.new }
 {
     match runs {

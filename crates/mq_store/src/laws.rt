@@ -1,6 +1,7 @@
 //! Laws that lead from what was read and written to the ledger's history. Each function does
 //! nothing: its contract is the law.
-ghost use Rattle.std.specs.Prelude.{◌≡◌, ◌≤◌, ◌⊎◌, ◌+◌, ℕ, List, [], ◌∷◌, ◌++◌, true, false, Option, Some, None, take};
+ghost use Rattle.std.specs.Prelude.{◌≡◌, ◌≤◌, ◌⊎◌, ◌+◌, ℕ, List, [], ◌∷◌, ◌++◌, true, false};
+ghost use Rattle.std.specs.Prelude.{Option, Some, None, take};
 ghost use Rattle.sqlite.specs.Effect.{Database};
 ghost use Rattle.mq_request.specs.declared.message.Id.{Id};
 ghost use Rattle.mq_request.specs.declared.message.Request.{Request as AnyRequest};
@@ -26,10 +27,11 @@ ghost use Rattle.mq_rows.specs.declared.record.UsageRecord.{UsageRecord};
 ghost use Rattle.mq_rows.specs.declared.record.LimitRecord.{LimitRecord};
 ghost use Rattle.mq_rows.specs.declared.record.RetiredRecord.{RetiredRecord};
 ghost use Rattle.mq_rows.specs.declared.record.TransactionRecord.{TransactionRecord};
-ghost use Rattle.mq_rows.specs.declared.plan.Found.{Found};
+ghost use Rattle.mq_rows.specs.declared.plan.FoundRows.{FoundRows};
 ghost use Rattle.mq_rows.specs.Found.{IsFound, IsGoverning};
 ghost use Rattle.mq_rows.specs.Plan.{cap_by, floor_by, may_be_found, planned, reserved_by};
-ghost use Rattle.mq_rows.specs.Listing.{IsNext, are_amounts, page_row_by, settled_by, usage_reply_by};
+ghost use Rattle.mq_rows.specs.Listing.{IsNext, are_amounts, page_row_by, settled_by};
+ghost use Rattle.mq_rows.specs.Listing.{usage_reply_by};
 ghost use Rattle.mq_rows.specs.Rows.{is_usage, is_host, is_transaction};
 ghost use Rattle.mq_rows.specs.Repeat.{IsRepeatOf};
 ghost use Rattle.mq_rows.specs.Tables.{Tables, AreRows, AreTransactions};
@@ -43,8 +45,9 @@ ghost use Rattle.mq_store.specs.Auditing.{IsAuditIn, IsRightAnswer};
 ghost use Rattle.mq_store.specs.Carrying.{day_by, SpellsWhereKnown, IsAnswered};
 ghost use Rattle.mq_store.specs.Renewing.{HasCarried};
 ghost use Rattle.mq_store.specs.Soundness.{book_in};
-ghost use Rattle.mq_store.specs.declared.reached.Reached.{Reached as AnyReached};
-ghost use Rattle.mq_store.specs.Taking.{HasRows, HasBook, book_of, book_after, IsKnown, IsPlannedOver};
+ghost use Rattle.mq_store.specs.declared.reached.RenewalPlace.{RenewalPlace as AnyRenewalPlace};
+ghost use Rattle.mq_store.specs.Taking.{HasRows, HasBook, book_of, book_after, IsKnown};
+ghost use Rattle.mq_store.specs.Taking.{IsPlannedOver};
 
 use mq_forget::laws::{fronts_are_legal, next_place_is_carried_over};
 use mq_frame::laws::one_spelling;
@@ -64,19 +67,21 @@ pub(crate) fn floors_are_known()
     floors_are_found();
 }
 
-/// A number whose run is below the floor is old. Of any other one without a row is new, and by a row
-/// the reply is the ledger's.
+/// A number whose run is below the floor is old. Of any other one without a row is new, and by a
+/// row the reply is the ledger's.
 pub(crate) fn numbers_are_known()
     ensures old { (zone : AnyZone) (default : ℕ) (H : List AnyEntry) (r : AnyRequest) (id : Id) →
         id_of r ≡ Some id → is_below (requests H) id ≡ true →
         IsKnown zone default H r id (Some (Old id)) }
     ensures new { (zone : AnyZone) (default : ℕ) (H : List AnyEntry) (r : AnyRequest) (id : Id)
-        (db : Database) (b : HasBook (book_of zone default H) db) → IsRequest r → id_of r ≡ Some id →
+        (db : Database) (b : HasBook (book_of zone default H) db) → IsRequest r
+        → id_of r ≡ Some id →
         is_below (requests H) id ≡ false →
         IsOneOf (λ a. same_id id a.id) b.has.tables.answers None →
         IsKnown zone default H r id None }
     ensures known { (zone : AnyZone) (default : ℕ) (H : List AnyEntry) (r : AnyRequest) (id : Id)
-        (db : Database) (b : HasBook (book_of zone default H) db) (row : AnswerRecord) (a : AnyReply) →
+        (db : Database) (b : HasBook (book_of zone default H) db) (row : AnswerRecord)
+        (a : AnyReply) →
         IsRequest r → id_of r ≡ Some id → is_below (requests H) id ≡ false →
         IsOneOf (λ a. same_id id a.id) b.has.tables.answers (Some row) →
         IsRepeatOf row id r a → IsKnown zone default H r id (Some a) }
@@ -94,12 +99,12 @@ pub(crate) fn numbers_are_known()
 /// What is decided of a new number is the ledger's reply, and leads to the history with it.
 pub(crate) fn new_numbers_are_planned()
     ensures planned { (zone : AnyZone) (default : ℕ) (H : List AnyEntry) (r : AnyRequest) (id : Id)
-        (t : Tables) (f : Found) → IsLegalBook (book_of zone default H) →
+        (t : Tables) (f : FoundRows) → IsLegalBook (book_of zone default H) →
         AreRows (book_of zone default H) t → IsRequest r → id_of r ≡ Some id →
         known_by H (Some id) ≡ false → (AreKeyed t → IsFound (day_of zone) t r f) →
         IsPlannedOver zone default H r t (planned (day_of zone) default t.setting.arrivals r f) }
     ensures found { (zone : AnyZone) (default : ℕ) (H : List AnyEntry) (r : AnyRequest) (id : Id)
-        (t : Tables) (f : Found) → IsLegalBook (book_of zone default H) →
+        (t : Tables) (f : FoundRows) → IsLegalBook (book_of zone default H) →
         AreRows (book_of zone default H) t → IsRequest r → id_of r ≡ Some id →
         known_by H (Some id) ≡ false → (AreKeyed t → IsFound (day_of zone) t r f) →
         may_be_found default r f ≡ true }
@@ -112,7 +117,8 @@ pub(crate) fn new_numbers_are_planned()
 pub(crate) fn arrivals_are_applied()
     ensures new { (zone : AnyZone) (default : ℕ) (H : List AnyEntry) (r : AnyRequest) (id : Id)
         (db : Database) → IsLegalBook (book_of zone default H) → IsRequest r → id_of r ≡ Some id →
-        known_by H (Some id) ≡ false → HasRows (book_of zone default (appended (day_of zone) default H r)) db →
+        known_by H (Some id) ≡ false → HasRows (book_of zone default
+        (appended (day_of zone) default H r)) db →
         HasBook (book_after zone default H r) db }
     ensures known { (zone : AnyZone) (default : ℕ) (H : List AnyEntry) (r : AnyRequest) (id : Id)
         (db : Database) → known_by H (id_of r) ≡ true →
@@ -126,7 +132,8 @@ pub(crate) fn arrivals_are_applied()
     nothing_is_added();
 }
 
-/// A request that isn't the first of its number, or whose run is below the floor, leaves the history as it is.
+/// A request that isn't the first of its number, or whose run is below the floor, leaves the
+/// history as it is.
 pub(crate) fn later_arrivals_add_nothing()
     ensures { (zone : AnyZone) (default : ℕ) (H : List AnyEntry) (r : AnyRequest) (db : Database) →
         is_first (requests H) r ≡ false → HasBook (book_of zone default H) db →
@@ -135,8 +142,8 @@ pub(crate) fn later_arrivals_add_nothing()
     arrivals_are_applied();
 }
 
-/// What is read of a login's rows is the ledger's, and the rows of a day, gone through from login to
-/// login, are its page.
+/// What is read of a login's rows is the ledger's, and the rows of a day, gone through from login
+/// to login, are its page.
 pub(crate) fn reads_are_answered()
     ensures usage { (zone : AnyZone) (default : ℕ) (H : List AnyEntry) (db : Database)
         (b : HasBook (book_of zone default H) db) (l : List ℕ) (d : ℕ) (u : Option UsageRecord)
@@ -188,7 +195,8 @@ pub(crate) fn reads_are_in_range()
 
 /// A book whose rows the tables are, in whatever version, is what they mean.
 pub(crate) fn tables_mean_their_book()
-    ensures { (b : Book) (t : Tables) (db : Database) → IsLegalBook b → HasLedger db t → AreRows b t →
+    ensures { (b : Book) (t : Tables) (db : Database) → IsLegalBook b → HasLedger db t
+        → AreRows b t →
         book_in b.zone b.default db ≡ b }
 {
     rows_mean_their_history();
@@ -196,7 +204,8 @@ pub(crate) fn tables_mean_their_book()
 
 /// An audit of the rows of a legal history finds each pair right.
 pub(crate) fn books_are_right()
-    ensures { (b : Book) (t : Tables) (db : Database) (a : AnyAudit) → IsLegalBook b → HasLedger db t →
+    ensures { (b : Book) (t : Tables) (db : Database) (a : AnyAudit) → IsLegalBook b
+        → HasLedger db t →
         AreRows b t → IsAuditIn b.zone b.default db a → IsRightAnswer a }
 {
     histories_are_right();
@@ -204,7 +213,8 @@ pub(crate) fn books_are_right()
 
 /// What is read of an answer by its place is the entry at that place.
 pub(crate) fn answers_are_entries()
-    ensures { (zone : AnyZone) (default : ℕ) (H : List AnyEntry) (t : Tables) (place : ℕ) (b : Bodies)
+    ensures { (zone : AnyZone) (default : ℕ) (H : List AnyEntry) (t : Tables) (place : ℕ)
+        (b : Bodies)
         (r : AnyRequest) (a : Option AnyReply) → IsLegalBook (book_of zone default H) →
         AreRows (book_of zone default H) t → IsAnswerAt (place + 1) t.answers (Some b) →
         SpellsRequest b.request r → SpellsWhereKnown b.reply a →
@@ -216,13 +226,15 @@ pub(crate) fn answers_are_entries()
 
 /// A transaction has the day of its row, and without a row it has no entry.
 pub(crate) fn transactions_have_days()
-    ensures { (day : ℕ → ℕ) (H : List AnyEntry) (rows : List TransactionRecord) (t : Transaction) (moment : ℕ)
+    ensures { (day : ℕ → ℕ) (H : List AnyEntry) (rows : List TransactionRecord) (t : Transaction)
+        (moment : ℕ)
         (found : Option TransactionRecord) → AreTransactions day H rows →
         IsOneOf (is_transaction t) rows found →
         day_by day moment found ≡ day_named day moment (named H t) }
 {}
 
-/// Over a prefix of a history the next request gets the reply of its entry, and leads to the prefix with it.
+/// Over a prefix of a history the next request gets the reply of its entry, and leads to the prefix
+/// with it.
 pub(crate) fn entries_are_followed()
     ensures reply { (zone : AnyZone) (default : ℕ) (H : List AnyEntry) (place : ℕ) (e : AnyEntry) →
         IsLegalBook (book_of zone default H) → IsAt H place e →
@@ -252,12 +264,17 @@ pub(crate) fn entries_are_carried()
     next_place_is_carried_over();
 }
 
-/// What was taken over of an old ledger is so of it with further entries, and so after any requests that come to it.
+/// What was taken over of an old ledger is so of it with further entries, and so after any requests
+/// that come to it.
 pub fn arrivals_leave_what_was_taken_over()
-    ensures entries { (zone : AnyZone) (default D : ℕ) (H S : List AnyEntry) (at : AnyReached) (new scratch : Database) →
-        HasCarried zone default D H at new scratch → HasCarried zone default D (H ++ S) at new scratch }
-    ensures arrivals { (zone : AnyZone) (default D : ℕ) (H : List AnyEntry) (came : List AnyRequest) (at : AnyReached)
-        (new scratch : Database) → IsLegal (day_of zone) default H → HasCarried zone default D H at new scratch →
+    ensures entries { (zone : AnyZone) (default D : ℕ) (H S : List AnyEntry) (at : AnyRenewalPlace)
+        (new scratch : Database) →
+        HasCarried zone default D H at new scratch → HasCarried zone default D
+        (H ++ S) at new scratch }
+    ensures arrivals { (zone : AnyZone) (default D : ℕ) (H : List AnyEntry) (came : List AnyRequest)
+        (at : AnyRenewalPlace)
+        (new scratch : Database) → IsLegal (day_of zone) default H
+        → HasCarried zone default D H at new scratch →
         HasCarried zone default D (history_of (day_of zone) default (requests H ++ came)) at new scratch }
 {
     one_more_arrival();

@@ -1,20 +1,29 @@
-//! A quota ledger in the tables of a store: each numbered request is one transaction, committed before its reply is
-//! given.
+//! A quota ledger in the tables of a store: each numbered request is one transaction, committed
+//! before its reply is given.
 //!
-//! [`SqlLedger`] is a [`Ledger`](mq_ledger::Ledger): `create` makes its tables, `open` checks and audits those that a
-//! store has, `apply` answers a request, and `carry_over` makes a new ledger of what an old one remembers from a day
-//! on. A [`Renewal`] makes that ledger a few answers at a time, while requests come to the old one. From
-//! `mq_program/src/store.rt`:
+//! [`SqlLedger`] is a [`Ledger`](mq_ledger::Ledger): `create` makes its tables, `open` checks and
+//! audits those that a store has, `apply` answers a request, and `carry_over` makes a new ledger of
+//! what an old one remembers from a day on. A [`Renewal`] makes that ledger a few answers at a
+//! time, while requests come to the old one. From `mq_program/src/store.rt`:
 //!
 //!     match SqlLedger::open(alloc, connection, settings.zone, settings.default) {
 //!         Ok(ledger) => Ok(ledger),
 //!         Err(refused) => Err(refused_by(log, path, false, settings, refused)),
 //!     }
 //!
-//! It stands on `mq_request`, `mq_frame`, `mq_ledger`, `mq_forget`, `mq_chore`, `mq_rows` and `mq_tables`: it knows what a ledger
-//! means, its rows and its statements, and nothing of connections or files. Begin with `specs/Soundness.antt`, when a
-//! store is a sound ledger, and `take.rt`, one request; `write.rt` is where the reply is stored. docs/STORE.md says it
-//! in words.
+//! It stands on `mq_request`, `mq_frame`, `mq_ledger`, `mq_forget`, `mq_chore`, `mq_rows` and
+//! `mq_tables`: it knows what a ledger means, its rows and its statements, and nothing of
+//! connections or files. Begin with `specs/Soundness.antt`, when a store is a sound ledger.
+//! docs/STORE.md says it in words.
+//!
+//! A request goes from `apply.rt`, its transaction and the commit, through `take.rt`, whether its
+//! number is known and what a new one comes to, to `write.rt`, where the reply is stored with the
+//! other rows, and `giving_up.rt`, what a retire closes and clears; `listing.rt` answers what is
+//! only read. `specs/Taking.antt` says what each of them does to the tables, and
+//! `specs/Inside.antt` how a step says so. `opening.rt` and `auditing.rt` are an open. A new ledger
+//! is made of an old one by `recall.rt`, what an old row tells, `carry.rt`, one step, `slice.rt`,
+//! so many steps, and `fill.rt`, all of them: `forgetting.rt` does that at once, `renewal.rt` a
+//! piece at a time, and `renewing.rt` between requests. `laws.rt` has what their proofs stand on.
 #![tactic(auto)]
 
 mod apply;
@@ -47,4 +56,4 @@ pub use laws::arrivals_leave_what_was_taken_over;
 pub use ledger::SqlLedger;
 pub use mq_rows::Audit;
 pub use renewal::Renewal;
-pub use renewing::Renewing;
+pub use renewing::RenewalChore;

@@ -1,16 +1,15 @@
 //! What is replied to a usage and to a list.
 
-ghost use Rattle.std.specs.Prelude.{IfOk, IfErr, IfSome, OnOk};
-ghost use Rattle.sqlite.specs.Held.{state};
-ghost use Rattle.sqlite.specs.State.{HasCleanDisk};
+ghost use Rattle.std.specs.Prelude.{IfOk, IfSome};
 ghost use Rattle.mq_request.specs.declared.message.Request.{Request as AnyRequest};
 ghost use Rattle.mq_request.specs.Range.{IsLogin, IsDay, IsReply, IsRow, IsPage};
 ghost use Rattle.mq_tables.specs.Inside.{LeavesCommit};
+ghost use Rattle.mq_store.specs.Inside.{ChangesNothing, Finds, Stops};
 ghost use Rattle.mq_store.specs.Causes.{StopsReading};
-ghost use Rattle.mq_store.specs.Taking.{Stays, IsReplied};
+ghost use Rattle.mq_store.specs.Taking.{IsReplied};
 ghost use Rattle.mq_store.specs.Paging.{IsNextRow, IsPageOf};
 
-use crate::fault::Refused;
+use crate::fault::Refusal;
 use crate::laws::{reads_are_answered, reads_are_in_range};
 use mq_request::bounds::ROW_LIMIT;
 use mq_request::{Login, Reply, UsageRow, UsageRows};
@@ -28,17 +27,15 @@ pub(crate) fn reply_to_usage<S: Alter>(
     default: u32,
     login: &Login,
     day: u32,
-) -> Result<Reply, Refused>
+) -> Result<Reply, Refusal>
     requires login { IsLogin login.now }
     requires day { IsDay day }
-    ensures stays { HasCleanDisk (state S.Store tx.new.conn.now)
-        → OnOk result (Stays (state S.Store tx.old.conn.now) (state S.Store tx.new.conn.now)) }
-    ensures replied { HasCleanDisk (state S.Store tx.new.conn.now)
-        → IfOk result (IsReplied default (AnyRequest.Usage login.now day) (state S.Store tx.old.conn.now).now) }
+    ensures stays { ChangesNothing S.Store tx.old tx.new result }
+    ensures replied { Finds S.Store tx.old tx.new result
+        (IsReplied default (AnyRequest.Usage login.now day)) }
     ensures in_range { IfOk result IsReply }
     ensures leaves { LeavesCommit S.Store tx.old tx.new }
-    ensures cause { HasCleanDisk (state S.Store tx.new.conn.now)
-        → IfErr result (StopsReading default (state S.Store tx.old.conn.now).now) }
+    ensures cause { Stops S.Store tx.old tx.new result (StopsReading default) }
 {
     reads_are_answered();
     reads_are_in_range();
@@ -54,15 +51,12 @@ fn next_row<S: Alter>(
     default: u32,
     day: u32,
     after: &Login,
-) -> Result<Option<UsageRow>, Refused>
-    ensures stays { HasCleanDisk (state S.Store tx.new.conn.now)
-        → OnOk result (Stays (state S.Store tx.old.conn.now) (state S.Store tx.new.conn.now)) }
-    ensures next { HasCleanDisk (state S.Store tx.new.conn.now)
-        → IfOk result (IsNextRow default day after.now (state S.Store tx.old.conn.now).now) }
+) -> Result<Option<UsageRow>, Refusal>
+    ensures stays { ChangesNothing S.Store tx.old tx.new result }
+    ensures next { Finds S.Store tx.old tx.new result (IsNextRow default day after.now) }
     ensures in_range { IfOk result (λ next. IfSome next IsRow) }
     ensures leaves { LeavesCommit S.Store tx.old tx.new }
-    ensures cause { HasCleanDisk (state S.Store tx.new.conn.now)
-        → IfErr result (StopsReading default (state S.Store tx.old.conn.now).now) }
+    ensures cause { Stops S.Store tx.old tx.new result (StopsReading default) }
 {
     reads_are_answered();
     reads_are_in_range();
@@ -82,15 +76,13 @@ fn page<S: Alter>(
     default: u32,
     day: u32,
     after: &Login,
-) -> Result<Vec<UsageRow>, Refused>
-    ensures stays { HasCleanDisk (state S.Store tx.new.conn.now)
-        → OnOk result (Stays (state S.Store tx.old.conn.now) (state S.Store tx.new.conn.now)) }
-    ensures page { HasCleanDisk (state S.Store tx.new.conn.now)
-        → IfOk result (λ rows. IsPageOf default day after.now (state S.Store tx.old.conn.now).now rows.items) }
+) -> Result<Vec<UsageRow>, Refusal>
+    ensures stays { ChangesNothing S.Store tx.old tx.new result }
+    ensures page { Finds S.Store tx.old tx.new result (λ db rows. IsPageOf default day after.now db
+        rows.items) }
     ensures in_range { IfOk result (λ rows. IsPage rows.items) }
     ensures leaves { LeavesCommit S.Store tx.old tx.new }
-    ensures cause { HasCleanDisk (state S.Store tx.new.conn.now)
-        → IfErr result (StopsReading default (state S.Store tx.old.conn.now).now) }
+    ensures cause { Stops S.Store tx.old tx.new result (StopsReading default) }
 {
     reads_are_answered();
     let mut rows = Vec::new(alloc);
@@ -113,16 +105,14 @@ pub(crate) fn reply_to_list<S: Alter>(
     default: u32,
     day: u32,
     after: &Login,
-) -> Result<Reply, Refused>
+) -> Result<Reply, Refusal>
     requires { IsDay day }
-    ensures stays { HasCleanDisk (state S.Store tx.new.conn.now)
-        → OnOk result (Stays (state S.Store tx.old.conn.now) (state S.Store tx.new.conn.now)) }
-    ensures replied { HasCleanDisk (state S.Store tx.new.conn.now)
-        → IfOk result (IsReplied default (AnyRequest.List day after.now) (state S.Store tx.old.conn.now).now) }
+    ensures stays { ChangesNothing S.Store tx.old tx.new result }
+    ensures replied { Finds S.Store tx.old tx.new result
+        (IsReplied default (AnyRequest.List day after.now)) }
     ensures in_range { IfOk result IsReply }
     ensures leaves { LeavesCommit S.Store tx.old tx.new }
-    ensures cause { HasCleanDisk (state S.Store tx.new.conn.now)
-        → IfErr result (StopsReading default (state S.Store tx.old.conn.now).now) }
+    ensures cause { Stops S.Store tx.old tx.new result (StopsReading default) }
 {
     let rows = page(alloc, tx, default, day, after)?;
     Ok(Reply::List {

@@ -14,8 +14,8 @@ use sqlite::{Connection, MemStore};
 use std::alloc::Global;
 
 impl SqlLedger<MemStore> {
-    /// A ledger that has applied nothing, in a store in memory that holds nothing else. It ends with the
-    /// value. The default is the limit of a login that has none for a day: 0 to 1,000,000.
+    /// A ledger that has applied nothing, in a store in memory that holds nothing else. It ends
+    /// with the value. The default is the limit of a login that has none for a day: 0 to 1,000,000.
     pub fn in_memory(
         alloc: Global,
         zone: Zone,

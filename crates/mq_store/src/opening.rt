@@ -1,15 +1,19 @@
 //! Whether a store is a ledger's, and how one of an older version is given the current one.
 
-ghost use Rattle.std.specs.Prelude.{◌≡◌, ℕ, Option, List, nat_le, false, None, IsTrue, IfOk, OnOk, IfErr};
+ghost use Rattle.std.specs.Prelude.{◌≡◌, ℕ, Option, List, nat_le, false, None, IsTrue, IfOk, OnOk};
+ghost use Rattle.std.specs.Prelude.{IfErr};
 ghost use Rattle.sqlite.specs.Held.{state};
 ghost use Rattle.sqlite.specs.State.{HasCleanDisk};
 ghost use Rattle.mq_tables.specs.Indexing.{AreIndexed};
 ghost use Rattle.mq_tables.specs.Reading.{Spares};
 ghost use Rattle.mq_tables.specs.Settings.{SettingRow, shown_of};
-ghost use Rattle.mq_store.specs.Opening.{known_version, IsJudged, IsJudgedAs, IsJudgedBy, IsJudgedRuled, IsJudgedCurrent};
-ghost use Rattle.mq_store.specs.Opening.{HasSettings, HoldsKnown, HoldsVersion, HasCurrent, IsRuled, IsFaultOf, IsOf};
+ghost use Rattle.mq_store.specs.Opening.{known_version, IsJudged, IsJudgedAs, IsJudgedBy};
+ghost use Rattle.mq_store.specs.Opening.{IsJudgedRuled, IsJudgedCurrent};
+ghost use Rattle.mq_store.specs.Opening.{HasSettings, HoldsKnown, HoldsVersion, HasCurrent};
+ghost use Rattle.mq_store.specs.Opening.{IsRuled, IsFaultOf, IsOf};
 ghost use Rattle.mq_store.specs.Auditing.{AreCounted};
-ghost use Rattle.mq_store.specs.Opening.{version_of, IsFound, IsFoundOf, IsKeptUp, IsBroughtUp, AreBroughtUp, IsLeftBehind, Opens, Refuses};
+ghost use Rattle.mq_store.specs.Opening.{version_of, IsFound, IsFoundOf, IsKeptUp, IsBroughtUp};
+ghost use Rattle.mq_store.specs.Opening.{AreBroughtUp, IsLeftBehind, Opens, Refuses};
 ghost use Rattle.mq_store.specs.Soundness.{HasKept};
 
 use crate::auditing::{RowCounts, audit_store};
@@ -31,7 +35,8 @@ use std::alloc::Global;
 /// The first version of tables that have one for the rule.
 const RULED: u32 = 2;
 
-/// Why the store isn't opened where its settings are so, of version 2: there is a table for the rule.
+/// Why the store isn't opened where its settings are so, of version 2: there is a table for the
+/// rule.
 fn fault_where_ruled<S: Alter>(
     connection: &mut Connection<S>,
     zone: Zone,
@@ -43,10 +48,12 @@ fn fault_where_ruled<S: Alter>(
     ensures unlimited { connection.new.step_limit ≡ None }
     ensures judged { HasCleanDisk (state S.Store connection.new)
         → IsJudgedRuled S.Store zone default setting.now connection.old connection.new result }
-    ensures exact { HasCleanDisk (state S.Store connection.new) → (s : SettingRow) (rule : Option (List ℕ))
+    ensures exact { HasCleanDisk (state S.Store connection.new)
+        → (s : SettingRow) (rule : Option (List ℕ))
         → shown_of s ≡ setting.now → IsRuled (state S.Store connection.old).now rule
         → IsFaultOf zone default s rule result }
-    ensures clean { HasCleanDisk (state S.Store connection.new) → HasCleanDisk (state S.Store connection.old) }
+    ensures clean { HasCleanDisk (state S.Store connection.new)
+        → HasCleanDisk (state S.Store connection.old) }
     ensures spares { HasCleanDisk (state S.Store connection.new)
         → Spares (state S.Store connection.old) (state S.Store connection.new) }
 {
@@ -55,6 +62,7 @@ fn fault_where_ruled<S: Alter>(
 }
 
 /// The same of version 3: there is one for the floors too.
+#[tactic(auto, using(crate::proofs::Chain::spares_both))]
 fn fault_where_current<S: Alter>(
     connection: &mut Connection<S>,
     zone: Zone,
@@ -66,10 +74,12 @@ fn fault_where_current<S: Alter>(
     ensures unlimited { connection.new.step_limit ≡ None }
     ensures judged { HasCleanDisk (state S.Store connection.new)
         → IsJudgedCurrent S.Store zone default setting.now connection.old connection.new result }
-    ensures exact { HasCleanDisk (state S.Store connection.new) → (s : SettingRow) (rule : Option (List ℕ))
+    ensures exact { HasCleanDisk (state S.Store connection.new)
+        → (s : SettingRow) (rule : Option (List ℕ))
         → shown_of s ≡ setting.now → HasCurrent (state S.Store connection.old).now rule
         → IsFaultOf zone default s rule result }
-    ensures clean { HasCleanDisk (state S.Store connection.new) → HasCleanDisk (state S.Store connection.old) }
+    ensures clean { HasCleanDisk (state S.Store connection.new)
+        → HasCleanDisk (state S.Store connection.old) }
     ensures spares { HasCleanDisk (state S.Store connection.new)
         → Spares (state S.Store connection.old) (state S.Store connection.new) }
 {
@@ -95,10 +105,12 @@ fn fault_by_version<S: Alter>(
     ensures unlimited { connection.new.step_limit ≡ None }
     ensures judged { HasCleanDisk (state S.Store connection.new)
         → IsJudgedBy S.Store version zone default setting.now connection.old connection.new result }
-    ensures exact { HasCleanDisk (state S.Store connection.new) → (s : SettingRow) (rule : Option (List ℕ))
+    ensures exact { HasCleanDisk (state S.Store connection.new)
+        → (s : SettingRow) (rule : Option (List ℕ))
         → shown_of s ≡ setting.now → HoldsVersion version (state S.Store connection.old).now rule
         → IsFaultOf zone default s rule result }
-    ensures clean { HasCleanDisk (state S.Store connection.new) → HasCleanDisk (state S.Store connection.old) }
+    ensures clean { HasCleanDisk (state S.Store connection.new)
+        → HasCleanDisk (state S.Store connection.old) }
     ensures spares { HasCleanDisk (state S.Store connection.new)
         → Spares (state S.Store connection.old) (state S.Store connection.new) }
 {
@@ -123,12 +135,16 @@ fn check_setting<S: Alter>(
     ensures autocommit { connection.new.in_transaction ≡ false }
     ensures unlimited { connection.new.step_limit ≡ None }
     ensures judged { HasCleanDisk (state S.Store connection.new)
-        → IsJudgedAs S.Store (known_version setting.now.version) zone default setting.now connection.old
+        → IsJudgedAs S.Store (known_version setting.now.version) zone default setting.now
+        connection.old
         connection.new result }
-    ensures exact { HasCleanDisk (state S.Store connection.new) → (s : SettingRow) (rule : Option (List ℕ))
-        → shown_of s ≡ setting.now → HoldsKnown (known_version s.version) (state S.Store connection.old).now rule
+    ensures exact { HasCleanDisk (state S.Store connection.new)
+        → (s : SettingRow) (rule : Option (List ℕ))
+        → shown_of s ≡ setting.now → HoldsKnown (known_version s.version)
+        (state S.Store connection.old).now rule
         → IsOf zone default (state S.Store connection.old).now.schema s rule result }
-    ensures clean { HasCleanDisk (state S.Store connection.new) → HasCleanDisk (state S.Store connection.old) }
+    ensures clean { HasCleanDisk (state S.Store connection.new)
+        → HasCleanDisk (state S.Store connection.old) }
     ensures spares { HasCleanDisk (state S.Store connection.new)
         → Spares (state S.Store connection.old) (state S.Store connection.new) }
 {
@@ -145,6 +161,7 @@ fn check_setting<S: Alter>(
 }
 
 /// The version of the tables by their settings, or why the store isn't opened.
+#[tactic(auto, using(crate::proofs::Chain::spares_both))]
 fn check_store<S: Alter>(
     connection: &mut Connection<S>,
     zone: Zone,
@@ -155,10 +172,12 @@ fn check_store<S: Alter>(
     ensures unlimited { connection.new.step_limit ≡ None }
     ensures judged { HasCleanDisk (state S.Store connection.new)
         → IsJudged S.Store zone default connection.old connection.new result }
-    ensures exact { HasCleanDisk (state S.Store connection.new) → (s : SettingRow) (rule : Option (List ℕ))
+    ensures exact { HasCleanDisk (state S.Store connection.new)
+        → (s : SettingRow) (rule : Option (List ℕ))
         → HasSettings (state S.Store connection.old).now s rule
         → IsOf zone default (state S.Store connection.old).now.schema s rule result }
-    ensures clean { HasCleanDisk (state S.Store connection.new) → HasCleanDisk (state S.Store connection.old) }
+    ensures clean { HasCleanDisk (state S.Store connection.new)
+        → HasCleanDisk (state S.Store connection.old) }
     ensures spares { HasCleanDisk (state S.Store connection.new)
         → Spares (state S.Store connection.old) (state S.Store connection.new) }
 {
@@ -169,32 +188,35 @@ fn check_store<S: Alter>(
     }
 }
 
-/// What is found of a store that is this ledger.
+/// The version of a store that is this ledger, and how many rows it has.
 #[derive(Drop)]
-pub(crate) struct Known {
+pub(crate) struct KnownLedger {
     pub version: u32,
     pub found: RowCounts,
 }
 
-/// The version of the tables and how many rows there are, or why the store isn't opened: by its settings, and after them
-/// by an audit of its rows.
+/// The version of the tables and how many rows there are, or why the store isn't opened: by its
+/// settings, and after them by an audit of its rows.
 fn check_ledger<S: Alter>(
     alloc: Global,
     connection: &mut Connection<S>,
     zone: Zone,
     default: u32,
-) -> Result<Known, OpenFault>
+) -> Result<KnownLedger, OpenFault>
     requires autocommit { connection.old.in_transaction ≡ false }
     ensures autocommit { connection.new.in_transaction ≡ false }
     ensures unlimited { connection.new.step_limit ≡ None }
     ensures found { HasCleanDisk (state S.Store connection.new)
         → IsFound S.Store zone default connection.old connection.new (version_of result) }
-    ensures exact { HasCleanDisk (state S.Store connection.new) → (s : SettingRow) (rule : Option (List ℕ))
+    ensures exact { HasCleanDisk (state S.Store connection.new)
+        → (s : SettingRow) (rule : Option (List ℕ))
         → HasSettings (state S.Store connection.old).now s rule
         → IsFoundOf zone default (state S.Store connection.old).now s rule (version_of result) }
     ensures counts { HasCleanDisk (state S.Store connection.new)
-        → IfOk result (λ known. AreCounted zone default (state S.Store connection.old).now known.found) }
-    ensures clean { HasCleanDisk (state S.Store connection.new) → HasCleanDisk (state S.Store connection.old) }
+        → IfOk result (λ known. AreCounted zone default
+        (state S.Store connection.old).now known.found) }
+    ensures clean { HasCleanDisk (state S.Store connection.new)
+        → HasCleanDisk (state S.Store connection.old) }
     ensures spares { HasCleanDisk (state S.Store connection.new)
         → Spares (state S.Store connection.old) (state S.Store connection.new) }
 {
@@ -203,7 +225,7 @@ fn check_ledger<S: Alter>(
         Err(fault) => return Err(fault),
     };
     match audit_store(alloc, connection, zone, default) {
-        Ok(Audit::Sound { days, transactions }) => Ok(Known {
+        Ok(Audit::Sound { days, transactions }) => Ok(KnownLedger {
             version,
             found: RowCounts { days, transactions },
         }),
@@ -213,18 +235,21 @@ fn check_ledger<S: Alter>(
 }
 
 /// Gives a ledger of the current version the index, in one transaction, where nothing has its name.
-#[tactic(auto, using(crate::proofs::Openings::left_alone, crate::proofs::Openings::given_index))]
+#[tactic(auto, using(crate::proofs::OpenChecks::left_alone, crate::proofs::OpenChecks::given_index))]
 fn keep_up<S: Alter>(connection: &mut Connection<S>) -> Result<(), OpenFault>
     requires autocommit { connection.old.in_transaction ≡ false }
     ensures autocommit { connection.new.in_transaction ≡ false }
     ensures limit { connection.new.step_limit ≡ connection.old.step_limit }
-    ensures clean { HasCleanDisk (state S.Store connection.new) → HasCleanDisk (state S.Store connection.old) }
+    ensures clean { HasCleanDisk (state S.Store connection.new)
+        → HasCleanDisk (state S.Store connection.old) }
     ensures was_open { HasCleanDisk (state S.Store connection.new)
-        → IsTrue (state S.Store connection.new).is_open → IsTrue (state S.Store connection.old).is_open }
+        → IsTrue (state S.Store connection.new).is_open
+        → IsTrue (state S.Store connection.old).is_open }
     ensures kept_up { HasCleanDisk (state S.Store connection.new)
         → OnOk result (IsKeptUp (state S.Store connection.old) (state S.Store connection.new)) }
     ensures err { HasCleanDisk (state S.Store connection.new)
-        → IfErr result (IsLeftBehind AreIndexed (state S.Store connection.old) (state S.Store connection.new)) }
+        → IfErr result (IsLeftBehind AreIndexed (state S.Store connection.old)
+        (state S.Store connection.new)) }
 {
     if !lacks_index(connection.schema()) {
         return Ok(());
@@ -235,19 +260,23 @@ fn keep_up<S: Alter>(connection: &mut Connection<S>) -> Result<(), OpenFault>
     }
 }
 
-/// Gives a ledger of an older version the current one, in one transaction, and one of the current version the index.
-#[tactic(auto, using(crate::proofs::Openings::up_current, crate::proofs::Openings::behind_current, crate::proofs::Openings::behind_older))]
+/// Gives a ledger of an older version the current one, in one transaction, and one of the current
+/// version the index.
+#[tactic(auto, using(crate::proofs::OpenChecks::up_current, crate::proofs::OpenChecks::behind_current, crate::proofs::OpenChecks::behind_older))]
 fn bring_up<S: Alter>(connection: &mut Connection<S>, version: u32) -> Result<(), OpenFault>
     requires autocommit { connection.old.in_transaction ≡ false }
     ensures autocommit { connection.new.in_transaction ≡ false }
     ensures limit { connection.new.step_limit ≡ connection.old.step_limit }
-    ensures clean { HasCleanDisk (state S.Store connection.new) → HasCleanDisk (state S.Store connection.old) }
+    ensures clean { HasCleanDisk (state S.Store connection.new)
+        → HasCleanDisk (state S.Store connection.old) }
     ensures was_open { HasCleanDisk (state S.Store connection.new)
-        → IsTrue (state S.Store connection.new).is_open → IsTrue (state S.Store connection.old).is_open }
+        → IsTrue (state S.Store connection.new).is_open
+        → IsTrue (state S.Store connection.old).is_open }
     ensures open { HasCleanDisk (state S.Store connection.new)
         → OnOk result (nat_le 3 version ≡ false → IsTrue (state S.Store connection.old).is_open) }
     ensures up { HasCleanDisk (state S.Store connection.new)
-        → OnOk result (IsBroughtUp version (state S.Store connection.old) (state S.Store connection.new)) }
+        → OnOk result (IsBroughtUp version (state S.Store connection.old)
+        (state S.Store connection.new)) }
     ensures err { HasCleanDisk (state S.Store connection.new)
         → IfErr result (IsLeftBehind (AreBroughtUp version) (state S.Store connection.old)
         (state S.Store connection.new)) }
@@ -261,7 +290,8 @@ fn bring_up<S: Alter>(connection: &mut Connection<S>, version: u32) -> Result<()
     }
 }
 
-/// Finds whether the store is this ledger, and brings it up to the current version and the index: how many rows there are.
+/// Finds whether the store is this ledger, and brings it up to the current version and the index:
+/// how many rows there are.
 pub(crate) fn open_store<S: Alter>(
     alloc: Global,
     connection: &mut Connection<S>,
@@ -280,11 +310,13 @@ pub(crate) fn open_store<S: Alter>(
     ensures refuses { HasCleanDisk (state S.Store connection.new)
         → IfErr result (Refuses (IsFound S.Store zone default connection.old connection.new)
         (state S.Store connection.old) (state S.Store connection.new)) }
-    ensures exact { HasCleanDisk (state S.Store connection.new) → (s : SettingRow) (rule : Option (List ℕ))
+    ensures exact { HasCleanDisk (state S.Store connection.new)
+        → (s : SettingRow) (rule : Option (List ℕ))
         → HasSettings (state S.Store connection.old).now s rule
         → OnOk result (Opens (IsFoundOf zone default (state S.Store connection.old).now s rule)
         (state S.Store connection.old) (state S.Store connection.new)) }
-    ensures exact_err { HasCleanDisk (state S.Store connection.new) → (s : SettingRow) (rule : Option (List ℕ))
+    ensures exact_err { HasCleanDisk (state S.Store connection.new)
+        → (s : SettingRow) (rule : Option (List ℕ))
         → HasSettings (state S.Store connection.old).now s rule
         → IfErr result (Refuses (IsFoundOf zone default (state S.Store connection.old).now s rule)
         (state S.Store connection.old) (state S.Store connection.new)) }

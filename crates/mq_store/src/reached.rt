@@ -3,20 +3,21 @@ ghost use Rattle.std.specs.Prelude.{◌≡◌, ◌≤◌};
 
 /// How many answers of an old ledger were looked at, oldest first.
 #[derive(Clone, Copy)]
-pub(crate) struct Reached {
-    /// So many were, and each that stays was taken over: so it is the place of the next, counted from 0.
+pub(crate) struct RenewalPlace {
+    /// So many were, and each that stays was taken over: so it is the place of the next, counted
+    /// from 0.
     pub place: u64,
     /// So many of these the scratch ledger has applied, oldest first.
     pub followed: u64,
     ghost before: { followed ≤ place },
 }
 
-impl Reached {
+impl RenewalPlace {
     /// None were yet.
-    pub fn nothing() -> Reached
+    pub fn nothing() -> RenewalPlace
         ensures { (result.place ≡ 0) × (result.followed ≡ 0) }
     {
-        Reached {
+        RenewalPlace {
             place: 0,
             followed: 0,
         }

@@ -1,17 +1,15 @@
 //! What an old store shows of its answers, one by one, and which of them a new store takes over.
 
-ghost use Rattle.std.specs.Prelude.{◌≡◌, ◌<◌, ◌+◌, ◌^◌, List, IfOk, OnOk};
-ghost use Rattle.sqlite.specs.Held.{state};
-ghost use Rattle.sqlite.specs.State.{HasCleanDisk};
+ghost use Rattle.std.specs.Prelude.{◌≡◌, ◌<◌, ◌+◌, ◌^◌, List, IfOk};
 ghost use Rattle.mq_request.specs.Range.{IsRequest, IsId, IsMoment};
 ghost use Rattle.mq_frame.specs.Spelling.{SpellsRequest};
 ghost use Rattle.mq_ledger.specs.History.{transaction};
 ghost use Rattle.mq_forget.specs.Remembered.{is_set};
 ghost use Rattle.mq_tables.specs.Inside.{LeavesCommit};
+ghost use Rattle.mq_store.specs.Inside.{ChangesNothing, Finds};
 ghost use Rattle.mq_store.specs.Carrying.{Names, SpellsWhereKnown, IsAnsweredAt, TellsStaying};
-ghost use Rattle.mq_store.specs.Taking.{Stays};
 
-use crate::fault::{Refused, StoreCause};
+use crate::fault::{Refusal, StoreCause};
 use crate::laws::{answers_are_entries, transactions_have_days};
 use mq_frame::{DecodeFault, decode_reply, decode_request};
 use mq_ledger::Zone;
@@ -23,20 +21,21 @@ use std::alloc::Global;
 
 /// An answer as its row shows it: without its reply where its run was given up.
 #[derive(Drop)]
-pub(crate) struct Answered {
+pub(crate) struct RecalledAnswer {
     pub request: Request,
     pub reply: Option<Reply>,
 }
 
 /// A body that spells nothing is no ledger's.
-fn refused(fault: DecodeFault) -> Refused {
+fn refused(fault: DecodeFault) -> Refusal {
     match fault {
-        DecodeFault::Bad => Refused::Store(StoreCause::Content),
-        DecodeFault::Memory => Refused::Memory,
+        DecodeFault::Bad => Refusal::Store(StoreCause::Content),
+        DecodeFault::Memory => Refusal::Memory,
     }
 }
 
-fn request_in(alloc: Global, body: &Bytes) -> Result<Request, Refused>
+/// The request that the body spells.
+fn request_in(alloc: Global, body: &Bytes) -> Result<Request, Refusal>
     ensures { IfOk result (λ request. SpellsRequest body.now request) }
 {
     match decode_request(alloc, body.as_slice()) {
@@ -46,7 +45,7 @@ fn request_in(alloc: Global, body: &Bytes) -> Result<Request, Refused>
 }
 
 /// The reply that the body spells, or none where it is empty.
-fn reply_in(alloc: Global, body: &Bytes) -> Result<Option<Reply>, Refused>
+fn reply_in(alloc: Global, body: &Bytes) -> Result<Option<Reply>, Refusal>
     ensures { IfOk result (SpellsWhereKnown body.now) }
 {
     let bytes = body.as_slice();
@@ -65,22 +64,20 @@ pub(crate) fn answered_at<S: Alter>(
     alloc: Global,
     tx: &mut Transaction<'_, S>,
     place: u64,
-) -> Result<Answered, Refused>
+) -> Result<RecalledAnswer, Refusal>
     requires { place + 1 < 2 ^ 63 }
-    ensures stays { HasCleanDisk (state S.Store tx.new.conn.now)
-        → OnOk result (Stays (state S.Store tx.old.conn.now) (state S.Store tx.new.conn.now)) }
-    ensures read { HasCleanDisk (state S.Store tx.new.conn.now)
-        → IfOk result (IsAnsweredAt place (state S.Store tx.old.conn.now).now) }
+    ensures stays { ChangesNothing S.Store tx.old tx.new result }
+    ensures read { Finds S.Store tx.old tx.new result (IsAnsweredAt place) }
     ensures in_range { IfOk result (λ answered. IsRequest answered.request) }
     ensures leaves { LeavesCommit S.Store tx.old tx.new }
 {
     answers_are_entries();
     let Some(bodies) = read_answer(tx, place + 1)? else {
-        return Err(Refused::Store(StoreCause::Content));
+        return Err(Refusal::Store(StoreCause::Content));
     };
     let request = request_in(alloc, &bodies.request)?;
     let reply = reply_in(alloc, &bodies.reply)?;
-    Ok(Answered { request, reply })
+    Ok(RecalledAnswer { request, reply })
 }
 
 /// The day of the transaction, or of the moment where it has no row.
@@ -91,13 +88,12 @@ fn day_named<S: Alter>(
     id: &Id,
     txn: u32,
     moment: u64,
-) -> Result<u32, Refused>
+) -> Result<u32, Refusal>
     requires id { IsId id.now }
     requires moment { IsMoment moment }
-    ensures stays { HasCleanDisk (state S.Store tx.new.conn.now)
-        → OnOk result (Stays (state S.Store tx.old.conn.now) (state S.Store tx.new.conn.now)) }
-    ensures named { HasCleanDisk (state S.Store tx.new.conn.now)
-        → IfOk result (Names zone (transaction id.now txn) moment (state S.Store tx.old.conn.now).now) }
+    ensures stays { ChangesNothing S.Store tx.old tx.new result }
+    ensures named { Finds S.Store tx.old tx.new result (Names zone
+        (transaction id.now txn) moment) }
     ensures leaves { LeavesCommit S.Store tx.old tx.new }
 {
     transactions_have_days();
@@ -117,19 +113,17 @@ pub(crate) fn is_set(request: &Request, reply: &Reply) -> bool
     }
 }
 
-/// Whether the answer stays. Of a limit from an earlier day that its reply alone could tell: `None` where it
-/// has none.
+/// Whether the answer stays. Of a limit from an earlier day that its reply alone could tell: `None`
+/// where it has none.
 pub(crate) fn stays<S: Alter>(
     tx: &mut Transaction<'_, S>,
     zone: Zone,
     day: u32,
-    answered: &Answered,
-) -> Result<Option<bool>, Refused>
+    answered: &RecalledAnswer,
+) -> Result<Option<bool>, Refusal>
     requires { IsRequest answered.now.request }
-    ensures stays { HasCleanDisk (state S.Store tx.new.conn.now)
-        → OnOk result (Stays (state S.Store tx.old.conn.now) (state S.Store tx.new.conn.now)) }
-    ensures told { HasCleanDisk (state S.Store tx.new.conn.now)
-        → IfOk result (TellsStaying zone day answered.now (state S.Store tx.old.conn.now).now) }
+    ensures stays { ChangesNothing S.Store tx.old tx.new result }
+    ensures told { Finds S.Store tx.old tx.new result (TellsStaying zone day answered.now) }
     ensures leaves { LeavesCommit S.Store tx.old tx.new }
 {
     let request = &answered.request;

@@ -1,6 +1,8 @@
-//! A new ledger that takes over what an old one remembers from a day on, while requests come to the old one.
+//! A new ledger that takes over what an old one remembers from a day on, while requests come to the
+//! old one.
 
-ghost use Rattle.std.specs.Prelude.{◌≡◌, ◌⊎◌, ◌↔◌, ◌+◌, ◌≤◌, List, Err, is_some, None, false, IsTrue, IfOk, IfErr, OnOk};
+ghost use Rattle.std.specs.Prelude.{◌≡◌, ◌⊎◌, ◌↔◌, ◌+◌, ◌≤◌, List, Err, is_some, None, false};
+ghost use Rattle.std.specs.Prelude.{IsTrue, IfOk, IfErr, OnOk};
 ghost use Rattle.sqlite.specs.Held.{state};
 ghost use Rattle.sqlite.specs.State.{HasCleanDisk};
 ghost use Rattle.sqlite.specs.Steps.{over_memory};
@@ -19,17 +21,17 @@ use crate::carry::Terms;
 use crate::fault::{OpenRefused, StoreCause, noted};
 use crate::laws::tables_mean_their_book;
 use crate::ledger::SqlLedger;
-use crate::reached::Reached;
+use crate::reached::RenewalPlace;
 use crate::slice::renew_store;
 use mq_ledger::{LedgerFault, Zone};
 use sqlite::{Alter, Connection, MemStore};
 use std::alloc::Global;
 
-/// A new ledger that takes over what an old one remembers from a day on, some answers at a time, while requests come to
-/// the old one.
+/// A new ledger that takes over what an old one remembers from a day on, some answers at a time,
+/// while requests come to the old one.
 ///
-/// What was taken over is never looked at again: requests only add to a history. Once it has all, the new ledger is
-/// the one that [`SqlLedger::carry_over`] makes.
+/// What was taken over is never looked at again: requests only add to a history. Once it has all,
+/// the new ledger is the one that [`SqlLedger::carry_over`] makes.
 #[derive(Drop)]
 pub struct Renewal<S: Alter> {
     pub(crate) made: SqlLedger<S>,
@@ -37,17 +39,18 @@ pub struct Renewal<S: Alter> {
     pub(crate) scratch: SqlLedger<MemStore>,
     /// A day number since 1970-01-01.
     pub(crate) day: u32,
-    pub(crate) reached: Reached,
+    pub(crate) reached: RenewalPlace,
     /// How many answers the old ledger had when it last went on.
     pub(crate) heard: Option<u64>,
 }
 
 impl<S: Alter> Renewal<S> {
-    /// Makes the tables of the new ledger, which has taken over nothing yet, in one transaction. Zone and default are
-    /// to be those of the old ledger. `day` is a day number since 1970-01-01.
+    /// Makes the tables of the new ledger, which has taken over nothing yet, in one transaction.
+    /// Zone and default are to be those of the old ledger. `day` is a day number since 1970-01-01.
     ///
-    /// Refused, the new store has the tables that it had. `NotOurs` comes only where a table of one of the seven names
-    /// is there; its other faults are `Memory` and `Store`. A connection within a transaction is `Store`.
+    /// Refused, the new store has the tables that it had. `NotOurs` comes only where a table of one
+    /// of the seven names is there; its other faults are `Memory` and `Store`. A connection within
+    /// a transaction is `Store`.
     pub fn begin(
         alloc: Global,
         connection: Connection<S>,
@@ -56,12 +59,14 @@ impl<S: Alter> Renewal<S> {
         day: u32,
     ) -> Result<Renewal<S>, OpenRefused<S>>
         requires in_range { IsAmount default }
-        ensures lent { IfOk result (λ r. (r.made.zone ≡ zone) × (r.made.default ≡ default) × (r.day ≡ day)) }
+        ensures lent { IfOk result (λ r. (r.made.zone ≡ zone) × (r.made.default ≡ default)
+            × (r.day ≡ day)) }
         ensures begun { IfOk result (λ r. HasCleanDisk (state S.Store r.made.connection)
             → IsFree (state S.Store connection).now → (H : List AnyEntry)
             → HasCarried zone default day H r.reached (state S.Store r.made.connection).now
             (state over_memory r.scratch.connection).now) }
-        ensures ours_ok { IfOk result (λ _. has_ledger_table (state S.Store connection).now.schema ≡ false) }
+        ensures ours_ok { IfOk result (λ _. has_ledger_table (state S.Store connection).now.schema
+            ≡ false) }
         ensures not_ours { IfErr result (λ e. e.fault ≡ NotOurs
             → IsTrue (has_ledger_table (state S.Store connection).now.schema)) }
         ensures fault { IfErr result (λ e. (e.fault ≡ NotOurs) ⊎ IsStop e.fault) }
@@ -79,7 +84,7 @@ impl<S: Alter> Renewal<S> {
                     made,
                     scratch,
                     day,
-                    reached: Reached::nothing(),
+                    reached: RenewalPlace::nothing(),
                     heard: None,
                 }),
                 Err(refused) => Err(refused),
@@ -88,63 +93,77 @@ impl<S: Alter> Renewal<S> {
         }
     }
 
-    /// Goes on by so many steps, and one more for each answer that the old ledger got since it last went on, or to the
-    /// end where that comes first, in one transaction of the new store: whether it has then all that the old ledger
-    /// remembers. A step looks at one answer, which costs about as much as its request did. The old ledger is read
-    /// only.
+    /// Goes on by so many steps, and one more for each answer that the old ledger got since it last
+    /// went on, or to the end where that comes first, in one transaction of the new store: whether
+    /// it has then all that the old ledger remembers. A step looks at one answer, which costs about
+    /// as much as its request did. The old ledger is read only.
     ///
-    /// Before a limit from an earlier day whose reply a retire has cleared, each answer that the old ledger got before
-    /// it is a step more, once in all, and needs the memory of a ledger in memory.
+    /// Before a limit from an earlier day whose reply a retire has cleared, each answer that the
+    /// old ledger got before it is a step more, once in all, and needs the memory of a ledger in
+    /// memory.
     ///
-    /// The fault is `Memory` or `Store`, of either store, and [`Renewal::cause`] says why. The new ledger is then of no
-    /// use, and the old one goes on.
+    /// The fault is `Memory` or `Store`, of either store, and [`Renewal::cause`] says why. The new
+    /// ledger is then of no use, and the old one goes on.
     pub fn go_on<T: Alter>(
         &mut self,
         old: &mut SqlLedger<T>,
         count: u64,
     ) -> Result<bool, LedgerFault>
-        ensures lent { (self.new.made.zone ≡ self.old.made.zone) × (self.new.made.default ≡ self.old.made.default)
+        ensures lent { (self.new.made.zone ≡ self.old.made.zone)
+            × (self.new.made.default ≡ self.old.made.default)
             × (self.new.day ≡ self.old.day) }
         ensures noted { (result ≡ Err LedgerFault.Store) ↔ IsTrue (is_some self.new.made.cause) }
         ensures more { IfOk result (λ is_through. IsTrue is_through
             ⊎ self.old.reached.place + self.old.reached.followed + count
             ≤ self.new.reached.place + self.new.reached.followed) }
-        ensures kept { HasKept (state S.Store self.new.made.connection) → HasKept (state S.Store self.old.made.connection) }
+        ensures kept { HasKept (state S.Store self.new.made.connection)
+            → HasKept (state S.Store self.old.made.connection) }
 
         // What was taken over of the old history goes on.
-        ensures renews { HasKept (state T.Store old.new.connection) → HasKept (state S.Store self.new.made.connection)
+        ensures renews { HasKept (state T.Store old.new.connection)
+            → HasKept (state S.Store self.new.made.connection)
             → OnOk result ((H : List AnyEntry)
-            → HasBook (book_of old.old.zone old.old.default H) (state T.Store old.old.connection).now
+            → HasBook (book_of old.old.zone old.old.default H)
+            (state T.Store old.old.connection).now
             → HasCarried old.old.zone old.old.default self.old.day H self.old.reached
-            (state S.Store self.old.made.connection).now (state over_memory self.old.scratch.connection).now
+            (state S.Store self.old.made.connection).now
+            (state over_memory self.old.scratch.connection).now
             → HasCarried old.old.zone old.old.default self.old.day H self.new.reached
-            (state S.Store self.new.made.connection).now (state over_memory self.new.scratch.connection).now) }
+            (state S.Store self.new.made.connection).now
+            (state over_memory self.new.scratch.connection).now) }
 
-        // At the end it is a sound ledger whose history is exactly what is remembered of the old one's, and a crash leaves
-        // the whole of it.
-        ensures remembered { IfOk result (λ is_through. IsTrue is_through → HasKept (state T.Store old.new.connection)
+        // At the end it is a sound ledger whose history is exactly what is remembered of the old
+        // one's, and a crash leaves the whole of it.
+        ensures remembered { IfOk result (λ is_through. IsTrue is_through
+            → HasKept (state T.Store old.new.connection)
             → HasKept (state S.Store self.new.made.connection)
             → IsSound old.old.zone old.old.default (state T.Store old.old.connection)
             → HasCarried old.old.zone old.old.default self.old.day
-            (book_in old.old.zone old.old.default (state T.Store old.old.connection).now).history self.old.reached
-            (state S.Store self.old.made.connection).now (state over_memory self.old.scratch.connection).now
-            → IsRemembered old.old.zone old.old.default self.old.day (state T.Store old.old.connection).now
+            (book_in old.old.zone old.old.default (state T.Store old.old.connection).now).history
+            self.old.reached
+            (state S.Store self.old.made.connection).now
+            (state over_memory self.old.scratch.connection).now
+            → IsRemembered old.old.zone old.old.default self.old.day
+            (state T.Store old.old.connection).now
             (state S.Store self.new.made.connection)) }
-        ensures crash_ok { HasCleanDisk (state S.Store self.new.made.connection) → OnOk result ((db : Trees)
+        ensures crash_ok { HasCleanDisk (state S.Store self.new.made.connection)
+            → OnOk result ((db : Trees)
             → (state S.Store self.new.made.connection).may_leave db
             → db ≡ (state S.Store self.new.made.connection).now.trees) }
 
         // The old one is as it was, and a crash leaves of it what a crash before could leave.
         ensures old_lent { (old.new.zone ≡ old.old.zone) × (old.new.default ≡ old.old.default)
             × (old.new.found ≡ old.old.found) × (old.new.cause ≡ old.old.cause) }
-        ensures old_kept { HasKept (state T.Store old.new.connection) → HasKept (state T.Store old.old.connection) }
+        ensures old_kept { HasKept (state T.Store old.new.connection)
+            → HasKept (state T.Store old.old.connection) }
         ensures old_same { HasKept (state T.Store old.new.connection)
             → (state T.Store old.new.connection).now ≡ (state T.Store old.old.connection).now }
         ensures old_sound { HasKept (state T.Store old.new.connection)
             → IsSound old.old.zone old.old.default (state T.Store old.old.connection)
             → IsSound old.new.zone old.new.default (state T.Store old.new.connection) }
         ensures old_crash { HasCleanDisk (state T.Store old.new.connection) → (db : Trees)
-            → (state T.Store old.new.connection).may_leave db → (state T.Store old.old.connection).may_leave db }
+            → (state T.Store old.new.connection).may_leave db
+            → (state T.Store old.old.connection).may_leave db }
     {
         tables_mean_their_book();
         let terms = Terms {
@@ -178,7 +197,8 @@ impl<S: Alter> Renewal<S> {
         self.made.cause()
     }
 
-    /// The day from which on it takes over what the old ledger remembers: a day number since 1970-01-01.
+    /// The day from which on it takes over what the old ledger remembers: a day number since
+    /// 1970-01-01.
     pub fn day(&self) -> u32
         ensures { result ≡ self.now.day }
     {

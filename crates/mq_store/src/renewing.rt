@@ -12,9 +12,10 @@ use sqlite::Alter;
 /// How many steps a piece has, so that one costs a request that comes meanwhile at most 10 ms.
 const STEPS: u64 = 32;
 
-/// A renewal beside the requests to the old ledger. Where a store fails it ends there, and the serving goes on.
+/// A renewal beside the requests to the old ledger. Where a store fails it ends there, and the
+/// serving goes on.
 #[derive(Drop)]
-pub struct Renewing<S: Alter> {
+pub struct RenewalChore<S: Alter> {
     pub renewal: Renewal<S>,
     /// Why it can't go on, once it can't.
     pub fault: Option<LedgerFault>,
@@ -27,7 +28,7 @@ fn piece_of(is_through: bool) -> Piece
     if is_through { Piece::Done } else { Piece::More }
 }
 
-impl<S: Alter, T: Alter> Chore<SqlLedger<T>> for Renewing<S> {
+impl<S: Alter, T: Alter> Chore<SqlLedger<T>> for RenewalChore<S> {
     ghost use Rattle.std.specs.Prelude.{◌≡◌, None};
     ghost use Rattle.sqlite.specs.Held.{state};
     ghost use Rattle.sqlite.specs.Steps.{over_memory};
@@ -38,7 +39,8 @@ impl<S: Alter, T: Alter> Chore<SqlLedger<T>> for Renewing<S> {
 
     ghost fits = { λ k b. k.fault ≡ None → HasKept (state S.Store k.renewal.made.connection) →
         HasCarried b.zone b.default k.renewal.day b.history k.renewal.reached
-        (state S.Store k.renewal.made.connection).now (state over_memory k.renewal.scratch.connection).now };
+        (state S.Store k.renewal.made.connection).now (state over_memory
+        k.renewal.scratch.connection).now };
 
     ghost is_done = { λ k b. HasKept (state S.Store k.renewal.made.connection) →
         IsSound b.zone b.default (state S.Store k.renewal.made.connection)

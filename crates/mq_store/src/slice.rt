@@ -5,14 +5,14 @@ ghost use Rattle.sqlite.specs.Held.{state};
 ghost use Rattle.sqlite.specs.State.{HasCleanDisk};
 ghost use Rattle.sqlite.specs.Steps.{over_memory};
 ghost use Rattle.sqlite.specs.Tree.{Trees};
-ghost use Rattle.mq_tables.specs.Inside.{LeavesCommit};
+ghost use Rattle.mq_tables.specs.Inside.{IsInside, LeavesCommit};
+ghost use Rattle.mq_store.specs.Inside.{ChangesNothing, Finds, StaysInside};
 ghost use Rattle.mq_store.specs.Renewing.{Renews, IsThrough, Ends};
 ghost use Rattle.mq_store.specs.Soundness.{HasKept};
-ghost use Rattle.mq_store.specs.Taking.{Stays};
 
 use crate::carry::{Terms, step};
-use crate::fault::Refused;
-use crate::reached::Reached;
+use crate::fault::Refusal;
+use crate::reached::RenewalPlace;
 use mq_tables::setting::read_arrivals;
 use sqlite::{Alter, Connection, MemStore, Transaction};
 use std::alloc::Global;
@@ -20,14 +20,15 @@ use std::alloc::Global;
 /// How far a slice came.
 #[derive(Clone, Copy)]
 pub(crate) struct Slice {
-    pub reached: Reached,
+    pub reached: RenewalPlace,
     /// How many answers the old store has.
     pub arrivals: u64,
     /// Whether it has no further one.
     pub is_through: bool,
 }
 
-/// How many answers came to the old store since a slice at which it had so many; before the first one none did.
+/// How many answers came to the old store since a slice at which it had so many; before the first
+/// one none did.
 fn came_since(heard: Option<u64>, arrivals: u64) -> u64 {
     match heard {
         Some(before) => arrivals.saturating_sub(before),
@@ -42,21 +43,20 @@ fn steps<S: Alter, T: Alter>(
     into: &mut Transaction<'_, T>,
     scratch: &mut Transaction<'_, MemStore>,
     terms: &Terms,
-    at: Reached,
+    at: RenewalPlace,
     until: u64,
     count: u64,
-) -> Result<Reached, Refused>
+) -> Result<RenewalPlace, Refusal>
     requires until { until < 2 ^ 63 }
     requires inside { IsTrue (state over_memory scratch.old.conn.now).in_transaction }
-    requires into_inside { HasCleanDisk (state T.Store into.old.conn.now)
-        → IsTrue (state T.Store into.old.conn.now).in_transaction }
-    ensures stays { HasCleanDisk (state S.Store from.new.conn.now)
-        → OnOk result (Stays (state S.Store from.old.conn.now) (state S.Store from.new.conn.now)) }
+    requires into_inside { IsInside T.Store into.old }
+    ensures stays { ChangesNothing S.Store from.old from.new result }
     ensures inside { OnOk result (IsTrue (state over_memory scratch.new.conn.now).in_transaction) }
-    ensures into_inside { HasCleanDisk (state T.Store into.new.conn.now)
-        → OnOk result (IsTrue (state T.Store into.new.conn.now).in_transaction) }
-    ensures more { IfOk result (λ to. until ≤ to.place ⊎ at.place + at.followed + count ≤ to.place + to.followed) }
-    ensures renews { HasCleanDisk (state S.Store from.new.conn.now) → HasCleanDisk (state T.Store into.new.conn.now)
+    ensures into_inside { StaysInside T.Store into.old into.new result }
+    ensures more { IfOk result (λ to. until ≤ to.place ⊎ at.place + at.followed + count ≤ to.place +
+        to.followed) }
+    ensures renews { HasCleanDisk (state S.Store from.new.conn.now)
+        → HasCleanDisk (state T.Store into.new.conn.now)
         → IfOk result (λ to. Renews terms.now.zone terms.now.default terms.now.day at to
         (state S.Store from.old.conn.now).now
         (state T.Store into.old.conn.now).now (state T.Store into.new.conn.now).now
@@ -75,8 +75,9 @@ fn steps<S: Alter, T: Alter>(
     Ok(reached)
 }
 
-/// Makes so many steps within a transaction of each store, and one more for each answer that came since the last slice,
-/// at which the old store had `heard`. So many as there are numbers always reach the end.
+/// Makes so many steps within a transaction of each store, and one more for each answer that came
+/// since the last slice, at which the old store had `heard`. So many as there are numbers always
+/// reach the end.
 #[tactic(auto, using(crate::proofs::Chain::calls))]
 pub(crate) fn go_through<S: Alter, T: Alter>(
     alloc: Global,
@@ -84,26 +85,24 @@ pub(crate) fn go_through<S: Alter, T: Alter>(
     into: &mut Transaction<'_, T>,
     scratch: &mut Transaction<'_, MemStore>,
     terms: &Terms,
-    at: Reached,
+    at: RenewalPlace,
     heard: Option<u64>,
     count: u64,
-) -> Result<Slice, Refused>
+) -> Result<Slice, Refusal>
     requires inside { IsTrue (state over_memory scratch.old.conn.now).in_transaction }
-    requires into_inside { HasCleanDisk (state T.Store into.old.conn.now)
-        → IsTrue (state T.Store into.old.conn.now).in_transaction }
-    ensures stays { HasCleanDisk (state S.Store from.new.conn.now)
-        → OnOk result (Stays (state S.Store from.old.conn.now) (state S.Store from.new.conn.now)) }
+    requires into_inside { IsInside T.Store into.old }
+    ensures stays { ChangesNothing S.Store from.old from.new result }
     ensures inside { OnOk result (IsTrue (state over_memory scratch.new.conn.now).in_transaction) }
-    ensures into_inside { HasCleanDisk (state T.Store into.new.conn.now)
-        → OnOk result (IsTrue (state T.Store into.new.conn.now).in_transaction) }
+    ensures into_inside { StaysInside T.Store into.old into.new result }
     ensures more { IfOk result (λ slice. IsTrue slice.is_through
         ⊎ at.place + at.followed + count ≤ slice.reached.place + slice.reached.followed) }
     ensures all { IfOk result (λ slice. 2 ^ 64 ≤ count + 1 → IsTrue slice.is_through) }
-    ensures through { HasCleanDisk (state S.Store from.new.conn.now)
-        → IfOk result (λ slice. IsTrue slice.is_through → IsThrough terms.now.zone terms.now.default slice.reached
-        (state S.Store from.old.conn.now).now) }
-    ensures renews { HasCleanDisk (state S.Store from.new.conn.now) → HasCleanDisk (state T.Store into.new.conn.now)
-        → IfOk result (λ slice. Renews terms.now.zone terms.now.default terms.now.day at slice.reached
+    ensures through { Finds S.Store from.old from.new result (λ db slice. IsTrue slice.is_through
+        → IsThrough terms.now.zone terms.now.default slice.reached db) }
+    ensures renews { HasCleanDisk (state S.Store from.new.conn.now)
+        → HasCleanDisk (state T.Store into.new.conn.now)
+        → IfOk result (λ slice. Renews terms.now.zone terms.now.default terms.now.day at
+        slice.reached
         (state S.Store from.old.conn.now).now
         (state T.Store into.old.conn.now).now (state T.Store into.new.conn.now).now
         (state over_memory scratch.old.conn.now).now (state over_memory scratch.new.conn.now).now) }
@@ -122,18 +121,19 @@ pub(crate) fn go_through<S: Alter, T: Alter>(
     })
 }
 
-/// Makes so many steps, and one more for each answer that came since the last slice, in one transaction of the new
-/// store. The old store is read in a transaction that writes nothing. After a fault the two others are of no use.
+/// Makes so many steps, and one more for each answer that came since the last slice, in one
+/// transaction of the new store. The old store is read in a transaction that writes nothing. After
+/// a fault the two others are of no use.
 pub(crate) fn renew_store<S: Alter, T: Alter>(
     alloc: Global,
     from: &mut Connection<S>,
     into: &mut Connection<T>,
     scratch: &mut Connection<MemStore>,
     terms: &Terms,
-    at: Reached,
+    at: RenewalPlace,
     heard: Option<u64>,
     count: u64,
-) -> Result<Slice, Refused>
+) -> Result<Slice, Refusal>
     requires from_autocommit { from.old.in_transaction ≡ false }
     requires into_autocommit { into.old.in_transaction ≡ false }
     requires scratch_autocommit { scratch.old.in_transaction ≡ false }
@@ -151,16 +151,22 @@ pub(crate) fn renew_store<S: Alter, T: Alter>(
         → (state S.Store from.new).may_leave db → (state S.Store from.old).may_leave db }
     ensures more { IfOk result (λ slice. IsTrue slice.is_through
         ⊎ at.place + at.followed + count ≤ slice.reached.place + slice.reached.followed) }
-    ensures renews { HasKept (state S.Store from.new) → HasKept (state T.Store into.new) → IfOk result (λ slice.
-        Renews terms.now.zone terms.now.default terms.now.day at slice.reached (state S.Store from.old).now
+    ensures renews { HasKept (state S.Store from.new) → HasKept (state T.Store into.new)
+        → IfOk result (λ slice.
+        Renews terms.now.zone terms.now.default terms.now.day at slice.reached
+        (state S.Store from.old).now
         (state T.Store into.old).now (state T.Store into.new).now
         (state over_memory scratch.old).now (state over_memory scratch.new).now) }
-    ensures ends { HasKept (state S.Store from.new) → HasKept (state T.Store into.new) → IfOk result (λ slice.
-        IsTrue slice.is_through → Ends terms.now.zone terms.now.default terms.now.day at (state S.Store from.old).now
-        (state T.Store into.old).now (state T.Store into.new).now (state over_memory scratch.old).now) }
+    ensures ends { HasKept (state S.Store from.new) → HasKept (state T.Store into.new)
+        → IfOk result (λ slice.
+        IsTrue slice.is_through → Ends terms.now.zone terms.now.default terms.now.day at
+        (state S.Store from.old).now
+        (state T.Store into.old).now (state T.Store into.new).now
+        (state over_memory scratch.old).now) }
     ensures crash_ok { HasCleanDisk (state T.Store into.new) → OnOk result ((db : Trees)
         → (state T.Store into.new).may_leave db → db ≡ (state T.Store into.new).now.trees) }
 {
+    // (their clauses say that outside a transaction the tables are those of the last commit)
     let _from_settled = from.is_autocommit();
     let _into_settled = into.is_autocommit();
     let _scratch_settled = scratch.is_autocommit();

@@ -1,18 +1,19 @@
-//! One request inside a transaction of the store.
+//! One request inside a transaction of the store: `take`, at the end, which each function before it
+//! is a part of.
 
-ghost use Rattle.std.specs.Prelude.{◌≡◌, ℕ, List, Some, IsTrue, IfOk, IfErr, IfSome, OnOk};
-ghost use Rattle.sqlite.specs.Held.{state};
-ghost use Rattle.sqlite.specs.State.{HasCleanDisk};
+ghost use Rattle.std.specs.Prelude.{◌≡◌, ℕ, List, Some, IfOk, IfSome};
 ghost use Rattle.mq_request.specs.Range.{IsRequest, IsReply};
 ghost use Rattle.mq_ledger.specs.declared.entry.Entry.{Entry as AnyEntry};
 ghost use Rattle.mq_ledger.specs.Arrivals.{id_of, is_below};
 ghost use Rattle.mq_ledger.specs.History.{requests};
 ghost use Rattle.mq_rows.specs.Storable.{IsStorablePlan};
-ghost use Rattle.mq_tables.specs.Inside.{LeavesCommit};
+ghost use Rattle.mq_tables.specs.Inside.{IsInside, LeavesCommit};
+ghost use Rattle.mq_store.specs.Inside.{Answers, ChangesNothing, Finds, StaysInside, Stops};
 ghost use Rattle.mq_store.specs.Causes.{StopsOver, StopsNew};
-ghost use Rattle.mq_store.specs.Taking.{HasBook, book_of, Stays, IsKnown, IsPlanned, AppliesNew, IsTaken, reply_in};
+ghost use Rattle.mq_store.specs.Taking.{HasBook, book_of, IsKnown, IsPlanned, AppliesNew, IsTaken};
+ghost use Rattle.mq_store.specs.Taking.{reply_in};
 
-use crate::fault::Refused;
+use crate::fault::Refusal;
 use crate::laws::{
     arrivals_are_applied, floors_are_known, new_numbers_are_planned, numbers_are_known,
 };
@@ -29,7 +30,7 @@ use sqlite::{Alter, Error, Transaction};
 use std::alloc::Global;
 
 /// How a request was taken.
-pub(crate) enum Taken {
+pub(crate) enum TakenRequest {
     /// Its reply was known or could be read: nothing is written.
     Read(Reply),
     /// Its number is new: it is written with its reply.
@@ -39,12 +40,10 @@ pub(crate) enum Taken {
 /// Whether the run of that number is below the floor of its host.
 #[tactic(auto, using(crate::proofs::Chain::calls))]
 fn is_retired<S: Alter>(tx: &mut Transaction<'_, S>, id: &Id) -> Result<bool, Error>
-    ensures stays { HasCleanDisk (state S.Store tx.new.conn.now)
-        → OnOk result (Stays (state S.Store tx.old.conn.now) (state S.Store tx.new.conn.now)) }
-    ensures below { HasCleanDisk (state S.Store tx.new.conn.now)
-        → IfOk result (λ retired. (zone : Zone) (default : ℕ) (H : List AnyEntry)
-        → HasBook (book_of zone default H) (state S.Store tx.old.conn.now).now
-        → retired ≡ is_below (requests H) id.now) }
+    ensures stays { ChangesNothing S.Store tx.old tx.new result }
+    ensures below { Finds S.Store tx.old tx.new result (λ db retired. (zone : Zone) (default : ℕ)
+        (H : List AnyEntry)
+        → HasBook (book_of zone default H) db → retired ≡ is_below (requests H) id.now) }
     ensures leaves { LeavesCommit S.Store tx.old tx.new }
 {
     floors_are_known();
@@ -54,28 +53,25 @@ fn is_retired<S: Alter>(tx: &mut Transaction<'_, S>, id: &Id) -> Result<bool, Er
     }
 }
 
-/// The reply to a request whose number is known, if it is: `Old` where its run is below the floor, and
-/// else what its row keeps.
+/// The reply to a request whose number is known, if it is: `Old` where its run is below the floor,
+/// and else what its row keeps.
 #[tactic(auto, using(crate::proofs::Chain::calls))]
 fn known_reply<S: Alter>(
     alloc: Global,
     tx: &mut Transaction<'_, S>,
     id: &Id,
     request: &Request,
-) -> Result<Option<Reply>, Refused>
+) -> Result<Option<Reply>, Refusal>
     requires in_range { IsRequest request.now }
     requires number { id_of request.now ≡ Some id.now }
-    ensures stays { HasCleanDisk (state S.Store tx.new.conn.now)
-        → OnOk result (Stays (state S.Store tx.old.conn.now) (state S.Store tx.new.conn.now)) }
-    ensures known { HasCleanDisk (state S.Store tx.new.conn.now)
-        → IfOk result (λ known. (zone : Zone) (default : ℕ) (H : List AnyEntry)
-        → HasBook (book_of zone default H) (state S.Store tx.old.conn.now).now
-        → IsKnown zone default H request.now id.now known) }
+    ensures stays { ChangesNothing S.Store tx.old tx.new result }
+    ensures known { Finds S.Store tx.old tx.new result (λ db known. (zone : Zone) (default : ℕ)
+        (H : List AnyEntry)
+        → HasBook (book_of zone default H) db → IsKnown zone default H request.now id.now known) }
     ensures in_range { IfOk result (λ known. IfSome known IsReply) }
     ensures leaves { LeavesCommit S.Store tx.old tx.new }
-    ensures cause { HasCleanDisk (state S.Store tx.new.conn.now)
-        → IfErr result (λ refused. (zone : Zone) (default : ℕ)
-        → StopsOver zone default (state S.Store tx.old.conn.now).now refused) }
+    ensures cause { Stops S.Store tx.old tx.new result (λ db refused. (zone : Zone) (default : ℕ)
+        → StopsOver zone default db refused) }
 {
     numbers_are_known();
     let retired = is_retired(tx, id)?;
@@ -97,18 +93,16 @@ fn plan<S: Alter>(
     default: u32,
     id: &Id,
     request: &Request,
-) -> Result<Plan, Refused>
+) -> Result<Plan, Refusal>
     requires in_range { IsRequest request.now }
     requires number { id_of request.now ≡ Some id.now }
-    ensures stays { HasCleanDisk (state S.Store tx.new.conn.now)
-        → OnOk result (Stays (state S.Store tx.old.conn.now) (state S.Store tx.new.conn.now)) }
-    ensures planned { HasCleanDisk (state S.Store tx.new.conn.now)
-        → IfOk result (IsPlanned zone default request.now id.now (state S.Store tx.old.conn.now).now) }
+    ensures stays { ChangesNothing S.Store tx.old tx.new result }
+    ensures planned { Finds S.Store tx.old tx.new result
+        (IsPlanned zone default request.now id.now) }
     ensures storable { IfOk result IsStorablePlan }
     ensures in_range { IfOk result (λ plan. IsReply plan.reply) }
     ensures leaves { LeavesCommit S.Store tx.old tx.new }
-    ensures cause { HasCleanDisk (state S.Store tx.new.conn.now)
-        → IfErr result (StopsNew zone default id.now (state S.Store tx.old.conn.now).now) }
+    ensures cause { Stops S.Store tx.old tx.new result (StopsNew zone default id.now) }
 {
     new_numbers_are_planned();
     let arrivals = read_arrivals(tx)?;
@@ -125,20 +119,16 @@ fn take_new<S: Alter>(
     default: u32,
     id: &Id,
     request: &Request,
-) -> Result<Reply, Refused>
+) -> Result<Reply, Refusal>
     requires in_range { IsRequest request.now }
     requires number { id_of request.now ≡ Some id.now }
-    requires inside { HasCleanDisk (state S.Store tx.old.conn.now)
-        → IsTrue (state S.Store tx.old.conn.now).in_transaction }
-    ensures inside { HasCleanDisk (state S.Store tx.new.conn.now)
-        → OnOk result (IsTrue (state S.Store tx.new.conn.now).in_transaction) }
-    ensures applied { HasCleanDisk (state S.Store tx.new.conn.now)
-        → IfOk result (λ a. AppliesNew zone default request.now id.now a
-        (state S.Store tx.old.conn.now).now (state S.Store tx.new.conn.now).now) }
+    requires inside { IsInside S.Store tx.old }
+    ensures inside { StaysInside S.Store tx.old tx.new result }
+    ensures applied { Answers S.Store tx.old tx.new result
+        (AppliesNew zone default request.now id.now) }
     ensures in_range { IfOk result IsReply }
     ensures leaves { LeavesCommit S.Store tx.old tx.new }
-    ensures cause { HasCleanDisk (state S.Store tx.new.conn.now)
-        → IfErr result (StopsNew zone default id.now (state S.Store tx.old.conn.now).now) }
+    ensures cause { Stops S.Store tx.old tx.new result (StopsNew zone default id.now) }
 {
     arrivals_are_applied();
     let plan = plan(alloc, tx, zone, default, id, request)?;
@@ -155,27 +145,23 @@ fn take_numbered<S: Alter>(
     default: u32,
     id: &Id,
     request: &Request,
-) -> Result<Taken, Refused>
+) -> Result<TakenRequest, Refusal>
     requires in_range { IsRequest request.now }
     requires number { id_of request.now ≡ Some id.now }
-    requires inside { HasCleanDisk (state S.Store tx.old.conn.now)
-        → IsTrue (state S.Store tx.old.conn.now).in_transaction }
-    ensures inside { HasCleanDisk (state S.Store tx.new.conn.now)
-        → OnOk result (IsTrue (state S.Store tx.new.conn.now).in_transaction) }
-    ensures taken { HasCleanDisk (state S.Store tx.new.conn.now)
-        → IfOk result (IsTaken zone default request.now
-        (state S.Store tx.old.conn.now).now (state S.Store tx.new.conn.now).now) }
+    requires inside { IsInside S.Store tx.old }
+    ensures inside { StaysInside S.Store tx.old tx.new result }
+    ensures taken { Answers S.Store tx.old tx.new result
+        (λ taken before after. IsTaken zone default request.now before after taken) }
     ensures in_range { IfOk result (λ taken. IsReply (reply_in taken)) }
     ensures leaves { LeavesCommit S.Store tx.old tx.new }
-    ensures cause { HasCleanDisk (state S.Store tx.new.conn.now)
-        → IfErr result (StopsOver zone default (state S.Store tx.old.conn.now).now) }
+    ensures cause { Stops S.Store tx.old tx.new result (StopsOver zone default) }
 {
     arrivals_are_applied();
     match known_reply(alloc, tx, id, request)? {
-        Some(known) => Ok(Taken::Read(known)),
+        Some(known) => Ok(TakenRequest::Read(known)),
         None => {
             let new = take_new(alloc, tx, zone, default, id, request)?;
-            Ok(Taken::Written(new))
+            Ok(TakenRequest::Written(new))
         }
     }
 }
@@ -187,19 +173,15 @@ pub(crate) fn take<S: Alter>(
     zone: Zone,
     default: u32,
     request: &Request,
-) -> Result<Taken, Refused>
+) -> Result<TakenRequest, Refusal>
     requires in_range { IsRequest request.now }
-    requires inside { HasCleanDisk (state S.Store tx.old.conn.now)
-        → IsTrue (state S.Store tx.old.conn.now).in_transaction }
-    ensures inside { HasCleanDisk (state S.Store tx.new.conn.now)
-        → OnOk result (IsTrue (state S.Store tx.new.conn.now).in_transaction) }
-    ensures taken { HasCleanDisk (state S.Store tx.new.conn.now)
-        → IfOk result (IsTaken zone default request.now
-        (state S.Store tx.old.conn.now).now (state S.Store tx.new.conn.now).now) }
+    requires inside { IsInside S.Store tx.old }
+    ensures inside { StaysInside S.Store tx.old tx.new result }
+    ensures taken { Answers S.Store tx.old tx.new result
+        (λ taken before after. IsTaken zone default request.now before after taken) }
     ensures in_range { IfOk result (λ taken. IsReply (reply_in taken)) }
     ensures leaves { LeavesCommit S.Store tx.old tx.new }
-    ensures cause { HasCleanDisk (state S.Store tx.new.conn.now)
-        → IfErr result (StopsOver zone default (state S.Store tx.old.conn.now).now) }
+    ensures cause { Stops S.Store tx.old tx.new result (StopsOver zone default) }
 {
     arrivals_are_applied();
     match request {
@@ -210,11 +192,11 @@ pub(crate) fn take<S: Alter>(
         | Request::Retire { id } => take_numbered(alloc, tx, zone, default, id, request),
         Request::Usage { login, day } => {
             let reply = reply_to_usage(tx, default, login, *day)?;
-            Ok(Taken::Read(reply))
+            Ok(TakenRequest::Read(reply))
         }
         Request::List { day, after } => {
             let reply = reply_to_list(alloc, tx, default, *day, after)?;
-            Ok(Taken::Read(reply))
+            Ok(TakenRequest::Read(reply))
         }
     }
 }

@@ -1,10 +1,8 @@
 //! What a numbered request whose number is new writes.
 
-ghost use Rattle.std.specs.Prelude.{IsTrue, OnOk};
-ghost use Rattle.sqlite.specs.Held.{state};
-ghost use Rattle.sqlite.specs.State.{HasCleanDisk};
 ghost use Rattle.mq_rows.specs.Storable.{AreStorable, IsStorableRun, IsStorablePlan};
-ghost use Rattle.mq_tables.specs.Inside.{LeavesCommit};
+ghost use Rattle.mq_tables.specs.Inside.{IsInside, LeavesCommit};
+ghost use Rattle.mq_store.specs.Inside.{StaysInside, Turns};
 ghost use Rattle.mq_store.specs.Taking.{MovesRows, WritesPlan};
 
 use crate::giving_up::give_up;
@@ -23,12 +21,9 @@ use std::alloc::Global;
 fn write_rows<S: Alter>(tx: &mut Transaction<'_, S>, plan: &Plan) -> Result<usize, Error>
     requires storable { AreStorable plan.now.transaction }
     requires floor { IsStorableRun plan.now.retired }
-    requires inside { HasCleanDisk (state S.Store tx.old.conn.now)
-        → IsTrue (state S.Store tx.old.conn.now).in_transaction }
-    ensures inside { HasCleanDisk (state S.Store tx.new.conn.now)
-        → OnOk result (IsTrue (state S.Store tx.new.conn.now).in_transaction) }
-    ensures written { HasCleanDisk (state S.Store tx.new.conn.now)
-        → OnOk result (MovesRows plan.now (state S.Store tx.old.conn.now).now (state S.Store tx.new.conn.now).now) }
+    requires inside { IsInside S.Store tx.old }
+    ensures inside { StaysInside S.Store tx.old tx.new result }
+    ensures written { Turns S.Store tx.old tx.new result (MovesRows plan.now) }
     ensures leaves { LeavesCommit S.Store tx.old tx.new }
 {
     write_transaction(tx, &plan.transaction)?;
@@ -45,12 +40,9 @@ pub(crate) fn write_plan<S: Alter>(
     plan: &Plan,
 ) -> Result<usize, Error>
     requires storable { IsStorablePlan plan.now }
-    requires inside { HasCleanDisk (state S.Store tx.old.conn.now)
-        → IsTrue (state S.Store tx.old.conn.now).in_transaction }
-    ensures inside { HasCleanDisk (state S.Store tx.new.conn.now)
-        → OnOk result (IsTrue (state S.Store tx.new.conn.now).in_transaction) }
-    ensures written { HasCleanDisk (state S.Store tx.new.conn.now)
-        → OnOk result (WritesPlan plan.now (state S.Store tx.old.conn.now).now (state S.Store tx.new.conn.now).now) }
+    requires inside { IsInside S.Store tx.old }
+    ensures inside { StaysInside S.Store tx.old tx.new result }
+    ensures written { Turns S.Store tx.old tx.new result (WritesPlan plan.now) }
     ensures leaves { LeavesCommit S.Store tx.old tx.new }
 {
     give_up(alloc, tx, &plan.given_up)?;

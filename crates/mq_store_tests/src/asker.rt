@@ -1,5 +1,5 @@
-//! Random requests to a ledger, from fixed seeds, and what of them stays where days are forgotten: told by a list of
-//! what was asked.
+//! Random requests to a ledger, from fixed seeds, and what of them stays where days are forgotten:
+//! told by a list of what was asked.
 
 use crate::asks::ask;
 use mq_ledger::Ledger;
@@ -51,7 +51,8 @@ impl Asking {
     }
 }
 
-/// A request that was heard for the first time and answered, and whether it is a limit that was set.
+/// A request that was heard for the first time and answered, and whether it is a limit that was
+/// set.
 #[derive(Clone, Copy)]
 pub struct Answered {
     pub asking: Asking,
@@ -176,7 +177,8 @@ impl Asker {
         self.runs[place]
     }
 
-    /// The next request, whose number is new. A transaction's day and login are told by its name, but now and then.
+    /// The next request, whose number is new. A transaction's day and login are told by its name,
+    /// but now and then.
     pub fn next(&mut self) -> Asking {
         let kind = match self.below(12) {
             0..=4 => Kind::Reserve,

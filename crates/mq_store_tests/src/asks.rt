@@ -1,5 +1,5 @@
-//! Requests and replies by the hexadecimal digits of their bodies, new ledgers, ledgers that are asked, and
-//! what is told of what they answer.
+//! Requests and replies by the hexadecimal digits of their bodies, new ledgers, ledgers that are
+//! asked, and what is told of what they answer.
 
 use mq_frame::{decode_request, encode_reply};
 use mq_ledger::{Ledger, LedgerFault, PlainLedger, Zone};
@@ -46,7 +46,8 @@ pub fn is_body(alloc: Global, body: &[u8], digits: &str) -> bool {
     }
 }
 
-/// What a ledger replies to a request in range. Without clauses, so that its callers stay cheap to prove.
+/// What a ledger replies to a request in range. Without clauses, so that its callers stay cheap to
+/// prove.
 pub fn ask<L: Ledger>(ledger: &mut L, request: &Request) -> Result<Reply, LedgerFault> {
     if !is_request(request) {
         return Err(LedgerFault::Memory);

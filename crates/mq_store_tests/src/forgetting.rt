@@ -1,5 +1,5 @@
-//! A ledger that forgot the days that are over, alongside the one that it was made from: random histories over
-//! tables, from fixed seeds. What stays is told by a list of what was asked.
+//! A ledger that forgot the days that are over, alongside the one that it was made from: random
+//! histories over tables, from fixed seeds. What stays is told by a list of what was asked.
 
 use crate::asker::{Answered, Asker, Kind, LAST_DAY, is_about, login_of, request_of, stays};
 use crate::asks::{Verdict, ask, check_audit, tables, told, wanted};
@@ -181,7 +181,8 @@ fn check_answers(old: &[Row], new: &[Row], answered: &[Answered], from: u32) -> 
     wanted(old.len() == answered.len(), "another count of answers")
 }
 
-/// How many limits from earlier days have lost their replies: those that were set, and those that weren't.
+/// How many limits from earlier days have lost their replies: those that were set, and those that
+/// weren't.
 #[derive(Clone, Copy)]
 struct Cleared {
     set: u32,

@@ -1,5 +1,5 @@
-//! What a subcommand says where the clock, the store or the output fails as no run of the program can be made to meet it. The
-//! rest is asked of the built program.
+//! What a subcommand says where the clock, the store or the output fails as no run of the program
+//! can be made to meet it. The rest is asked of the built program.
 //!
 //! The helpers have no clauses, so that a test stays cheap to prove.
 

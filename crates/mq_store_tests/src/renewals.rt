@@ -1,7 +1,8 @@
-//! A ledger that is renewed over some nights while it is asked, alongside a list that forgets at once: random histories
-//! from fixed seeds, with slices of random sizes and requests between them.
+//! A ledger that is renewed over some nights while it is asked, alongside a list that forgets at
+//! once: random histories from fixed seeds, with slices of random sizes and requests between them.
 //!
-//! At each switch all rows of the new tables are those that carrying over at once makes of the old ones.
+//! At each switch all rows of the new tables are those that carrying over at once makes of the old
+//! ones.
 
 use crate::asker::{Asker, Asking, Kind, LAST_DAY, login_of, request_of, stays};
 use crate::asks::{Verdict, ask, check_audit, plain, tables, told, wanted, zone};
@@ -41,8 +42,8 @@ const TABLES: [&str; 7] = [
     "SELECT * FROM retired ORDER BY host",
 ];
 
-/// How many limits from earlier days lost their replies: before the renewal that took them over, and during it, before
-/// it came to them.
+/// How many limits from earlier days lost their replies: before the renewal that took them over,
+/// and during it, before it came to them.
 #[derive(Clone, Copy)]
 struct Cleared {
     before: u32,
@@ -204,7 +205,8 @@ fn check_rows(
     Ok(())
 }
 
-/// The ledger that was renewed, opened anew, which has the rows of one that was carried over at once.
+/// The ledger that was renewed, opened anew, which has the rows of one that was carried over at
+/// once.
 fn opened(
     alloc: Global,
     old: &mut SqlLedger<MemStore>,

@@ -301,8 +301,8 @@ fn rows_of_no_history(rt: HostRuntime) -> Result<(), Fail> {
     from_ledger(rt.alloc(), NO_HISTORY)
 }
 
-/// On which days something was reserved: a day counts as soon as a reserve of it is granted, also where that is the
-/// earliest, and stays where all of it is released.
+/// On which days something was reserved: a day counts as soon as a reserve of it is granted, also
+/// where that is the earliest, and stays where all of it is released.
 const DAYS: &[Case] = &[(
     "days with a reserve",
     &[

@@ -4,4 +4,4 @@ use thiserror::Error;
 /// The device failed, or had failed before.
 #[derive(Clone, Copy, Debug, PartialEq, Eq, Error)]
 #[error("the device failed")]
-pub struct Failed;
+pub struct DeviceFault;

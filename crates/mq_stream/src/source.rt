@@ -1,10 +1,11 @@
 //! Where bytes come from: a source, which fails for good once it has failed.
-ghost use Rattle.std.specs.Prelude.{◌≡◌, ◌∷◌, [], ℕ, List, Bool, false, true, Option, None, IsErr, is_err};
+ghost use Rattle.std.specs.Prelude.{◌≡◌, ◌∷◌, [], ℕ, List, Bool, false, true, Option, None, IsErr};
+ghost use Rattle.std.specs.Prelude.{is_err};
 ghost use Rattle.std.specs.Io.{ReadsAtMost};
 ghost use Rattle.std.specs.Io.KnownBytes.{ReadConsumes};
 ghost use Rattle.mq_stream.specs.Flow.{read_bytes, TellsReads};
 
-use crate::error::Failed;
+use crate::error::DeviceFault;
 use std::io::{ErrorKind, Read};
 use std::marker::Model;
 
@@ -24,10 +25,11 @@ pub trait Source {
 
     /// Reads into the front of `piece` and says how many bytes; 0 of them, where there is room, is
     /// the end of the bytes. Once a call has failed, every later one fails.
-    fn read(&mut self, piece: &mut [u8]) -> Result<usize, Failed>
+    fn read(&mut self, piece: &mut [u8]) -> Result<usize, DeviceFault>
         ensures bound { ReadsAtMost result piece.new }
         ensures bytes { ReadConsumes (remaining self.old) (remaining self.new) result piece.new }
-        ensures told { TellsReads (reads self.old) (reads self.new) (read_bytes result piece.new ∷ []) }
+        ensures told { TellsReads (reads self.old) (reads self.new)
+            (read_bytes result piece.new ∷ []) }
         ensures failed { has_failed self.new ≡ is_err result }
         ensures for_good { has_failed self.old ≡ true → IsErr result };
 }
@@ -72,9 +74,9 @@ impl<R: Read> Source for FromRead<R> {
 
     ghost has_failed = { λ source. source.has_failed };
 
-    fn read(&mut self, piece: &mut [u8]) -> Result<usize, Failed> {
+    fn read(&mut self, piece: &mut [u8]) -> Result<usize, DeviceFault> {
         if self.failed {
-            return Err(Failed);
+            return Err(DeviceFault);
         }
         for attempt in 0..TRIES {
             match self.reader.read(piece) {
@@ -84,6 +86,6 @@ impl<R: Read> Source for FromRead<R> {
             }
         }
         self.failed = true;
-        Err(Failed)
+        Err(DeviceFault)
     }
 }

@@ -25,10 +25,10 @@ first_of : (shown : List Row) (row : Row) (rows : List Row) → slice_get rows 0
 first_of shown row [] there h = absurd cc
 first_of shown row (x ∷ more) there h = let e : x ≡ row = cc in (more, subst (λ r. IsPermutation shown (r ∷ more)) e h)
 
-module _ (text : List ℕ) (shape : SelectShape) (it : IsSelect text shape) (unordered : shape.order ≡ None) (alone : IsAlone text) (old new : State) (tree : ℕ)
+module _ {text : List ℕ} {shape : SelectShape} (it : IsSelect text shape) (unordered : shape.order ≡ None) (alone : IsAlone text) (old new : State) (tree : ℕ)
     (place : IsTableIn old.now.schema shape.table tree) where
   is : understood old.now.schema text ≡ Ok (compiled_of text shape tree)
-  is = means text shape it old.now.schema tree place
+  is = means it old.now.schema tree place
 
   command : command_of (understood old.now.schema text) ≡ Select (record { lets = []; body = plain_query tree (filter_in shape) (shown_in shape) }) (names_in shape tree)
   command = subst (λ by. command_of (understood old.now.schema text) ≡ Select (record { lets = []; body = paged tree shape.table.key (filter_in shape) (shown_in shape) by }) (names_in shape tree)) unordered (ap command_of is)
@@ -42,11 +42,11 @@ module _ (text : List ℕ) (shape : SelectShape) (it : IsSelect text shape) (uno
 
   pub stops : (e : Error) → FailsToQuery text [] (unlimited old) new e → settings.IsStop e
   stops e h =
-      stopped e (query_stops text [] (unlimited old) new e old.now.schema refl tree (filter_in shape) (shown_in shape) (names_in shape tree) command (plain text shape it old.now.schema tree place)
-      (ap is_ok is) (sym alone.1 ∙ sym (ap (λ r. length (names_of r)) is)) (let e = ap tail_of is in omega (arith, e, alone.0)) (apart text shape it old.now.schema tree place) types h)
+      stopped e (query_stops text [] (unlimited old) new e old.now.schema refl tree (filter_in shape) (shown_in shape) (names_in shape tree) command (plain it old.now.schema tree place)
+      (ap is_ok is) (sym alone.1 ∙ sym (ap (λ r. length (names_of r)) is)) (let e = ap tail_of is in omega (arith, e, alone.0)) (apart it old.now.schema tree place) types h)
 
   shows : (rows : List Row) → Shown text [] (unlimited old) new rows → IsPermutation (chosen (filter_in shape) (shown_in shape) [] (old.now.trees tree)) rows
-  shows rows h = shows_rows text shape it [] (unlimited old) new tree place rows h unordered
+  shows rows h = shows_rows it [] (unlimited old) new tree place rows h unordered
 
   ends : (c : Compiled) (db : Database) (s : IsStatement (unlimited old) text [] c) → IsSourceOf (reads_listing old.now.schema text) old.now db → EndsIn c.command db (timed [] c.formats s.now)
   ends c db s source =

@@ -1,19 +1,11 @@
 -- One table after another.
 use Rattle.std.proofs.Common.{◌≡◌, ℕ, List, [], ◌∷◌, ◌++◌, refl, ap, subst, ◌∙◌}
-use Rattle.mq_tables.proofs.Words.{AllByRecursion, Schema, State, Table, created, next_tree}
+use Rattle.mq_tables.proofs.Words.{AllByRecursion, Schema, State, Table, all-append, all_both, created, next_tree}
 use Rattle.mq_tables.specs.Making.{chain, trees_for, AllFree, HasAdded}
 
 pub all_split : {X : Type 0} (P : X → Type 0) (xs ys : List X) → AllByRecursion P (xs ++ ys) → AllByRecursion P xs × AllByRecursion P ys
 all_split P [] ys h = (tt, h)
 all_split P (x ∷ xs) ys h = let more = all_split P xs ys h.1 in ((h.0, more.0), more.1)
-
-pub all_joined : {X : Type 0} (P : X → Type 0) (xs ys : List X) → AllByRecursion P xs → AllByRecursion P ys → AllByRecursion P (xs ++ ys)
-all_joined P [] ys h k = k
-all_joined P (x ∷ xs) ys h k = (h.0, all_joined P xs ys h.1 k)
-
-pub all_both : {X : Type 0} (P Q R : X → Type 0) → ((x : X) → P x → Q x → R x) → (xs : List X) → AllByRecursion P xs → AllByRecursion Q xs → AllByRecursion R xs
-all_both P Q R f [] p q = tt
-all_both P Q R f (x ∷ xs) p q = (f x p.0 q.0, all_both P Q R f xs p.1 q.1)
 
 -- what holds of each table of the longer schema holds of those that were there, and of those that were made
 pub of_chain : (Q : ℕ → Type 0) (made : List Table) (s : Schema) → AllByRecursion (λ t. Q t.tree) (chain s made).tables
@@ -44,7 +36,7 @@ adds_both one two a b c p q =
     record {
       schema = q.schema ∙ ap (λ s. chain s two) p.schema ∙ chain_joined one two a.now.schema;
       free = free_joined one two a.now.schema p.free (subst (λ s. AllFree s two) p.schema q.free);
-      empty = subst (AllByRecursion (λ n. c.now.trees n ≡ [])) (trees_joined one two a.now.schema) (all_joined _ _ _ (all_both _ _ _ (λ n same none. same ∙ none) _ parts.1 p.empty) fresh);
+      empty = subst (AllByRecursion (λ n. c.now.trees n ≡ [])) (trees_joined one two a.now.schema) (all-append _ _ _ (all_both _ _ _ (λ n same none. same ∙ none) _ parts.1 p.empty) fresh);
       others = all_both _ _ _ (λ t later before. later ∙ before) a.now.schema.tables parts.0 p.others;
       counters = q.counters;
       sound = q.sound;

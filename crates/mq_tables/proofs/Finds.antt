@@ -1,7 +1,6 @@
 -- Which records a query shows.
-use Rattle.std.proofs.Common.{◌≡◌, inl, inr, ℕ, pos, List, [], ◌∷◌, ◌++◌, map, filter, length, Bool, true, false, Option, Some, None, Ok, Err, Result, cond, arith, refl, sym, ap, ap₂, subst, subst₂, ◌∙◌}
-use Rattle.mq_tables.proofs.Words.{AllByRecursion, Blob, Error, Has, IfOk, Int, IsPermutation, IsPermutation-map, Row, Tables, all-permutation, length_permutation, ⊤}
-use Rattle.sqlite_rules.proofs.ListLemmas.{has_filtered}
+use Rattle.std.proofs.Common.{◌≡◌, inl, inr, ℕ, pos, List, [], ◌∷◌, map, filter, length, Bool, true, false, Option, Some, None, Ok, Err, Result, arith, refl, sym, ap, ap₂, subst, subst₂, ◌∙◌}
+use Rattle.mq_tables.proofs.Words.{AllByRecursion, Blob, Error, Has, IfOk, Int, IsPermutation, IsPermutation-map, Row, Tables, all-map, all-permutation, all_from, all_of, cases_Bool, has_filtered, has_kept, length_permutation, ⊤}
 use Rattle.mq_tables.specs.Records.{IsOneOf, IsFirstBy, IsShownOne}
 
 pub empty_mapped : {X Y : Type 0} (f : X → Y) (xs : List X) → length (map f xs) ≡ 0 → xs ≡ []
@@ -10,21 +9,12 @@ empty_mapped f (x ∷ xs) e = absurd (omega (arith, e))
 
 module _ {R : Type 0} (test : R → Bool) where
   pub none_of : (all : List R) → filter test all ≡ [] → AllByRecursion (λ r. test r ≡ false) all
-  none_of [] e = tt
-  none_of (r ∷ all) e = go (test r) refl e (none_of all)
-    where
-      go : (b : Bool) → test r ≡ b → cond b (r ∷ filter test all) (filter test all) ≡ [] → (filter test all ≡ [] → AllByRecursion (λ r. test r ≡ false) all) → (test r ≡ false) × AllByRecursion (λ r. test r ≡ false) all
-      go true is h more = absurd cc
-      go false is h more = (is, more h)
+  none_of all e = all_from _ all (λ r there. elim (cases_Bool (test r)) [ inl hit ↦ absurd (subst (λ rs. Has rs r) e (has_kept test all r there hit)) | inr not_it ↦ not_it ])
 
 module _ {R Y : Type 0} (show : R → Y) where
-  shown_each : (P : R → Type 0) (rs : List R) → ((r : R) → Has rs r → P r) → AllByRecursion (λ y. (r : R) × P r × (y ≡ show r)) (map show rs)
-  shown_each P [] f = tt
-  shown_each P (r ∷ rs) f = ((r, f r (inl refl), refl), shown_each P rs (λ s h. f s (inr h)))
-
   -- what is shown is shown of a record that passes
   pub shown_of : (test : R → Bool) (all : List R) → AllByRecursion (λ y. (r : R) × (Has all r × (test r ≡ true)) × (y ≡ show r)) (map show (filter test all))
-  shown_of test all = shown_each (λ r. Has all r × (test r ≡ true)) (filter test all) (λ r h. has_filtered test all r h)
+  shown_of test all = all-map _ show (filter test all) (all_from _ (filter test all) (λ r there. (r, has_filtered test all r there, refl)))
 
 -- ---- values
 
@@ -78,11 +68,6 @@ pub all_pass : {R : Type 0} (rows : List R) → filter (λ _. true) rows ≡ row
 all_pass [] = refl
 all_pass (r ∷ rows) = ap (λ xs. r ∷ xs) (all_pass rows)
 
--- one more of a mapped list
-pub mapped_more : {X Y : Type 0} (f : X → Y) (xs : List X) (x : X) → map f (xs ++ x ∷ []) ≡ map f xs ++ f x ∷ []
-mapped_more f [] x = refl
-mapped_more f (y ∷ xs) x = ap (λ ys. f y ∷ ys) (mapped_more f xs x)
-
 -- what was read of the columns of these rows is what they stand for, of which a row's cells say all
 module _ {X : Type 0} (Good : X → Type 0) (cells : X → Row) (columns : Row → Row) (back : Row → X) (again : (x : X) → columns (cells x) ≡ cells x) (back_is : (x : X) → Good x → back (cells x) ≡ x) where
   all_again : (xs : List X) → map columns (map cells xs) ≡ map cells xs
@@ -98,11 +83,7 @@ module _ {X : Type 0} (Good : X → Type 0) (cells : X → Row) (columns : Row �
       let shown : IsPermutation (map cells these) (map cells read) = subst₂ IsPermutation (all_again these) is (IsPermutation-map columns _ _ same) in
       subst₂ IsPermutation (all_back these good) (all_back read good') (IsPermutation-map back _ _ shown)
 
-each_is : {X : Type 0} (xs : List X) → AllByRecursion (λ _. ⊤) xs
-each_is [] = tt
-each_is (x ∷ xs) = (tt, each_is xs)
-
 -- the same where the cells of all say all
 pub all_read : {X : Type 0} (cells : X → Row) (columns : Row → Row) (back : Row → X) → ((x : X) → columns (cells x) ≡ cells x) → ((x : X) → back (cells x) ≡ x)
     → (rows : List Row) (these read : List X) → IsPermutation (map cells these) rows → map columns rows ≡ map cells read → IsPermutation these read
-all_read cells columns back again back_is rows these read = same_read (λ _. ⊤) cells columns back again (λ x _. back_is x) rows these read (each_is these) (each_is read)
+all_read cells columns back again back_is rows these read = same_read (λ _. ⊤) cells columns back again (λ x _. back_is x) rows these read (all_of (λ _. ⊤) (λ _. tt) these) (all_of (λ _. ⊤) (λ _. tt) read)

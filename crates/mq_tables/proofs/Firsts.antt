@@ -1,7 +1,10 @@
 -- What a query on one table of ours answers of its records in an order: the first of those that pass.
-use Rattle.std.proofs.Common.{◌≡◌, ℕ, ◌+◌, suc, ◌^◌, nat_le, List, [], ◌∷◌, drop, map, filter, cond, Bool, true, false, true≢false, arith, refl, sym, ap, subst, ◌∙◌}
-use Rattle.mq_tables.proofs.Words.{AllByRecursion, Has, IsPermutation, IsPermutation-sym, IsPermutation-trans, IsPlain, IsSortedBy, IsStrictWeakOrder, Null, Row, Select, Shown, State, Term, Trees, all-permutation, all_weaker, command_of, eval_all, holds, is_lt, length_permutation, list_all, map-map, reads_as, reads_listing, slice_index_or, understood}
+use Rattle.std.proofs.Common.{◌≡◌, ℕ, ◌^◌, nat_le, List, [], ◌∷◌, drop, map, filter, Bool, true, false, arith, refl, sym, ap, subst, ◌∙◌}
+use Rattle.mq_tables.proofs.Words.{AllByRecursion, Has, IsPermutation, IsPermutation-sym, IsPermutation-trans, IsPlain, IsSortedBy, IsStrictWeakOrder, Null, Row, Select, Shown, State, Term, Trees, all-permutation, all_from, all_from_map, command_of, eval_all, has_kept, holds, is_lt, length_permutation, list_all, map-map, reads_as, reads_listing, understood}
+use Rattle.std.proofs.lemmas.List.Elements.{recursion_from_All}
 use Rattle.std.proofs.lemmas.List.MinMax.{ranks_by}
+use Rattle.std.proofs.lemmas.List.Sorted.{sorted_far}
+use Rattle.sqlite_rules.proofs.ListLemmas.{all_has}
 use Rattle.sqlite.specs.Query.{IsAnswer, Output, output, output_cmp, page}
 use Rattle.sqlite_sql.proofs.QueryLemmas.{output_cmp_total}
 use Rattle.sqlite_value.specs.declared.keys.Key.{Key}
@@ -16,40 +19,11 @@ stored t db low = rw low
 
 -- what holds of each record that passes
 pub all_of_filtered : {R : Type 0} (test : R → Bool) (Q : R → Type 0) (all : List R) → AllByRecursion Q (filter test all) → AllByRecursion (λ r. test r ≡ true → Q r) all
-all_of_filtered test Q [] h = tt
-all_of_filtered test Q (r ∷ all) h = go (test r) refl h (all_of_filtered test Q all)
-  where
-    go : (b : Bool) → test r ≡ b → AllByRecursion Q (cond b (r ∷ filter test all) (filter test all)) → (AllByRecursion Q (filter test all) → AllByRecursion (λ r. test r ≡ true → Q r) all)
-        → (test r ≡ true → Q r) × AllByRecursion (λ r. test r ≡ true → Q r) all
-    go true is h more = ((λ _. h.0), more h.1)
-    go false is h more = ((λ hit. absurd (true≢false (sym hit ∙ is))), more h)
-
-pub all_unmapped : {X Y : Type 0} (f : X → Y) (P : Y → Type 0) (xs : List X) → AllByRecursion P (map f xs) → AllByRecursion (λ x. P (f x)) xs
-all_unmapped f P [] h = tt
-all_unmapped f P (x ∷ xs) h = (h.0, all_unmapped f P xs h.1)
+all_of_filtered test Q all h = all_from _ all (λ r there hit. all_has Q (filter test all) r h (has_kept test all r there hit))
 
 -- none of a sorted list is less than its first
-module _ {X : Type 0} (lt : X → X → Bool) (order : IsStrictWeakOrder lt) where
-  itself : (x : X) → lt x x ≡ false
-  itself x = go (lt x x) refl
-    where
-      go : (b : Bool) → lt x x ≡ b → lt x x ≡ false
-      go true h = order.one_way x x h
-      go false h = h
-
-  rest_sorted : (x : X) (xs : List X) → IsSortedBy lt (x ∷ xs) → IsSortedBy lt xs
-  rest_sorted x xs s k d low within =
-      let next : suc k + 1 ≡ suc (k + 1) = omega arith in
-      subst (λ i. lt (slice_index_or (x ∷ xs) i d) (slice_index_or xs k d) ≡ false) next (s (suc k) d (omega arith) (omega (arith, within)))
-
-  behind_first : (x : X) (xs : List X) → IsSortedBy lt (x ∷ xs) → AllByRecursion (λ y. lt y x ≡ false) xs
-  behind_first x [] s = tt
-  behind_first x (y ∷ ys) s =
-      let first = s 0 x (omega arith) (omega arith) in
-      (first, all_weaker (λ z. lt z y ≡ false) (λ z. lt z x ≡ false) (λ z low. order.chain z y x low first) ys (behind_first y ys (rest_sorted x (y ∷ ys) s)))
-
-  none_before : (x : X) (xs : List X) → IsSortedBy lt (x ∷ xs) → AllByRecursion (λ y. lt y x ≡ false) (x ∷ xs)
-  none_before x xs s = (itself x, behind_first x xs s)
+none_before : {X : Type 0} (lt : X → X → Bool) → IsStrictWeakOrder lt → (x : X) (xs : List X) → IsSortedBy lt (x ∷ xs) → AllByRecursion (λ y. lt y x ≡ false) (x ∷ xs)
+none_before lt order x xs sorted = recursion_from_All (λ y. lt y x ≡ false) (x ∷ xs) (λ k d low. sorted_far lt order (x ∷ xs) sorted 0 k d (omega arith) low)
 
 module _ {R : Type 0} (fields : R → Row) (tests project : List Term) (params : Row) where
   abbrev pub passes : Row → Bool
@@ -95,7 +69,7 @@ module _ {R : Type 0} (fields : R → Row) (tests project : List Term) (params :
           let hit = from.0 in
           let top = none_before (before t) (ranks_by (output_cmp_total (latest_query t tests project order)) (λ o. o)) o more sorted in
           let back = all-permutation (λ y. before t y o ≡ false) (o ∷ more) (map out (filter pass all)) (IsPermutation-sym _ _ same) top in
-          let least = all_of_filtered pass (λ v. before t (out v) o ≡ false) all (all_unmapped out (λ y. before t y o ≡ false) (filter pass all) back) in
+          let least = all_of_filtered pass (λ v. before t (out v) o ≡ false) all (all_from_map (λ y. before t y o ≡ false) out (filter pass all) back) in
           let it : IsFirstOf t all hit.0 = record { there = hit.1.0; passing = hit.1.1; first = subst (λ x. AllByRecursion (λ v. pass v ≡ true → before t (out v) x ≡ false) all) hit.2 least } in
           subst (IsFirstRow t all) (sym is) (hit.0, it, ap (λ (y : Output). y.1) hit.2)
 

@@ -31,7 +31,7 @@ pub record IsInsertOf (text : List ℕ) (shape : InsertShape) : Type 0 where
   pub formats : shape.table.stamps.formats ≡ []
   pub timeless : (params : Row) → stamped shape.table params ≡ params
 
-module _ (text : List ℕ) (shape : InsertShape) (it : IsInsertOf text shape) (params : Row) (old new : State) (tree at : ℕ) (named : table_named old.now.schema shape.table.name ≡ Some at)
+module _ {text : List ℕ} {shape : InsertShape} (it : IsInsertOf text shape) (params : Row) (old new : State) (tree at : ℕ) (named : table_named old.now.schema shape.table.name ≡ Some at)
     (there : slice_get old.now.schema.tables at ≡ Some (in_tree shape tree)) where
   abbrev pub new_row : Row
   new_row = with_rowid Chosen (old.now.trees tree) (cast_row (in_tree shape tree) (eval_all shape.terms (params ∷ [])))
@@ -50,10 +50,10 @@ module _ (text : List ℕ) (shape : InsertShape) (it : IsInsertOf text shape) (p
 
 -- ---- a record of a table whose rows are records in any order
 
-module _ {R : Type 0} (text : List ℕ) (shape : InsertShape) (it : IsInsertOf text shape) (part : Part R shape.table) where
+module _ {R : Type 0} {text : List ℕ} {shape : InsertShape} (it : IsInsertOf text shape) (part : Part R shape.table) where
   -- the new row has the fields of the record
   abbrev pub GivesRow : Type 1
-  GivesRow = (old new : State) (r : R) (tree : ℕ) (place : IsTableIn old.now.schema shape.table tree) → drop 1 (new_row text shape it (part.fields r) old new tree place.at place.named place.there) ≡ part.fields r
+  GivesRow = (old new : State) (r : R) (tree : ℕ) (place : IsTableIn old.now.schema shape.table tree) → drop 1 (new_row it (part.fields r) old new tree place.at place.named place.there) ≡ part.fields r
 
   pub inserts_record : GivesRow → (same : R → R → Bool) (set : R → R → R) → Executing text part.fields (λ r. Rewrites part same set (write.Insert r))
   inserts_record gives same set r (Err e) old new h = (tt, tt)
@@ -62,7 +62,7 @@ module _ {R : Type 0} (text : List ℕ) (shape : InsertShape) (it : IsInsertOf t
     λ t l.
         let tree = part.tree old.now t l in
         let place = part.place old.now t l in
-        let made = inserted text shape it (part.fields r) old new tree place.at place.named place.there count h.0 in
+        let made = inserted it (part.fields r) old new tree place.at place.named place.there count h.0 in
         part.changed old.now new.now t l made.schema_is made.sound made.tables (r ∷ part.records t)
-        (holds_inserted text shape it (part.fields r) old new tree place.at place.named place.there part.fields r (part.records t) (gives old new r tree place) (part.holds old.now t l) made),
+        (holds_inserted it (part.fields r) old new tree place.at place.named place.there part.fields r (part.records t) (gives old new r tree place) (part.holds old.now t l) made),
   )

@@ -1,48 +1,30 @@
 -- A row that is found by its key is the one that stands there.
-use Rattle.std.proofs.Common.{◌≡◌, inl, inr, ℕ, ◌≤◌, List, [], ◌∷◌, filter, find, length, cond, Bool, true, false, true≢false, Option, Some, None, arith, refl, sym, ap, subst, ◌∙◌}
-use Rattle.mq_tables.proofs.Words.{AllByRecursion, Has, IsUnchanged, LimitRecord, State, Tables, TransactionRecord, UsageRecord, is_limit, is_transaction, is_usage}
-use Rattle.std.specs.Prelude.{if◌then◌else◌}
+use Rattle.std.proofs.Common.{◌≡◌, inl, inr, ℕ, ◌≤◌, List, [], ◌∷◌, filter, find, length, slice_get, Bool, Option, Some, None, arith, refl, sym, ap, subst, ◌∙◌}
+use Rattle.mq_tables.proofs.Words.{Has, IsUnchanged, LimitRecord, State, Tables, TransactionRecord, UsageRecord, cases_Bool, filter_none, has_kept, is_limit, is_transaction, is_usage}
 use Rattle.mq_request.specs.declared.message.Id.{Id}
 use Rattle.mq_ledger.specs.History.{transaction}
-use Rattle.mq_rows.specs.declared.plan.Found.{Found}
+use Rattle.mq_rows.specs.declared.plan.FoundRows.{FoundRows}
 use Rattle.mq_rows.specs.Found.{IsGoverning, IsFirstOver}
 use Rattle.mq_tables.specs.Finding.{AreKeyed, IsTransactionFound, IsReserveFound}
 use Rattle.mq_tables.specs.Ledger.{HasLedger}
 use Rattle.mq_tables.specs.Records.{IsOneOf}
 
 module _ {R : Type 0} (test : R → Bool) where
-  none_found : (all : List R) → AllByRecursion (λ r. test r ≡ false) all → find test all ≡ None
-  none_found [] h = refl
-  none_found (r ∷ all) h = rw h.0 (none_found all h.1)
+  -- what is found is the first that passes
+  finds_first : (all : List R) → find test all ≡ slice_get (filter test all) 0
+  finds_first [] = refl
+  finds_first (r ∷ all) = elim (cases_Bool (test r)) [ inl hit ↦ rw hit refl | inr other ↦ rw other (finds_first all) ]
 
-  none_there : (all : List R) (r : R) → filter test all ≡ [] → Has all r → test r ≡ true → ⊥
-  none_there [] r none there hit = there
-  none_there (x ∷ all) r none there hit = go (test x) refl none there (λ e more. none_there all r e more hit)
-    where
-      go : (b : Bool) → test x ≡ b → cond b (x ∷ filter test all) (filter test all) ≡ [] → Has (x ∷ all) r → (filter test all ≡ [] → Has all r → ⊥) → ⊥
-      go true is e k deeper = absurd cc
-      go false is e (inl same) deeper = true≢false (sym hit ∙ ap test same ∙ is)
-      go false is e (inr more) deeper = deeper e more
-
-  empty_of : {X : Type 0} (xs : List X) → length xs ≤ 0 → xs ≡ []
-  empty_of [] h = refl
-  empty_of (x ∷ xs) h = absurd (omega (arith, h))
-
-  one_found : (all : List R) (r : R) → length (filter test all) ≤ 1 → Has all r → test r ≡ true → find test all ≡ Some r
-  one_found [] r one there hit = absurd there
-  one_found (x ∷ all) r one there hit = go (test x) refl one there (λ few more. one_found all r few more hit)
-    where
-      go : (b : Bool) → test x ≡ b → length (cond b (x ∷ filter test all) (filter test all)) ≤ 1 → Has (x ∷ all) r → (length (filter test all) ≤ 1 → Has all r → find test all ≡ Some r)
-          → (if b then Some x else find test all) ≡ Some r
-      go true is few (inl same) deeper = ap Some (sym same)
-      go true is few (inr more) deeper = absurd (none_there all r (empty_of (filter test all) (omega (arith, few))) more hit)
-      go false is few (inl same) deeper = absurd (true≢false (sym hit ∙ ap test same ∙ is))
-      go false is few (inr more) deeper = deeper few more
+  only_one : (rs : List R) (r : R) → length rs ≤ 1 → Has rs r → slice_get rs 0 ≡ Some r
+  only_one [] r few there = absurd there
+  only_one (x ∷ rs) r few (inl same) = ap Some (sym same)
+  only_one (x ∷ []) r few (inr more) = absurd more
+  only_one (x ∷ (y ∷ rs)) r few (inr more) = absurd (omega (arith, few))
 
   -- at most one row has the key
   pub the_one : (all : List R) (found : Option R) → length (filter test all) ≤ 1 → IsOneOf test all found → found ≡ find test all
-  the_one all None one none = sym (none_found all none)
-  the_one all (Some r) one h = sym (one_found all r one h.0 h.1)
+  the_one all None one none = sym (finds_first all ∙ ap (λ rs. slice_get rs 0) (filter_none test all none))
+  the_one all (Some r) one h = sym (finds_first all ∙ only_one (filter test all) r one (has_kept test all r h.0 h.1))
 
 -- ---- one reader after another
 
@@ -59,7 +41,7 @@ module _ (a b : State) (same : IsUnchanged a b) where
     the_one (is_usage login day) t.usage usage (keyed.usage login day) (two t (later t l)),
   )
 
-  pub reserve_so : (id : Id) (txn : ℕ) (login : List ℕ) (day : ℕ) (f : Found) (governing : Option LimitRecord)
+  pub reserve_so : (id : Id) (txn : ℕ) (login : List ℕ) (day : ℕ) (f : FoundRows) (governing : Option LimitRecord)
       → ((t : Tables) → HasLedger a.now t → AreKeyed t → IsTransactionFound id txn login day t f)
       → ((t : Tables) → HasLedger b.now t → IsGoverning login day t.limits governing)
       → (t : Tables) → HasLedger a.now t → AreKeyed t → IsReserveFound id txn login day t (record f { governing = governing })

@@ -19,7 +19,6 @@ pub mod Selected
 pub mod Selecting
 pub mod Spared
 pub mod Statements
-pub mod Still
 pub mod TermShape
 pub mod Tests
 pub mod UpdateShape

@@ -33,24 +33,17 @@ query_bare : (s : Schema) (p : Parsed) (c : Compiled) → IsQuery p → and_then
 unfolding planned meaning returning timed
 query_bare s p c (sel, is, none) h = bare_plan p.formats p c (command s p.formats _ (written.Select sel)) (rw is at h) none
 
--- whatever the schema, a query that names a table of ours returns nothing of a write, and reads no time
-module _ (text : List ℕ) (parses : first text ≡ Ok (parsed_in (first text))) (query : IsQuery (parsed_in (first text))) (unlisted : if_select (compiled listing_schema text) ≡ Err NoSuchTable) where
-  text_bare : (s : Schema) (c : Compiled) → compiled s text ≡ Ok c → IsBare c
-  unfolding compiled
-  text_bare s c h = query_bare s (parsed_in (first text)) c query (rw parses at h)
+-- what names a table of ours, and isn't known where there is none, doesn't read the listing, whatever the schema
+pub as_compiled : (text : List ℕ) → if_select (compiled listing_schema text) ≡ Err NoSuchTable → (s : Schema) (c : Compiled) → understood s text ≡ Ok c → (reads_listing s text ≡ false) × (compiled s text ≡ Ok c)
+unfolding understood
+as_compiled text unlisted s c h = go (reads_listing s text) h
+  where
+    go : (b : Bool) → (if b then if_select (compiled listing_schema text) else compiled s text) ≡ Ok c → (b ≡ false) × (compiled s text ≡ Ok c)
+    go true e = absurd (let none = sym unlisted ∙ e in cc)
+    go false e = (refl, e)
 
-  pub any_bare : (s : Schema) (c : Compiled) → understood s text ≡ Ok c → IsBare c
-  unfolding understood
-  any_bare s c h = go (reads_listing s text) h
-    where
-      go : (b : Bool) → (if b then if_select (compiled listing_schema text) else compiled s text) ≡ Ok c → IsBare c
-      go true e = absurd (let none = sym unlisted ∙ e in cc)
-      go false e = text_bare s c e
-
-  pub any_apart : (s : Schema) (c : Compiled) → understood s text ≡ Ok c → reads_listing s text ≡ false
-  unfolding understood
-  any_apart s c h = go (reads_listing s text) h
-    where
-      go : (b : Bool) → (if b then if_select (compiled listing_schema text) else compiled s text) ≡ Ok c → b ≡ false
-      go true e = absurd (let none = sym unlisted ∙ e in cc)
-      go false e = refl
+-- such a query returns nothing of a write, and reads no time
+pub any_bare : (text : List ℕ) → first text ≡ Ok (parsed_in (first text)) → IsQuery (parsed_in (first text)) → if_select (compiled listing_schema text) ≡ Err NoSuchTable
+    → (s : Schema) (c : Compiled) → understood s text ≡ Ok c → IsBare c
+unfolding compiled
+any_bare text parses query unlisted s c h = query_bare s (parsed_in (first text)) c query (rw parses at (as_compiled text unlisted s c h).1)

@@ -1,6 +1,6 @@
 -- What a query on one table of a known schema answers, whatever the table is.
-use Rattle.std.proofs.Common.{if◌then◌else◌, drop, subst₂, ◌≡◌, ℕ, List, [], ◌∷◌, ◌++◌, map, filter, flat_map, Bool, true, false, None, Some, Option, inl, inr, ◌⊎◌, refl, sym, ap, subst, ◌∙◌}
-use Rattle.mq_tables.proofs.Words.{Compiled, Env, Error, FailsToQuery, FailsToShow, Global, IsNotRun, IsPermutation, IsPermutation-filter, IsPermutation-map, IsPlain, IsRolledBack, IsTooLate, IsUnchanged, KeepsCommit, Null, Row, Schema, Select, Shown, ShowsRows, State, Term, Trees, command_of, eval_all, filter-map, holds, list_all, map-map, reads_as, reads_listing, understood}
+use Rattle.std.proofs.Common.{if◌then◌else◌, drop, subst₂, ◌≡◌, ℕ, List, [], ◌∷◌, map, filter, flat_map, Bool, false, None, Some, Option, inl, inr, ◌⊎◌, refl, sym, ap, subst, ◌∙◌}
+use Rattle.mq_tables.proofs.Words.{Compiled, Error, FailsToQuery, FailsToShow, Global, IsNotRun, IsPermutation, IsPermutation-filter, IsPermutation-map, IsPlain, IsRolledBack, IsTooLate, IsUnchanged, KeepsCommit, Null, Row, Schema, Select, Shown, ShowsRows, State, Term, Trees, cases_Bool, command_of, filter-map, holds, list_all, map-map, reads_as, reads_listing, understood}
 use Rattle.sqlite.specs.Query.{IsAnswer, Output, output}
 use Rattle.sqlite.specs.Program.{overlay}
 use Rattle.std.specs.Prelude.{IsTrue, Vec, IfOk, IfErr, OnOk, Result, Ok, Err}
@@ -13,12 +13,7 @@ use Rattle.mq_tables.proofs.Plain.{IsBare}
 pub one_each : (params : Row) (tests : List Term) (rows : List Row)
     → flat_map (λ r. if list_all (holds (params ∷ r ∷ [])) tests then (params ∷ r ∷ []) ∷ [] else []) rows ≡ map (λ r. params ∷ r ∷ []) (filter (λ r. list_all (holds (params ∷ r ∷ [])) tests) rows)
 one_each params tests [] = refl
-one_each params tests (r ∷ rows) = go (filter (λ r. list_all (holds (params ∷ r ∷ [])) tests) rows) (list_all (holds (params ∷ r ∷ [])) tests) (one_each params tests rows)
-  where
-    go : {xs : List Env} (ys : List Row) (b : Bool) → xs ≡ map (λ r. params ∷ r ∷ []) ys
-        → (if b then (params ∷ r ∷ []) ∷ [] else []) ++ xs ≡ map (λ r. params ∷ r ∷ []) (if b then r ∷ ys else ys)
-    go ys true e = ap (λ xs. (params ∷ r ∷ []) ∷ xs) e
-    go ys false e = e
+one_each params tests (r ∷ rows) = elim (cases_Bool (list_all (holds (params ∷ r ∷ [])) tests)) [ inl hit ↦ rw hit (ap (λ xs. (params ∷ r ∷ []) ∷ xs) (one_each params tests rows)) | inr other ↦ rw other (one_each params tests rows) ]
 
 pub answer_rows : (t : ℕ) (tests project : List Term) (db : Trees) (params : Row) (rows : List Row) → IsAnswer (plain_query t tests project) db params rows
     → IsPermutation (chosen tests project params (db t)) rows
@@ -39,24 +34,7 @@ module _ (sql : List ℕ) (params : Row) (old new : State) (schema : Schema) (ha
       let read = reads_as sql params old new schema has (Select (record { lets = []; body = plain_query t tests project }) names) is plain unlisted rows h in
       subst (λ all. IsPermutation (chosen tests project params all) rows) bare (answer_rows t tests project (overlay old.now.trees []) params rows (read.answer Null))
 
--- A query that shows and tests no rowid answers of the records what it does of the rows.
-module _ {R : Type 0} (fields : R → Row) (tests project : List Term) (params : Row)
-    (tested : (r : Row) → list_all (holds (params ∷ r ∷ [])) tests ≡ list_all (holds (params ∷ (Null ∷ drop 1 r) ∷ [])) tests)
-    (shows : (r : Row) → eval_all project (params ∷ r ∷ []) ≡ eval_all project (params ∷ (Null ∷ drop 1 r) ∷ [])) where
-  pub of_records : (rows : List Row) (records : List R) → IsPermutation (map (drop 1) rows) (map fields records)
-      → IsPermutation (chosen tests project params rows) (map (λ u. eval_all project (params ∷ (Null ∷ fields u) ∷ [])) (filter (λ u. list_all (holds (params ∷ (Null ∷ fields u) ∷ [])) tests) records))
-  of_records rows records same =
-      let test = λ (c : Row). list_all (holds (params ∷ (Null ∷ c) ∷ [])) tests in
-      let show = λ (c : Row). eval_all project (params ∷ (Null ∷ c) ∷ []) in
-      let left : chosen tests project params rows ≡ map show (filter test (map (drop 1) rows)) =
-      ap (λ (f : Row → Row). map f (filter (λ r. list_all (holds (params ∷ r ∷ [])) tests) rows)) (λ i r. shows r i)
-      ∙ ap (λ (p : Row → Bool). map (λ r. show (drop 1 r)) (filter p rows)) (λ i r. tested r i)
-      ∙ sym (map-map show (drop 1) (filter (λ r. test (drop 1 r)) rows)) ∙ ap (map show) (sym (filter-map test (drop 1) rows)) in
-      let right : map show (filter test (map fields records)) ≡ map (λ u. show (fields u)) (filter (λ u. test (fields u)) records) =
-      ap (map show) (filter-map test fields records) ∙ map-map show fields (filter (λ u. test (fields u)) records) in
-      subst₂ IsPermutation (sym left) right (IsPermutation-map show _ _ (IsPermutation-filter test _ _ same))
-
--- the same of whatever is made of the rows that pass
+-- what is made of the rows that pass, where neither rests on the rowid, is made of the records
 module _ {R Y : Type 0} (fields : R → Row) (pass test : Row → Bool) (tied : (r : Row) → pass r ≡ test (drop 1 r)) (made make : Row → Y) (same_made : (r : Row) → made r ≡ make (drop 1 r)) where
   pub made_records : (rows : List Row) (records : List R) → IsPermutation (map (drop 1) rows) (map fields records)
       → IsPermutation (map made (filter pass rows)) (map (λ u. make (fields u)) (filter (λ u. test (fields u)) records))

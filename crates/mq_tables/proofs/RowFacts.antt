@@ -1,13 +1,13 @@
 -- What a write of one row makes of the records that a table holds.
-use Rattle.std.proofs.Common.{IsTrue, ap₂, subst₂, ◌≡◌, inl, inr, ℕ, ℤ, List, [], ◌∷◌, map, filter, drop, Bool, true, false, not, cond, true≢false, Ordering, Less, Equal, Greater, refl, sym, ap, subst, ◌∙◌}
-use Rattle.mq_tables.proofs.Words.{AllByRecursion, Has, Int, IsPermutation, IsPermutation-cons, IsPermutation-filter, IsPermutation-map, IsPermutation-middle, IsPermutation-refl, IsPermutation-sym, IsPermutation-trans, Row, all_weaker, filter-map, filter_all, filter_none, filter_same, has_rowid, id_in, is_taken, one_permutation, or_parts, put_row, rowid, value_cmp_total, without_rowid}
+use Rattle.std.proofs.Common.{IsTrue, ap₂, subst₂, ◌≡◌, inl, inr, ℕ, ℤ, List, [], ◌∷◌, map, filter, drop, Bool, true, false, not, true≢false, Ordering, Less, Equal, Greater, refl, sym, ap, subst, ◌∙◌}
+use Rattle.mq_tables.proofs.Words.{AllByRecursion, Has, Int, IsPermutation, IsPermutation-cons, IsPermutation-filter, IsPermutation-map, IsPermutation-middle, IsPermutation-refl, IsPermutation-sym, IsPermutation-trans, Row, all_from, all_weaker, filter-map, filter_all, filter_none, filter_same, has_filtered, has_kept, has_rowid, id_in, is_taken, one_permutation, or_parts, put_row, rowid, value_cmp_total, without_rowid}
 use Rattle.std.specs.Ordering.{is_eq, match_ordering}
 use Rattle.sqlite_value.specs.Order.{value_cmp}
 use Rattle.sqlite.specs.View.{is_int}
 use Rattle.sqlite_trees.proofs.TreeLemmas.{IsShaped-put_row, IsShaped-filter}
 use Rattle.std.proofs.lemmas.Cmp.{tied_itself}
 use Rattle.sqlite_trees.specs.declared.store.Shape.TheVariants.{Table}
-use Rattle.sqlite_rules.proofs.ListLemmas.{all_has, has_filtered}
+use Rattle.sqlite_rules.proofs.ListLemmas.{all_has}
 use Rattle.sqlite_rules.proofs.PlaceLemmas.{tied_same}
 use Rattle.sqlite_rules.proofs.TableLemmas.{int_is}
 use Rattle.mq_tables.specs.Records.{Holds}
@@ -40,23 +40,10 @@ held_so fields rows all other held same = record { numbered = held.numbered; sam
 
 -- ---- the one row of a key
 
-all_as_has : {X : Type 0} (P : X → Type 0) (xs : List X) → ((x : X) → Has xs x → P x) → AllByRecursion P xs
-all_as_has P [] f = tt
-all_as_has P (x ∷ xs) f = (f x (inl refl), all_as_has P xs (λ y h. f y (inr h)))
-
 one_mapped : {X Y : Type 0} (f : X → Y) (xs : List X) (y : Y) → map f xs ≡ y ∷ [] → (x : X) × (xs ≡ x ∷ []) × (f x ≡ y)
 one_mapped f [] y e = absurd cc
 one_mapped f (x ∷ []) y e = (x, refl, cc)
 one_mapped f (x ∷ z ∷ xs) y e = absurd cc
-
-has_filter : {X : Type 0} (p : X → Bool) (xs : List X) (x : X) → Has xs x → p x ≡ true → Has (filter p xs) x
-has_filter p [] x h t = absurd h
-has_filter p (y ∷ xs) x (inl e) t = rw (ap p (sym e) ∙ t) (inl e)
-has_filter p (y ∷ xs) x (inr h) t = go (p y) (has_filter p xs x h t)
-  where
-    go : (b : Bool) → Has (filter p xs) x → Has (cond b (y ∷ filter p xs) (filter p xs)) x
-    go true k = inr k
-    go false k = k
 
 same_tests : (a b : Bool) → (a ≡ true → b ≡ true) → (b ≡ true → a ≡ true) → a ≡ b
 same_tests true b f g = sym (f refl)
@@ -91,17 +78,14 @@ module _ {R : Type 0} (fields : R → Row) (pass test : Row → Bool) (tied : (r
   row_there = has_filtered pass rows only.0 (subst (λ l. Has l only.0) (sym only.1) (inl refl))
 
   pub keyed_row : only.0 ≡ Int (id_in (rowid only.0)) ∷ fields was
-  keyed_row = with_head only.0 (is_true_is (all_has _ rows only.0 held.numbered.1 row_there.0)) only.2
+  keyed_row = with_head only.0 (all_has (λ r. IsTrue (is_int (rowid r))) rows only.0 held.numbered.1 row_there.0) only.2
     where
-      is_true_is : {b : Bool} → IsTrue b → b ≡ true
-      is_true_is h = h
-
       with_head : (row : Row) → is_int (rowid row) ≡ true → drop 1 row ≡ fields was → row ≡ Int (id_in (rowid row)) ∷ fields was
       with_head [] h e = absurd (true≢false (sym h))
       with_head (v ∷ row) h e = ap₂ (λ x xs. x ∷ xs) (int_is v h) e
 
   pub left_over : without_rowid (id_in (rowid only.0)) rows ≡ filter (λ r. not (pass r)) rows
-  left_over = filter_same (λ r. not (has_rowid id r)) (λ r. not (pass r)) rows (all_as_has _ rows (λ r there. ap not (same_tests (has_rowid id r) (pass r) (to r there) (from r there))))
+  left_over = filter_same (λ r. not (has_rowid id r)) (λ r. not (pass r)) rows (all_from _ rows (λ r there. ap not (same_tests (has_rowid id r) (pass r) (to r there) (from r there))))
     where
       id : ℤ
       id = id_in (rowid only.0)
@@ -115,7 +99,7 @@ module _ {R : Type 0} (fields : R → Row) (pass test : Row → Bool) (tied : (r
           subst (λ x. pass x ≡ true) (sym (tied_same rows r only.0 held.numbered.0 there row_there.0 tie)) row_there.1
 
       from : (r : Row) → Has rows r → pass r ≡ true → has_rowid id r ≡ true
-      from r there h = elim (subst (λ l. Has l r) only.1 (has_filter pass rows r there h)) [
+      from r there h = elim (subst (λ l. Has l r) only.1 (has_kept pass rows r there h)) [
         | inl same ↦ rw (same, keyed) (ap is_eq (tied_itself value_cmp_total (Int id)))
         | inr none ↦ absurd none
       ]

@@ -12,18 +12,21 @@ use Rattle.sqlite.specs.Query.{Query}
 use Rattle.sqlite_value.specs.declared.keys.Collation.TheVariants.{Binary}
 use Rattle.sqlite_value.specs.declared.keys.Key.{Key}
 use Rattle.sqlite_draft.specs.declared.join.Step.TheVariants.{Inner}
+use Rattle.sqlite_draft.specs.declared.query.Draft.{Draft}
+use Rattle.sqlite_draft.specs.Query.{query_of}
 use Rattle.sqlite_resolve.specs.declared.scope.Output.{Output}
 use Rattle.sqlite_resolve.specs.declared.state.Carried.{Carried}
 use Rattle.sqlite_resolve.specs.declared.state.State.{State}
-use Rattle.sqlite_resolve.specs.Select.{outermost, inside}
+use Rattle.sqlite_resolve.specs.Select.{outermost, inside, constant_or}
+use Rattle.sqlite_resolve.specs.Order.{sorts}
 use Rattle.sqlite_resolve.specs.Body.{within, body, bounds, joins, tests, outputs_from}
 use Rattle.sqlite_resolve.specs.Expr.{lower}
 use Rattle.sqlite_resolve.specs.declared.error.CompileError.TheVariants.{NoSuchTable}
 use Rattle.sqlite.specs.Command.TheVariants.{Select as Select'}
 use Rattle.mq_tables.specs.Places.{IsTableIn}
 use Rattle.mq_tables.specs.Written.{plain_query, latest_query}
-use Rattle.mq_tables.proofs.Plain.{parsed_in, IsQuery, IsBare, any_bare, any_apart}
-use Rattle.mq_tables.proofs.Selecting.{bound_one, column_lowered, join_one, body_is, parts_are, named_is, query_is, sorts_one, parts_ordered, named_ordered, constant_number, query_ordered, plan_selects}
+use Rattle.mq_tables.proofs.Plain.{parsed_in, IsQuery, IsBare, any_bare, as_compiled}
+use Rattle.mq_tables.proofs.Selecting.{bound_one, column_lowered, join_one, body_is, sorts_none, sorts_one, parts_are, draft_of, named_is, number_limit, no_limit, query_is, plan_selects}
 use Rattle.mq_tables.proofs.TermShape.{Field, Test, one_reads, is_field, of_field, carried_is, binary_alone, shown_term, filter_of, carried_at, output_of, column_as, filter_as, shown_as, state_of, depth_of, nodes_of, spent_on, spent_most, last_after, last_shown, bound_at, filter_lowered, fields_shown}
 
 pub record Sorting : Type 0 where
@@ -36,6 +39,14 @@ pub record SelectShape : Type 0 where
   pub shown : List Field
   pub tests : List Test
   pub order : Option Sorting
+
+-- all that pass, in any order
+abbrev pub unordered : Table → List Field → List Test → SelectShape
+unordered table shown tests = record { table = table; shown = shown; tests = tests; order = None }
+
+-- the first of those that pass in an order
+abbrev pub first_by : Sorting → Table → List Field → List Test → SelectShape
+first_by by table shown tests = record { table = table; shown = shown; tests = tests; order = Some by }
 
 abbrev pub in_tree : SelectShape → ℕ → Table
 in_tree shape t = record shape.table { tree = t }
@@ -147,7 +158,7 @@ unaliased : (table : Table) (name : Name) (fs : List Field) (k : ℕ) → positi
 unaliased table name [] k = refl
 unaliased table name (f ∷ fs) k = unaliased table name fs (k + 1)
 
-module _ (text : List ℕ) (shape : SelectShape) (it : IsSelect text shape) where
+module _ {text : List ℕ} {shape : SelectShape} (it : IsSelect text shape) where
   pub query_of_text : IsQuery (parsed_in (first text))
   query_of_text = (select_as shape, it.statement, it.timeless)
 
@@ -205,36 +216,38 @@ module _ (text : List ℕ) (shape : SelectShape) (it : IsSelect text shape) wher
         rw (filter_is shape) (filter_lowered (read_as outputs false) place.at shape.table.name outputs table refl place.there (reverse shape.tests) others_known.0 budget last (omega (arith, short)) (omega (arith, short))) in
         body_is s (core shape) b outputs (Inner t ∷ []) (filter_in shape) start (state_of max_budget nothing) (state_of budget last) three from shown joined tested
 
-    -- the plan, whatever the order
+    -- the plan, sorted and cut so
+    module _ (by : List Sort) (cut : Option Expr) (four : State) (order : List (Term × Key)) (limit : Term) where
+      abbrev drafted : Draft
+      drafted = draft_of s (core shape) (bound_at place.at shape.table.name) outputs (Inner t ∷ []) (filter_in shape) start three four by order (limit, lit (Int (pos 0)))
+
+      plan_with : ((out-Select (select shape)).order ≡ by) × ((out-Select (select shape)).limit ≡ cut) → sorts lower (inside s (record { tables = bound_at place.at shape.table.name ∷ []; shown = outputs }) false) outputs by three ≡ Ok (order, four)
+          → constant_or s (lit (Int (negsuc 0))) cut ≡ Ok limit → four.steps ≡ [] → accepts_program s [] (query_of drafted) [] ≡ true
+          → planned s (parsed_in (first text)) ≡ Ok ([], (Select' (record { lets = []; body = query_of drafted }) (names_in shape t), None))
+      plan_with so sorted limited none accepts =
+          let b = bound_at place.at shape.table.name in
+          let un = ungrouped shape in
+          let only = alone shape in
+          let parts = parts_are s (core shape) b outputs (Inner t ∷ []) (filter_in shape) start three four by order whole un.0 un.1 sorted in
+          let one = named_is s (core shape) b outputs (Inner t ∷ []) (filter_in shape) start three four by order parts refl un.2 none (limit, lit (Int (pos 0))) in
+          let asked = query_is s (select shape) (core shape) (source shape) shape.table.name by cut limit _ only.0 only.1 only.2 so.0 so.1 limited only.3 (from_is shape) (one_source shape).0 one in
+          plan_selects s (parsed_in (first text)) (select shape) _ _ _ it.statement it.timeless asked accepts
+
     plans : (by : Option Sorting) → ((out-Select (select shape)).order ≡ order_as by) × ((out-Select (select shape)).limit ≡ limit_as by) → list_all (is_field table) (sorted_fields by) ≡ true
         → accepts_program s [] (paged t shape.table.key (filter_in shape) project by) [] ≡ true
         → planned s (parsed_in (first text)) ≡ Ok ([], (Select' (record { lets = []; body = paged t shape.table.key (filter_in shape) project by }) (names_in shape t), None))
-    plans None so known accepts =
-        let b = bound_at place.at shape.table.name in
-        let un = ungrouped shape in
-        let only = alone shape in
-        let parts = parts_are s (core shape) b outputs (Inner t ∷ []) (filter_in shape) start (state_of max_budget nothing) (state_of budget last) three whole un.0 un.1 refl in
-        let one = named_is s (core shape) b outputs (Inner t ∷ []) (filter_in shape) start (state_of max_budget nothing) (state_of budget last) three parts refl un.2 refl (lit (Int (negsuc 0)), lit (Int (pos 0))) in
-        let asked = query_is s (select shape) (core shape) (source shape) shape.table.name _ only.0 only.1 only.2 so.0 so.1 only.3 (from_is shape) (one_source shape).0 one in
-        plan_selects s (parsed_in (first text)) (select shape) _ _ _ it.statement it.timeless asked accepts
+    plans None so known accepts = plan_with [] None three [] (lit (Int (negsuc 0))) so (sorts_none _ outputs three) (no_limit s) refl accepts
     plans (Some by) so known accepts =
-        let b = bound_at place.at shape.table.name in
-        let un = ungrouped shape in
-        let only = alone shape in
-        let cx = inside s (record { tables = b ∷ []; shown = outputs }) false in
+        let cx = inside s (record { tables = bound_at place.at shape.table.name ∷ []; shown = outputs }) false in
         let it' = of_field table by.column (and_parts _ _ known).0 in
         let c = by.column in
         let key = column_as c.name in
         let four = state_of (left - 1) (carried_at shape.table.key c.at) in
-        let lowered = column_lowered cx b outputs table refl refl place.there c.name c.at it'.column it'.named it'.there key (out-roll-Expr _) 699 three (lt-ltb 1 left (omega (arith, short, spent_most (reverse shape.tests)))) refl
+        let lowered = column_lowered cx (bound_at place.at shape.table.name) outputs table refl refl place.there c.name c.at it'.column it'.named it'.there key (out-roll-Expr _) 699 three (lt-ltb 1 left (omega (arith, short, spent_most (reverse shape.tests)))) refl
         ∙ ap (λ k. Ok (shown_term shape.table.key c, state_of (left - 1) k)) (carried_is table c.at it'.column it'.binary) in
         let sorts_are = sorts_one cx outputs (sort_as by) key c.name (shown_term shape.table.key c) by.descending three four (out-roll-Expr _) (sort_is by).0 (sort_is by).1 (sort_is by).2 (unaliased table c.name shape.shown 0) lowered refl
         ∙ ap (λ k. Ok ((shown_term shape.table.key c, record { collation = k; descending = by.descending }) ∷ [], four)) (binary_alone shape.table.key c.at) in
-        let parts = parts_ordered s (core shape) b outputs (Inner t ∷ []) (filter_in shape) start three four (sort_as by ∷ []) (order_by shape.table.key by) whole un.0 un.1 sorts_are in
-        let one = named_ordered s (core shape) b outputs (Inner t ∷ []) (filter_in shape) start three four (sort_as by ∷ []) (order_by shape.table.key by) parts refl un.2 refl (lit (Int (pos 1)), lit (Int (pos 0))) in
-        let limit = constant_number s one_as (codes "1") (Int (pos 1)) (out-roll-Expr _) one_reads in
-        let asked = query_ordered s (select shape) (core shape) (source shape) shape.table.name (sort_as by ∷ []) one_as (lit (Int (pos 1))) _ only.0 only.1 only.2 so.0 so.1 limit only.3 (from_is shape) (one_source shape).0 one in
-        plan_selects s (parsed_in (first text)) (select shape) _ _ _ it.statement it.timeless asked accepts
+        plan_with (sort_as by ∷ []) (Some one_as) four (order_by shape.table.key by) (lit (Int (pos 1))) so sorts_are (number_limit s one_as (codes "1") (Int (pos 1)) (out-roll-Expr _) one_reads) refl accepts
 
     -- the terms as the outputs have them
     project_is : project ≡ shown_in shape
@@ -255,4 +268,4 @@ module _ (text : List ℕ) (shape : SelectShape) (it : IsSelect text shape) wher
     plain = subst IsPlain (sym means) (refl, refl)
 
     pub apart : reads_listing s text ≡ false
-    apart = any_apart text it.parsed query_of_text it.unlisted s (compiled_of text shape t) means
+    apart = (as_compiled text it.unlisted s (compiled_of text shape t) means).0

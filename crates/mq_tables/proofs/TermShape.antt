@@ -21,13 +21,13 @@ use Rattle.sqlite_resolve.specs.declared.scope.Bound.{Bound}
 use Rattle.sqlite_resolve.specs.declared.scope.Output.{Output}
 use Rattle.sqlite_resolve.specs.declared.state.Carried.{Carried}
 use Rattle.sqlite_resolve.specs.declared.state.State.{State}
-use Rattle.sqlite_resolve.specs.Lowering.{nothing, chosen, alone, first_found}
+use Rattle.sqlite_resolve.specs.Lowering.{nothing, chosen, alone, first_found, spend, begin, finish}
 use Rattle.sqlite_resolve.specs.Body.{outputs_from, tests, shown as shown_in}
-use Rattle.sqlite_resolve.specs.Expr.{lower, lower_to}
+use Rattle.sqlite_resolve.specs.Expr.{lower, lower_to, node, opened, passes, operation, both, combine, tests_truth, tests_alias, wanted_truth}
 use Rattle.sqlite_resolve.specs.Terms.{conjuncts}
 use Rattle.sqlite_resolve.specs.Literal.{integer}
 use Rattle.sqlite_resolve.specs.Compare.{compared, affinity_of, of_column, converted, may_be_text, of_kind, of_declared, is_filler}
-use Rattle.mq_tables.proofs.Selecting.{column_shown, column_lowered, parameter_lowered, integer_lowered, and_lowered, equal_lowered, most_lowered, least_lowered, tested, outputs_next}
+use Rattle.mq_tables.proofs.Selecting.{column_shown, column_lowered, parameter_lowered, integer_lowered, and_lowered, tested, outputs_next}
 
 -- a column, by its name and by its place in the table
 pub record Field : Type 0 where
@@ -65,6 +65,9 @@ pub record Test : Type 0 where
 
 abbrev pub against : Field → Relation → ℕ → Test
 against f by n = record { column = f; by = by; operand = Parameter n }
+
+abbrev pub is_one : Field → Test
+is_one f = record { column = f; by = Same; operand = One }
 
 -- ---- the table has the column, and compares it as it is
 
@@ -254,19 +257,11 @@ carried_is table at c binary = ap (λ k. if is_key table.key at then nothing els
 
 binary_chosen : (key : Option ℕ) (at : ℕ) → chosen (carried_at key at) nothing ≡ Binary
 unfolding chosen alone first_found
-binary_chosen key at = go (is_key key at)
-  where
-    go : (b : Bool) → chosen (if b then nothing else record { collation = Some Binary; is_written = false }) nothing ≡ Binary
-    go true = refl
-    go false = refl
+binary_chosen key at = elim (is_key key at) as (λ b. chosen (if b then nothing else record { collation = Some Binary; is_written = false }) nothing ≡ Binary) [ true ↦ refl | false ↦ refl ]
 
 pub binary_alone : (key : Option ℕ) (at : ℕ) → alone (carried_at key at) ≡ Binary
 unfolding alone
-binary_alone key at = go (is_key key at)
-  where
-    go : (b : Bool) → alone (if b then nothing else record { collation = Some Binary; is_written = false }) ≡ Binary
-    go true = refl
-    go false = refl
+binary_alone key at = elim (is_key key at) as (λ b. alone (if b then nothing else record { collation = Some Binary; is_written = false }) ≡ Binary) [ true ↦ refl | false ↦ refl ]
 
 heading_is : (table : Table) (f : Field) (c : Column) → slice_get table.columns f.at ≡ Some c → c.name ≡ heading_of table f
 heading_is table f c there = rw there refl
@@ -297,9 +292,10 @@ module _ (cx : Context) (at : ℕ) (name : Name) (shown : List Output) (table : 
   either_lowered : (by : Relation) (depth : ℕ) (e a c : Expr) (x y : Term) (st one two : State) → out-Expr e ≡ Expr-F.Binary (sign_of by) a c → nat_lt 1 st.budget ≡ true → st.written ≡ None
       → lower_to depth cx a (record st { budget = st.budget - 1; written = None; last = nothing }) ≡ Ok (x, one) → lower_to depth cx c one ≡ Ok (y, two) → two.written ≡ None
       → lower_to (suc depth) cx e st ≡ Ok (compared cx (Compare (compare_of by) (chosen one.last two.last)) x y, record two { written = None; last = nothing })
-  either_lowered Same = equal_lowered cx
-  either_lowered AtMost = most_lowered cx
-  either_lowered AtLeast = least_lowered cx
+  unfolding lower_to node spend begin opened finish passes operation both combine tests_truth tests_alias wanted_truth
+  either_lowered Same depth e a c x y st one two is enough unwritten first second after = rw (is, enough, first, second, after, unwritten)
+  either_lowered AtMost depth e a c x y st one two is enough unwritten first second after = rw (is, enough, first, second, after, unwritten)
+  either_lowered AtLeast depth e a c x y st one two is enough unwritten first second after = rw (is, enough, first, second, after, unwritten)
 
   test_lowered : (t : Test) → is_field table t.column ≡ true → (depth budget : ℕ) (last : Carried) → 5 ≤ budget
       → lower_to (suc (suc depth)) cx (test_as t) (state_of budget last) ≡ Ok (test_term table.key t, state_of (budget - 1 - 1 - 1) nothing)

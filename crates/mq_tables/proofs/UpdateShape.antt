@@ -81,7 +81,7 @@ module _ (cx : Context) (table : Table) where
           set_next cx table (done, terms) name (parameter_as n) (sets_as (n + 1) names) longer (col 0 (n - 1)) (state_of budget nothing) (state_of (budget - 1) nothing) _ at one (deeper longer placed')
           ∙ ap₂ (λ xs b. Ok ((all, xs), state_of b nothing)) (append_assoc terms (col 0 (n - 1) ∷ []) (values_from (n + 1) names)) left
 
-module _ (text : List ℕ) (shape : UpdateShape) (it : IsUpdateOf text shape) (s : Schema) (t : ℕ) (place : IsTableIn s shape.table t) where
+module _ {text : List ℕ} {shape : UpdateShape} (it : IsUpdateOf text shape) (s : Schema) (t : ℕ) (place : IsTableIn s shape.table t) where
   short : length shape.sets + nodes_of (reverse shape.tests) + depth_of (reverse shape.tests) ≤ 600
   short = leb-true _ 600 it.short
 
@@ -112,17 +112,17 @@ module _ (text : List ℕ) (shape : UpdateShape) (it : IsUpdateOf text shape) (s
       let is = understood_update text it.parsed update s place.at (in_tree shape t) (simple (Inner t ∷ []) (tests_in shape) shape.row) place.named place.there updated_so (it.accepted s t place.stored place.found) in
       (ap command_of is, subst IsPlain (sym is) (refl, refl))
 
-module _ (text : List ℕ) (shape : UpdateShape) (it : IsUpdateOf text shape) (params : Row) (old new : state.State) (t : ℕ) (place : IsTableIn old.now.schema shape.table t) where
+module _ {text : List ℕ} {shape : UpdateShape} (it : IsUpdateOf text shape) (params : Row) (old new : state.State) (t : ℕ) (place : IsTableIn old.now.schema shape.table t) where
   pub made : IsUnreferred old.now.schema t → (count : ℕ) → Executes text params old new (Ok count) → Updated old.now.schema (in_tree shape t) (tests_in shape) shape.row params old new
   made apart count h =
       let s = old.now.schema in
-      let means = means_update text shape it s t place in
+      let means = means_update it s t place in
       updates text params old new s refl place.at (in_tree shape t) (record { place = place.there; uncounted = it.uncounted; timeless = it.timeless; unreferred = nothing_acts s t apart [] })
       (nothing_acts s t apart) (record { lets = []; body = plain_query t (tests_in shape) shape.row }) (tests_in shape) shape.row means.0 (refl, refl) means.1 (rw place.stored) count h
 
 -- ---- what it leaves of the records
 
-module _ {R : Type 0} (fields : R → Row) (same : R → R → Bool) (set : R → R → R) (params : R → Row) (text : List ℕ) (shape : UpdateShape) (it : IsUpdateOf text shape) (keyless : shape.table.key ≡ None) (r : R) where
+module _ {R : Type 0} (fields : R → Row) (same : R → R → Bool) (set : R → R → R) (params : R → Row) {text : List ℕ} {shape : UpdateShape} (it : IsUpdateOf text shape) (keyless : shape.table.key ≡ None) (r : R) where
   -- whether a row of these fields passes
   abbrev pub test : Row → Bool
   test c = list_all (holds (params r ∷ (Null ∷ c) ∷ [])) (tests_in shape)
@@ -156,15 +156,15 @@ module _ {R : Type 0} (fields : R → Row) (same : R → R → Bool) (set : R �
 
     pub set_so : IsUnreferred old.now.schema t → (count : ℕ) → Executes text (params r) old new (Ok count) → HasSet (Holds 1 fields) same set r t old.now new.now
     set_so apart count h =
-        let done = made text shape it (params r) old new t place apart count h in
+        let done = made it (params r) old new t place apart count h in
         record { sound = done.sound; schema = done.schema_is; rows = sets_row done; others = done.tables }
 
 -- ---- a record of a table whose rows are records in any order
 
-module _ {R : Type 0} (same : R → R → Bool) (set : R → R → R) (params : R → Row) (text : List ℕ) (shape : UpdateShape) (it : IsUpdateOf text shape) (part : Part R shape.table) where
+module _ {R : Type 0} (same : R → R → Bool) (set : R → R → R) (params : R → Row) {text : List ℕ} {shape : UpdateShape} (it : IsUpdateOf text shape) (part : Part R shape.table) where
   -- a record passes where it has the key
   abbrev pub Decides : Type 0
-  Decides = (r was : R) → test part.fields same set params text shape it part.keyless r (part.fields was) ≡ same r was
+  Decides = (r was : R) → test part.fields same set params it part.keyless r (part.fields was) ≡ same r was
 
   -- the one row is replaced by that with the new fields
   abbrev pub Edits : Type 0
@@ -176,6 +176,6 @@ module _ {R : Type 0} (same : R → R → Bool) (set : R → R → R) (params : 
   updates_record decides edits r (Ok count) old new h = (
     h.1.mode,
     λ t l was rest held hit apart.
-        let done = set_so part.fields same set params text shape it part.keyless r (decides r) (edits r) old new (part.tree old.now t l) (part.place old.now t l) (part.alone old.now t l) count h.0 in
+        let done = set_so part.fields same set params it part.keyless r (decides r) (edits r) old new (part.tree old.now t l) (part.place old.now t l) (part.alone old.now t l) count h.0 in
         part.changed old.now new.now t l done.schema done.sound done.others (set r was ∷ rest) (done.rows was rest (held_so part.fields _ (part.records t) (was ∷ rest) (part.holds old.now t l) held) hit apart),
   )

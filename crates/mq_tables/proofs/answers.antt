@@ -2,4 +2,3 @@ pub mod Reads
 pub mod Appending
 pub mod Numbered
 pub mod Clears
-pub mod Cleared

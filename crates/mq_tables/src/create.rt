@@ -8,11 +8,13 @@ ghost use Rattle.sqlite.specs.Values.{bound};
 ghost use Rattle.mq_ledger.specs.Day.{rule_in};
 ghost use Rattle.mq_tables.specs.Inside.{IsInside, Leads, Turns, StaysInside, LeavesCommit, Lasts};
 ghost use Rattle.mq_tables.specs.Settings.{rule_fields};
-ghost use Rattle.mq_tables.specs.Tables.{setting_table, answer_table, trans_table, usage_table, ceiling_table, rule_table};
+ghost use Rattle.mq_tables.specs.Tables.{setting_table, answer_table, trans_table, usage_table};
+ghost use Rattle.mq_tables.specs.Tables.{ceiling_table, rule_table};
 ghost use Rattle.mq_tables.specs.Tables.{retired_table};
 ghost use Rattle.mq_tables.specs.Making.{Makes, Puts, PutsAny, StartsTable, AddsTables, IsMadeOver};
 ghost use Rattle.mq_tables.specs.Making.{AreMadeFor, IsMadeOverBy};
-ghost use Rattle.mq_tables.specs.Making.{AreMadeOver, four_tables, later_tables, other_tables, setting_row, setting_params, rule_params};
+ghost use Rattle.mq_tables.specs.Making.{AreMadeOver, four_tables, later_tables, other_tables};
+ghost use Rattle.mq_tables.specs.Making.{setting_row, setting_params, rule_params};
 
 use crate::index::add_index;
 use crate::names::lacks_index;
@@ -153,7 +155,8 @@ fn put_setting<S: Alter>(
     made_with: &NewSetting,
 ) -> Result<usize, Error>
     requires inside { IsInside S.Store tx.old }
-    ensures put { Leads S.Store tx.old tx.new result (Puts setting_table (setting_row made_with.now)) }
+    ensures put { Leads S.Store tx.old tx.new result (Puts setting_table
+        (setting_row made_with.now)) }
     ensures leaves { LeavesCommit S.Store tx.old tx.new }
 {
     tx.execute(
@@ -162,19 +165,22 @@ fn put_setting<S: Alter>(
     )
 }
 
+#[tactic(auto, using(crate::proofs::Chain::calls))]
 fn begin_setting<S: Alter>(
     tx: &mut Transaction<'_, S>,
     made_with: &NewSetting,
 ) -> Result<usize, Error>
     requires inside { IsInside S.Store tx.old }
     ensures inside { StaysInside S.Store tx.old tx.new result }
-    ensures started { Leads S.Store tx.old tx.new result (StartsTable setting_table (setting_row made_with.now)) }
+    ensures started { Leads S.Store tx.old tx.new result
+        (StartsTable setting_table (setting_row made_with.now)) }
     ensures leaves { LeavesCommit S.Store tx.old tx.new }
 {
     create_setting(tx)?;
     put_setting(tx, made_with)
 }
 
+#[tactic(auto, using(crate::proofs::Chain::calls))]
 fn create_four<S: Alter>(tx: &mut Transaction<'_, S>) -> Result<usize, Error>
     requires inside { IsInside S.Store tx.old }
     ensures inside { StaysInside S.Store tx.old tx.new result }
@@ -188,6 +194,7 @@ fn create_four<S: Alter>(tx: &mut Transaction<'_, S>) -> Result<usize, Error>
 }
 
 /// The tables of later versions.
+#[tactic(auto, using(crate::proofs::Chain::calls))]
 fn create_later<S: Alter>(tx: &mut Transaction<'_, S>) -> Result<usize, Error>
     requires inside { IsInside S.Store tx.old }
     ensures inside { StaysInside S.Store tx.old tx.new result }
@@ -198,6 +205,7 @@ fn create_later<S: Alter>(tx: &mut Transaction<'_, S>) -> Result<usize, Error>
     create_retired(tx)
 }
 
+#[tactic(auto, using(crate::proofs::Chain::calls))]
 fn create_others<S: Alter>(tx: &mut Transaction<'_, S>) -> Result<usize, Error>
     requires inside { IsInside S.Store tx.old }
     ensures inside { StaysInside S.Store tx.old tx.new result }
@@ -209,6 +217,7 @@ fn create_others<S: Alter>(tx: &mut Transaction<'_, S>) -> Result<usize, Error>
 }
 
 /// Makes the seven tables of a ledger that has applied nothing.
+#[tactic(auto, using(crate::proofs::Chain::calls))]
 fn make_seven<S: Alter>(tx: &mut Transaction<'_, S>, made_with: &NewSetting) -> Result<usize, Error>
     requires inside { IsInside S.Store tx.old }
     ensures inside { StaysInside S.Store tx.old tx.new result }
@@ -220,8 +229,10 @@ fn make_seven<S: Alter>(tx: &mut Transaction<'_, S>, made_with: &NewSetting) -> 
     put_any_rule(tx, made_with)
 }
 
-/// Makes the seven tables of a ledger that has applied nothing, and the index where it is wanted, inside a transaction,
-/// over whatever the store holds. An error is the store's; what was made before it is then there.
+/// Makes the seven tables of a ledger that has applied nothing, and the index where it is wanted,
+/// inside a transaction, over whatever the store holds. An error is the store's; what was made
+/// before it is then there.
+#[tactic(auto, using(crate::proofs::Chain::calls))]
 pub fn make_tables<S: Alter>(
     tx: &mut Transaction<'_, S>,
     made_with: &NewSetting,
@@ -236,8 +247,8 @@ pub fn make_tables<S: Alter>(
     add_index(tx, indexed)
 }
 
-/// Makes the seven tables of a ledger that has applied nothing, and the index where nothing has its name, in one
-/// transaction, or leaves all as it was.
+/// Makes the seven tables of a ledger that has applied nothing, and the index where nothing has its
+/// name, in one transaction, or leaves all as it was.
 ///
 /// An error is the store's.
 pub fn make_ledger<S: Alter>(conn: &mut Connection<S>, made_with: &NewSetting) -> Result<(), Error>
@@ -247,7 +258,8 @@ pub fn make_ledger<S: Alter>(conn: &mut Connection<S>, made_with: &NewSetting) -
     ensures lasts { Lasts (state S.Store conn.old) (state S.Store conn.new) }
     ensures made { HasCleanDisk (state S.Store conn.new) → OnOk result
         (IsMadeOver made_with.now (state S.Store conn.old).now (state S.Store conn.new).now) }
-    ensures open { HasCleanDisk (state S.Store conn.new) → OnOk result (IsTrue (state S.Store conn.new).is_open) }
+    ensures open { HasCleanDisk (state S.Store conn.new)
+        → OnOk result (IsTrue (state S.Store conn.new).is_open) }
     ensures err { HasCleanDisk (state S.Store conn.new) → IsTrue (state S.Store conn.new).is_open
         → OnErr result ((state S.Store conn.new).now ≡ (state S.Store conn.old).now) }
 
@@ -256,8 +268,10 @@ pub fn make_ledger<S: Alter>(conn: &mut Connection<S>, made_with: &NewSetting) -
         → (state S.Store conn.new).may_leave db → db ≡ (state S.Store conn.new).now.trees) }
     ensures crash_err { HasCleanDisk (state S.Store conn.new) → OnErr result ((db : Trees)
         → (state S.Store conn.new).may_leave db
-        → (state S.Store conn.old).may_leave db ⊎ AreMadeOver made_with.now (state S.Store conn.old).now db) }
+        → (state S.Store conn.old).may_leave db ⊎ AreMadeOver made_with.now
+        (state S.Store conn.old).now db) }
 {
+    // (its clause says that outside a transaction the tables are those of the last commit)
     let _settled = conn.is_autocommit();
     let indexed = lacks_index(conn.schema());
     let mut tx = conn.transaction();

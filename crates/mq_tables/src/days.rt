@@ -8,13 +8,15 @@ ghost use Rattle.mq_tables.specs.Inside.{Reads, OfLedger};
 use sqlite::{Alter, Error, Row, Transaction};
 
 fn oldest_rows<S: Alter>(tx: &mut Transaction<'_, S>) -> Result<Vec<Row>, Error>
-    ensures { Reads S.Store tx.old tx.new result (OfLedger (λ t rows. IsDayShown IsOldest t.usage rows.items)) }
+    ensures { Reads S.Store tx.old tx.new result (OfLedger
+        (λ t rows. IsDayShown IsOldest t.usage rows.items)) }
 {
     tx.query_all("SELECT day FROM usage ORDER BY day LIMIT 1", &[])
 }
 
 fn newest_rows<S: Alter>(tx: &mut Transaction<'_, S>) -> Result<Vec<Row>, Error>
-    ensures { Reads S.Store tx.old tx.new result (OfLedger (λ t rows. IsDayShown IsNewest t.usage rows.items)) }
+    ensures { Reads S.Store tx.old tx.new result (OfLedger
+        (λ t rows. IsDayShown IsNewest t.usage rows.items)) }
 {
     tx.query_all("SELECT day FROM usage ORDER BY day DESC LIMIT 1", &[])
 }

@@ -50,11 +50,12 @@ fn first_bodies(rows: &[Row]) -> Result<Option<Bodies>, Error>
     }))
 }
 
-/// The bodies of the n-th answer, where there is one: n counts from 1 to below 2 to the 63rd. An error
-/// is the store's, or that of a row whose bodies aren't bytes.
+/// The bodies of the n-th answer, where there is one: n counts from 1 to below 2 to the 63rd. An
+/// error is the store's, or that of a row whose bodies aren't bytes.
 pub fn read_answer<S: Alter>(tx: &mut Transaction<'_, S>, n: u64) -> Result<Option<Bodies>, Error>
     requires { n < 2 ^ 63 }
-    ensures { Reads S.Store tx.old tx.new result (OfLedger (λ t found. IsAnswerAt n t.answers found)) }
+    ensures { Reads S.Store tx.old tx.new result (OfLedger
+        (λ t found. IsAnswerAt n t.answers found)) }
 {
     let rows = rows_at(tx, n)?;
     first_bodies(rows.as_slice())

@@ -8,7 +8,8 @@ ghost use Rattle.sqlite.specs.State.{HasCleanDisk, IsRolledBack, IsUnchanged, Sh
 ghost use Rattle.mq_rows.specs.declared.auditing.Books.{Books as AnyBooks};
 ghost use Rattle.mq_rows.specs.Audit.{Figures};
 ghost use Rattle.mq_tables.specs.Figures.{HasAuditTables, HasFigures, AreGiven};
-ghost use Rattle.mq_tables.specs.Figures.{IsUsageRead, IsTransactionRead, IsLimitRead, Took, text_of};
+ghost use Rattle.mq_tables.specs.Figures.{IsUsageRead, IsTransactionRead, IsLimitRead, Took};
+ghost use Rattle.mq_tables.specs.Figures.{text_of};
 ghost use Rattle.mq_tables.specs.Reading.{Spares};
 
 use mq_request::Login;
@@ -98,12 +99,14 @@ fn read_rows<S: Alter>(
     ensures autocommit { connection.new.in_transaction ≡ false }
     ensures took { HasCleanDisk (state S.Store connection.new)
         → OnOk result ((rows : List Cells)
-        × Shown (text_of table) [] (state S.Store connection.old) (state S.Store connection.new) rows
+        × Shown (text_of table) [] (state S.Store connection.old)
+        (state S.Store connection.new) rows
         × Took table rows books.old books.new) }
     ensures left { HasCleanDisk (state S.Store connection.new)
         → OnErr result (IsUnchanged (state S.Store connection.old) (state S.Store connection.new)
         ⊎ IsRolledBack (state S.Store connection.old) (state S.Store connection.new)) }
-    ensures survives { Survives (state S.Store connection.old) (state S.Store connection.new) (λ _. ⊥) }
+    ensures survives { Survives (state S.Store connection.old) (state S.Store connection.new)
+        (λ _. ⊥) }
 {
     let mut rows = connection.query(table.text(), &[])?;
     'rows: for _ in 0..u64::MAX {
@@ -126,7 +129,8 @@ fn give_rows<S: Alter>(connection: &mut Connection<S>, books: &mut Books) -> Res
     ensures left { HasCleanDisk (state S.Store connection.new)
         → OnErr result (IsUnchanged (state S.Store connection.old) (state S.Store connection.new)
         ⊎ IsRolledBack (state S.Store connection.old) (state S.Store connection.new)) }
-    ensures survives { Survives (state S.Store connection.old) (state S.Store connection.new) (λ _. ⊥) }
+    ensures survives { Survives (state S.Store connection.old) (state S.Store connection.new)
+        (λ _. ⊥) }
 {
     read_rows(connection, Table::Usage, books)?;
     read_rows(connection, Table::Transactions, books)?;
@@ -134,8 +138,8 @@ fn give_rows<S: Alter>(connection: &mut Connection<S>, books: &mut Books) -> Res
     Ok(())
 }
 
-/// Gives all rows of `usage`, `trans` and `ceiling` to the books, each table's in any order. Few rows are in memory at
-/// once.
+/// Gives all rows of `usage`, `trans` and `ceiling` to the books, each table's in any order. Few
+/// rows are in memory at once.
 ///
 /// It writes nothing. An error is the store's, also where memory runs out.
 pub fn read_figures<S: Alter>(
@@ -145,7 +149,8 @@ pub fn read_figures<S: Alter>(
     requires autocommit { connection.old.in_transaction ≡ false }
     ensures autocommit { connection.new.in_transaction ≡ false }
     ensures limit { connection.new.step_limit ≡ connection.old.step_limit }
-    ensures clean { HasCleanDisk (state S.Store connection.new) → HasCleanDisk (state S.Store connection.old) }
+    ensures clean { HasCleanDisk (state S.Store connection.new)
+        → HasCleanDisk (state S.Store connection.old) }
     ensures same { HasCleanDisk (state S.Store connection.new)
         → OnOk result (IsUnchanged (state S.Store connection.old) (state S.Store connection.new)) }
     ensures spares { HasCleanDisk (state S.Store connection.new)
@@ -153,12 +158,14 @@ pub fn read_figures<S: Alter>(
     ensures given { HasCleanDisk (state S.Store connection.new)
         → OnOk result (AreGiven (state S.Store connection.old).now books.old books.new) }
 {
+    // (its clause says that outside a transaction the tables are those of the last commit)
     let _settled = connection.is_autocommit();
     give_rows(connection, books)
 }
 
-/// Each sound store that has the three tables has figures, whatever wrote its rows: their columns are
-/// strict, and none may be NULL. It does nothing: its contract is the law.
+/// Each sound store that has the three tables has figures, whatever wrote its rows: their columns
+/// are strict, and none may be NULL. It does nothing: its contract is the law.
 pub fn rows_have_figures()
-    ensures { (db : Database) → IsDatabase db → HasAuditTables db.schema → (f : Figures) × HasFigures db f }
+    ensures { (db : Database) → IsDatabase db → HasAuditTables db.schema → (f : Figures)
+        × HasFigures db f }
 {}

@@ -7,7 +7,8 @@ ghost use Rattle.mq_ledger.specs.Day.{day_of};
 ghost use Rattle.mq_rows.specs.Found.{IsFound};
 ghost use Rattle.mq_rows.specs.Rows.{is_host};
 ghost use Rattle.mq_rows.specs.Storable.{AreStorableIf, IsStorableFloor};
-ghost use Rattle.mq_tables.specs.Finding.{AreKeyed, IsTransactionFound, IsReserveFound, IsLimitFound};
+ghost use Rattle.mq_tables.specs.Finding.{AreKeyed, IsTransactionFound, IsReserveFound};
+ghost use Rattle.mq_tables.specs.Finding.{IsLimitFound};
 ghost use Rattle.mq_tables.specs.Inside.{ChangesNothing, Finds, OfLedger, OfCurrent, LeavesCommit};
 
 use crate::ceiling::{find_governing, find_limit};
@@ -17,11 +18,11 @@ use crate::transaction::find_transaction;
 use crate::usage::find_usage;
 use mq_ledger::Zone;
 use mq_request::{Id, Login, Request};
-use mq_rows::Found;
+use mq_rows::FoundRows;
 use sqlite::{Alter, Error, Transaction};
 
 /// Nothing was looked for.
-const NOTHING: Found = Found {
+const NOTHING: FoundRows = FoundRows {
     transaction: None,
     usage: None,
     governing: None,
@@ -31,13 +32,14 @@ const NOTHING: Found = Found {
 };
 
 /// The rows of a request's transaction, and of its login and day.
+#[tactic(auto, using(crate::proofs::Chain::calls))]
 fn find_named<S: Alter>(
     tx: &mut Transaction<'_, S>,
     id: &Id,
     txn: u32,
     login: &Login,
     day: u32,
-) -> Result<Found, Error>
+) -> Result<FoundRows, Error>
     requires { id.now.run < 2 ^ 63 }
     ensures same { ChangesNothing S.Store tx.old tx.new result }
     ensures found { Finds S.Store tx.old tx.new result (OfLedger (λ t found.
@@ -48,7 +50,7 @@ fn find_named<S: Alter>(
 {
     let transaction = find_transaction(tx, &id.host, id.run, txn)?;
     let usage = find_usage(tx, login, day)?;
-    Ok(Found {
+    Ok(FoundRows {
         transaction,
         usage,
         governing: None,
@@ -59,13 +61,14 @@ fn find_named<S: Alter>(
 }
 
 /// The same, and the limit that governs the day.
+#[tactic(auto, using(crate::proofs::Chain::calls))]
 fn find_for_reserve<S: Alter>(
     tx: &mut Transaction<'_, S>,
     id: &Id,
     txn: u32,
     login: &Login,
     day: u32,
-) -> Result<Found, Error>
+) -> Result<FoundRows, Error>
     requires { id.now.run < 2 ^ 63 }
     ensures same { ChangesNothing S.Store tx.old tx.new result }
     ensures found { Finds S.Store tx.old tx.new result (OfLedger (λ t found.
@@ -76,16 +79,17 @@ fn find_for_reserve<S: Alter>(
 {
     let found = find_named(tx, id, txn, login, day)?;
     let governing = find_governing(tx, login, day)?;
-    Ok(Found { governing, ..found })
+    Ok(FoundRows { governing, ..found })
 }
 
 /// The first day from `from_day` on that is past the cap, and the limit from that day on.
+#[tactic(auto, using(crate::proofs::Chain::calls))]
 fn find_for_limit<S: Alter>(
     tx: &mut Transaction<'_, S>,
     login: &Login,
     from_day: u32,
     cap: u32,
-) -> Result<Found, Error>
+) -> Result<FoundRows, Error>
     ensures same { ChangesNothing S.Store tx.old tx.new result }
     ensures found { Finds S.Store tx.old tx.new result (OfLedger (λ t found.
         AreKeyed t → IsLimitFound login.now from_day cap t found)) }
@@ -95,7 +99,7 @@ fn find_for_limit<S: Alter>(
 {
     let over = find_over(tx, login, from_day, cap)?;
     let limit = find_limit(tx, login, from_day)?;
-    Ok(Found {
+    Ok(FoundRows {
         transaction: None,
         usage: None,
         governing: None,
@@ -106,7 +110,7 @@ fn find_for_limit<S: Alter>(
 }
 
 /// The floor of a retire's host.
-fn find_for_retire<S: Alter>(tx: &mut Transaction<'_, S>, id: &Id) -> Result<Found, Error>
+fn find_for_retire<S: Alter>(tx: &mut Transaction<'_, S>, id: &Id) -> Result<FoundRows, Error>
     ensures same { ChangesNothing S.Store tx.old tx.new result }
     ensures found { Finds S.Store tx.old tx.new result (OfCurrent (λ t found.
         AreKeyed t → found.floor ≡ find (is_host id.now.host) t.retired)) }
@@ -115,7 +119,7 @@ fn find_for_retire<S: Alter>(tx: &mut Transaction<'_, S>, id: &Id) -> Result<Fou
     ensures leaves { LeavesCommit S.Store tx.old tx.new }
 {
     let floor = find_floor(tx, &id.host)?;
-    Ok(Found {
+    Ok(FoundRows {
         transaction: None,
         usage: None,
         governing: None,
@@ -132,7 +136,7 @@ pub fn find<S: Alter>(
     tx: &mut Transaction<'_, S>,
     zone: Zone,
     request: &Request,
-) -> Result<Found, Error>
+) -> Result<FoundRows, Error>
     requires in_range { IsRequest request.now }
     requires numbered { IsSome (id_of request.now) }
     ensures same { ChangesNothing S.Store tx.old tx.new result }

@@ -1,16 +1,19 @@
-//! The table `retired`, which has the floor of each host that has one: the run below which its runs are given up.
+//! The table `retired`, which has the floor of each host that has one: the run below which its runs
+//! are given up.
 
 ghost use Rattle.std.specs.List.Sorted.{IsPermutation};
-ghost use Rattle.std.specs.Prelude.{◌≡◌, ◌<◌, ◌^◌, List, None, false, map, filter, IsTrue, OnOk, IfOk};
+ghost use Rattle.std.specs.Prelude.{◌≡◌, ◌<◌, ◌^◌, List, None, false, map, filter, IsTrue, OnOk};
+ghost use Rattle.std.specs.Prelude.{IfOk};
 ghost use Rattle.sqlite.specs.Held.{state};
 ghost use Rattle.sqlite.specs.State.{HasCleanDisk};
 ghost use Rattle.sqlite.specs.Values.{bound};
 ghost use Rattle.mq_rows.specs.declared.plan.Write.TheVariants.{Insert, Update};
 ghost use Rattle.mq_rows.specs.Rows.{is_host};
 ghost use Rattle.mq_rows.specs.Storable.{IsStorableFloor, IsStorableRun};
-ghost use Rattle.mq_rows.specs.declared.record.RetiredRecord.{RetiredRecord as Floor};
+ghost use Rattle.mq_rows.specs.declared.record.RetiredRecord.{RetiredRecord as AnyRetiredRecord};
 ghost use Rattle.mq_tables.specs.Floors.{is_floor, are_floors, AreFloorsOf};
-ghost use Rattle.mq_tables.specs.Inside.{IsInside, ChangesNothing, Finds, Reads, Leads, StaysInside, Writes};
+ghost use Rattle.mq_tables.specs.Inside.{IsInside, ChangesNothing, Finds, Reads, Leads};
+ghost use Rattle.mq_tables.specs.Inside.{StaysInside, Writes};
 ghost use Rattle.mq_tables.specs.Inside.{OfCurrent, LeavesCommit};
 ghost use Rattle.mq_tables.specs.Ledger.{HasFloors};
 ghost use Rattle.mq_tables.specs.Lent.{host_params, floor_params, floor_row, IsFirstFloor};
@@ -26,7 +29,8 @@ use sqlite::{Alter, Connection, Error, Row, Transaction};
 
 /// Reads all floors, as they are.
 ///
-/// It lifts the limit on steps, and writes nothing. An error is the store's: one of SQL where there is no such table.
+/// It lifts the limit on steps, and writes nothing. An error is the store's: one of SQL where there
+/// is no such table.
 pub fn read_floors<S: Alter>(connection: &mut Connection<S>) -> Result<Vec<Row>, Error>
     requires autocommit { connection.old.in_transaction ≡ false }
     ensures autocommit { connection.new.in_transaction ≡ false }
@@ -37,15 +41,17 @@ pub fn read_floors<S: Alter>(connection: &mut Connection<S>) -> Result<Vec<Row>,
         → AreFloorsRead (state S.Store connection.old) (state S.Store connection.new) result }
     ensures spares { HasCleanDisk (state S.Store connection.new)
         → Spares (state S.Store connection.old) (state S.Store connection.new) }
-    ensures clean { HasCleanDisk (state S.Store connection.new) → HasCleanDisk (state S.Store connection.old) }
+    ensures clean { HasCleanDisk (state S.Store connection.new)
+        → HasCleanDisk (state S.Store connection.old) }
     ensures open { HasCleanDisk (state S.Store connection.new)
         → OnOk result (IsTrue (state S.Store connection.new).is_open) }
 
     // Where our table is there, at any place.
-    ensures floors { HasCleanDisk (state S.Store connection.new) → (floors : List Floor)
+    ensures floors { HasCleanDisk (state S.Store connection.new) → (floors : List AnyRetiredRecord)
         → HasFloors (state S.Store connection.old).now floors → AreFloorsOf result }
 {
     connection.set_step_limit(None);
+    // (its clause says that outside a transaction the tables are those of the last commit)
     let _settled = connection.is_autocommit();
     connection.query_all("SELECT host, run FROM retired", &[])
 }

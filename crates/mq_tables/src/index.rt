@@ -1,7 +1,8 @@
 //! The index by which the rows of a day are found, in the order of their logins.
 //!
-//! Without it a list of one day reads the rows of all, and so does the question for the oldest day and the newest. No
-//! answer rests on it: where something else has its name, the ledger does without.
+//! Without it a list of one day reads the rows of all, and so does the question for the oldest day
+//! and the newest. No answer rests on it: where something else has its name, the ledger does
+//! without.
 
 ghost use Rattle.std.specs.Prelude.{◌≡◌, ◌⊎◌, false, IsTrue, OnOk, OnErr};
 ghost use Rattle.sqlite.specs.Held.{state};
@@ -45,11 +46,13 @@ pub fn index_ledger<S: Alter>(conn: &mut Connection<S>) -> Result<(), Error>
     ensures lasts { Lasts (state S.Store conn.old) (state S.Store conn.new) }
     ensures indexed { HasCleanDisk (state S.Store conn.new)
         → OnOk result (IsIndexed (state S.Store conn.old).now (state S.Store conn.new).now) }
-    ensures open { HasCleanDisk (state S.Store conn.new) → OnOk result (IsTrue (state S.Store conn.new).is_open) }
+    ensures open { HasCleanDisk (state S.Store conn.new)
+        → OnOk result (IsTrue (state S.Store conn.new).is_open) }
     ensures err { HasCleanDisk (state S.Store conn.new) → IsTrue (state S.Store conn.new).is_open
         → OnErr result ((state S.Store conn.new).now ≡ (state S.Store conn.old).now) }
 
-    // What an open after a crash may find: the ledger with the index, or after an error without it or with it.
+    // What an open after a crash may find: the ledger with the index, or after an error without it
+    // or with it.
     ensures crash_ok { HasCleanDisk (state S.Store conn.new) → OnOk result ((db : Trees)
         → (state S.Store conn.new).may_leave db → db ≡ (state S.Store conn.new).now.trees) }
     ensures crash_err { HasCleanDisk (state S.Store conn.new) → OnErr result ((db : Trees)
@@ -57,6 +60,7 @@ pub fn index_ledger<S: Alter>(conn: &mut Connection<S>) -> Result<(), Error>
         → (state S.Store conn.old).may_leave db
         ⊎ (IsTrue (state S.Store conn.old).is_open × AreIndexed (state S.Store conn.old).now db)) }
 {
+    // (its clause says that outside a transaction the tables are those of the last commit)
     let _settled = conn.is_autocommit();
     let mut tx = conn.transaction();
     create_index(&mut tx)?;

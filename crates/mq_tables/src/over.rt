@@ -4,7 +4,8 @@ ghost use Rattle.std.specs.List.Sorted.{IsPermutation};
 ghost use Rattle.std.specs.Prelude.{◌≡◌, map, filter, IfOk};
 ghost use Rattle.mq_rows.specs.Found.{IsFirstOver};
 ghost use Rattle.mq_tables.specs.Inside.{Reads, OfLedger};
-ghost use Rattle.mq_tables.specs.Over.{day_row, is_from, is_past, earlier, IsTotalsShown, IsEarliest, IsFirstShown};
+ghost use Rattle.mq_tables.specs.Over.{day_row, is_from, is_past, earlier, IsTotalsShown};
+ghost use Rattle.mq_tables.specs.Over.{IsEarliest, IsFirstShown};
 
 use crate::usage::key_params;
 use mq_request::Login;
@@ -90,9 +91,9 @@ fn first_over(rows: &[Row], login: &Login, cap: u32) -> Result<Option<UsageRecor
     }))
 }
 
-/// Of the days from `from_day` on on which the login has used more than `cap` recipients, the row of
-/// the first; `None` where there is no such day. A value of its rows that is no number of 32 bits is
-/// an error of the store.
+/// Of the days from `from_day` on on which the login has used more than `cap` recipients, the row
+/// of the first; `None` where there is no such day. A value of its rows that is no number of 32
+/// bits is an error of the store.
 pub fn find_over<S: Alter>(
     tx: &mut Transaction<'_, S>,
     login: &Login,

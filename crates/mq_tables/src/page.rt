@@ -32,7 +32,8 @@ fn next_rows<S: Alter>(
     day: u32,
     after: &Login,
 ) -> Result<Vec<Row>, Error>
-    ensures { Reads S.Store tx.old tx.new result (OfLedger (λ t rows. IsNextShown day after.now t.usage rows.items)) }
+    ensures { Reads S.Store tx.old tx.new result (OfLedger
+        (λ t rows. IsNextShown day after.now t.usage rows.items)) }
 {
     let from = just_above(after)?;
     tx.query_all(
@@ -59,13 +60,15 @@ fn first_of_day(rows: &[Row], day: u32) -> Result<Option<UsageRecord>, Error>
 /// Of the rows of a day whose login is above `after` in byte order, the one of the least login;
 /// `None` where there is none. `after` may be empty.
 ///
-/// With the index it reads no more than a tree's depth; without it, each row from `after` on up to that one.
+/// With the index it reads no more than a tree's depth; without it, each row from `after` on up to
+/// that one.
 pub fn next_usage<S: Alter>(
     tx: &mut Transaction<'_, S>,
     day: u32,
     after: &Login,
 ) -> Result<Option<UsageRecord>, Error>
-    ensures { Reads S.Store tx.old tx.new result (OfLedger (λ t found. IsNext day after.now t.usage found)) }
+    ensures { Reads S.Store tx.old tx.new result (OfLedger
+        (λ t found. IsNext day after.now t.usage found)) }
 {
     let rows = next_rows(tx, day, after)?;
     first_of_day(rows.as_slice(), day)

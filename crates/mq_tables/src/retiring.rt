@@ -1,13 +1,16 @@
-//! What a retire reads of the runs that it gives up: their open transactions, and the places of their answers.
+//! What a retire reads of the runs that it gives up: their open transactions, and the places of
+//! their answers.
 
 ghost use Rattle.std.specs.List.Sorted.{IsPermutation};
 ghost use Rattle.std.specs.Prelude.{◌≡◌, ◌<◌, ◌^◌, map, filter, All, IfOk};
 ghost use Rattle.sqlite.specs.Values.{bound};
 ghost use Rattle.mq_rows.specs.Plan.{is_among, is_open_in};
 ghost use Rattle.mq_rows.specs.Storable.{IsStorable};
-ghost use Rattle.mq_tables.specs.Inside.{IsInside, ChangesNothing, Finds, Reads, Leads, StaysInside, OfLedger};
+ghost use Rattle.mq_tables.specs.Inside.{IsInside, ChangesNothing, Finds, Reads, Leads};
+ghost use Rattle.mq_tables.specs.Inside.{StaysInside, OfLedger};
 ghost use Rattle.mq_tables.specs.Inside.{LeavesCommit};
-ghost use Rattle.mq_tables.specs.Retiring.{open_params, open_row, open_columns, IsOpenRead, IsOpenOf};
+ghost use Rattle.mq_tables.specs.Retiring.{open_params, open_row, open_columns, IsOpenRead};
+ghost use Rattle.mq_tables.specs.Retiring.{IsOpenOf};
 ghost use Rattle.mq_tables.specs.Retiring.{runs_params, place_row, clear_params, ClearsAt};
 
 use crate::setting::natural_at;
@@ -105,7 +108,8 @@ fn runs_params(runs: &Runs) -> [ValueRef<'_>; 3]
 pub fn answer_places<S: Alter>(tx: &mut Transaction<'_, S>, runs: &Runs) -> Result<Vec<Row>, Error>
     requires in_range { (runs.now.from < 2 ^ 63) × (runs.now.to < 2 ^ 63) }
     ensures { Reads S.Store tx.old tx.new result (OfLedger (λ t rows.
-        IsPermutation (map place_row (filter (λ a. is_among runs.now a.id.host a.id.run) t.answers)) rows.items)) }
+        IsPermutation (map place_row (filter (λ a. is_among runs.now a.id.host a.id.run) t.answers))
+        rows.items)) }
 {
     tx.query_all(
         "SELECT n FROM answer WHERE host = ?1 AND run >= ?2 AND run <= ?3",

@@ -25,13 +25,15 @@ pub fn read_rule<S: Alter>(connection: &mut Connection<S>) -> Result<Row, Error>
         → IsRuleRead (state S.Store connection.old) (state S.Store connection.new) result }
     ensures spares { HasCleanDisk (state S.Store connection.new)
         → Spares (state S.Store connection.old) (state S.Store connection.new) }
-    ensures clean { HasCleanDisk (state S.Store connection.new) → HasCleanDisk (state S.Store connection.old) }
+    ensures clean { HasCleanDisk (state S.Store connection.new)
+        → HasCleanDisk (state S.Store connection.old) }
 
     // Where our table is there, at any place.
     ensures row { HasCleanDisk (state S.Store connection.new) → (rule : Option (List ℕ))
         → HasRule (state S.Store connection.old).now rule → IsRuleOf rule result }
 {
     connection.set_step_limit(None);
+    // (its clause says that outside a transaction the tables are those of the last commit)
     let _settled = connection.is_autocommit();
     connection.query_row("SELECT bytes FROM rule WHERE id = 1", &[])
 }

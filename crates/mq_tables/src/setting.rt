@@ -7,18 +7,20 @@ ghost use Rattle.sqlite.specs.State.{HasCleanDisk};
 ghost use Rattle.sqlite.specs.Values.{bound};
 ghost use Rattle.sqlite.specs.declared.types.Value.TheVariants.{Int};
 ghost use Rattle.sqlite_value.specs.Value.{owned};
-ghost use Rattle.mq_tables.specs.Inside.{IsInside, ChangesNothing, Finds, Reads, Leads, StaysInside, OfLedger};
+ghost use Rattle.mq_tables.specs.Inside.{IsInside, ChangesNothing, Finds, Reads, Leads};
+ghost use Rattle.mq_tables.specs.Inside.{StaysInside, OfLedger};
 ghost use Rattle.mq_tables.specs.Inside.{LeavesCommit};
 ghost use Rattle.mq_tables.specs.Lent.{IsNaturalAt, IsFirstNatural};
 ghost use Rattle.mq_tables.specs.Reading.{IsRead, Spares};
-ghost use Rattle.mq_tables.specs.Settings.{SettingRow, HasSetting, IsOf, setting_of};
+ghost use Rattle.mq_tables.specs.Settings.{SettingRow, HasSetting, IsOf, reading, setting_of};
 ghost use Rattle.mq_tables.specs.Updates.{CountsArrivals};
 
 use mq_ledger::Zone;
 use sqlite::types::ValueRef;
 use sqlite::{Alter, Connection, Error, Row, Transaction};
 
-/// What a ledger is made with: the zone that its days go by, and the limit of a login that has none.
+/// What a ledger is made with: the zone that its days go by, and the limit of a login that has
+/// none.
 #[derive(Clone, Copy, Debug)]
 pub struct NewSetting {
     pub zone: Zone,
@@ -60,6 +62,16 @@ fn setting_of(row: &Row) -> Option<Setting>
     }
 }
 
+/// What is read where the store answers so.
+fn reading(answer: Result<Row, Error>) -> Result<Option<Setting>, Error>
+    ensures { result ≡ reading answer }
+{
+    match answer {
+        Ok(row) => Ok(setting_of(&row)),
+        Err(error) => Err(error),
+    }
+}
+
 /// Reads the row; `None` where what stands in its place isn't three whole numbers.
 ///
 /// It lifts the limit on steps, and writes nothing. An error is the store's: `QueryReturnedNoRows`
@@ -72,7 +84,8 @@ pub fn read_setting<S: Alter>(connection: &mut Connection<S>) -> Result<Option<S
     // Whatever the store holds.
     ensures read { HasCleanDisk (state S.Store connection.new)
         → IsRead (state S.Store connection.old) (state S.Store connection.new) result }
-    ensures clean { HasCleanDisk (state S.Store connection.new) → HasCleanDisk (state S.Store connection.old) }
+    ensures clean { HasCleanDisk (state S.Store connection.new)
+        → HasCleanDisk (state S.Store connection.old) }
     ensures spares { HasCleanDisk (state S.Store connection.new)
         → Spares (state S.Store connection.old) (state S.Store connection.new) }
     ensures open { HasCleanDisk (state S.Store connection.new)
@@ -83,14 +96,13 @@ pub fn read_setting<S: Alter>(connection: &mut Connection<S>) -> Result<Option<S
         → HasSetting (state S.Store connection.old).now s → IsOf s result }
 {
     connection.set_step_limit(None);
+    // (its clause says that outside a transaction the tables are those of the last commit)
     let _settled = connection.is_autocommit();
-    match connection.query_row(
+    let answer = connection.query_row(
         "SELECT version, minutes, cap FROM setting WHERE id = 1",
         &[],
-    ) {
-        Ok(row) => Ok(setting_of(&row)),
-        Err(error) => Err(error),
-    }
+    );
+    reading(answer)
 }
 
 /// A whole number of the row from 0 on, which is below 2 to the 63rd.
@@ -119,11 +131,12 @@ fn first_natural(rows: &[Row]) -> Result<u64, Error>
 
 /// Reads the count of arrivals, which is below 2 to the 63rd.
 ///
-/// An error is the store's: `QueryReturnedNoRows` where the row is absent, `InvalidColumnType` where no
-/// whole number stands there, and `IntegralValueOutOfRange` where it is below 0.
+/// An error is the store's: `QueryReturnedNoRows` where the row is absent, `InvalidColumnType`
+/// where no whole number stands there, and `IntegralValueOutOfRange` where it is below 0.
 pub fn read_arrivals<S: Alter>(tx: &mut Transaction<'_, S>) -> Result<u64, Error>
     ensures same { ChangesNothing S.Store tx.old tx.new result }
-    ensures found { Finds S.Store tx.old tx.new result (OfLedger (λ t arrivals. arrivals ≡ t.setting.arrivals)) }
+    ensures found { Finds S.Store tx.old tx.new result (OfLedger
+        (λ t arrivals. arrivals ≡ t.setting.arrivals)) }
     ensures in_range { IfOk result (λ arrivals. arrivals < 2 ^ 63) }
     ensures leaves { LeavesCommit S.Store tx.old tx.new }
 {

@@ -6,9 +6,11 @@ ghost use Rattle.sqlite.specs.Values.{bound};
 ghost use Rattle.mq_rows.specs.Rows.{is_transaction};
 ghost use Rattle.mq_rows.specs.Storable.{IsStorable, AreStorableIf, AreStorable};
 ghost use Rattle.mq_rows.specs.declared.plan.Write.TheVariants.{Insert, Update};
-ghost use Rattle.mq_tables.specs.Inside.{IsInside, ChangesNothing, Finds, Reads, Leads, StaysInside, Writes};
+ghost use Rattle.mq_tables.specs.Inside.{IsInside, ChangesNothing, Finds, Reads, Leads};
+ghost use Rattle.mq_tables.specs.Inside.{StaysInside, Writes};
 ghost use Rattle.mq_tables.specs.Inside.{OfLedger, LeavesCommit};
-ghost use Rattle.mq_tables.specs.Lent.{standing_params, standing_row, transaction_key, IsFirstTransaction};
+ghost use Rattle.mq_tables.specs.Lent.{standing_params, standing_row, transaction_key};
+ghost use Rattle.mq_tables.specs.Lent.{IsFirstTransaction};
 ghost use Rattle.mq_tables.specs.Records.{IsOneOf, transaction_fields};
 ghost use Rattle.mq_tables.specs.Updates.{WritesTransaction};
 
@@ -38,7 +40,8 @@ fn transaction_rows<S: Alter>(
     requires { run < 2 ^ 63 }
     ensures { Reads S.Store tx.old tx.new result (OfLedger (λ t rows.
         IsPermutation (map standing_row
-        (filter (is_transaction (record { host = host.now; run = run; txn = txn })) t.transactions)) rows.items)) }
+        (filter (is_transaction (record { host = host.now; run = run; txn = txn })) t.transactions))
+        rows.items)) }
 {
     tx.query_all(
         "SELECT login, moment, day, held, settled, closed FROM trans WHERE host = ?1 AND run = ?2 AND txn = ?3",
@@ -73,8 +76,8 @@ fn first_transaction(
     }))
 }
 
-/// The row of a transaction, where there is one. Its run is below 2 to the 63rd, and so is the moment
-/// of a row that is found.
+/// The row of a transaction, where there is one. Its run is below 2 to the 63rd, and so is the
+/// moment of a row that is found.
 pub fn find_transaction<S: Alter>(
     tx: &mut Transaction<'_, S>,
     host: &Host,
@@ -84,7 +87,8 @@ pub fn find_transaction<S: Alter>(
     requires { run < 2 ^ 63 }
     ensures same { ChangesNothing S.Store tx.old tx.new result }
     ensures found { Finds S.Store tx.old tx.new result (OfLedger (λ t found.
-        IsOneOf (is_transaction (record { host = host.now; run = run; txn = txn })) t.transactions found)) }
+        IsOneOf (is_transaction (record { host = host.now; run = run; txn = txn })) t.transactions
+        found)) }
     ensures storable { IfOk result AreStorableIf }
     ensures leaves { LeavesCommit S.Store tx.old tx.new }
 {

@@ -5,8 +5,10 @@ ghost use Rattle.sqlite.specs.State.{HasCleanDisk};
 ghost use Rattle.sqlite.specs.Held.{state};
 ghost use Rattle.sqlite.specs.Tree.{Trees};
 ghost use Rattle.sqlite.specs.Values.{bound};
-ghost use Rattle.mq_tables.specs.Inside.{IsInside, Leads, Turns, StaysInside, Writes, LeavesCommit, Lasts};
-ghost use Rattle.mq_tables.specs.Migrating.{version_params, AddsRule, SetsVersion, IsMigratedBy, IsMigrated, AreMigrated};
+ghost use Rattle.mq_tables.specs.Inside.{IsInside, Leads, Turns, StaysInside, Writes, LeavesCommit};
+ghost use Rattle.mq_tables.specs.Inside.{Lasts};
+ghost use Rattle.mq_tables.specs.Migrating.{version_params, AddsRule, SetsVersion, IsMigratedBy};
+ghost use Rattle.mq_tables.specs.Migrating.{IsMigrated, AreMigrated};
 
 use crate::create::{create_retired, create_rule};
 use crate::index::add_index;
@@ -46,6 +48,7 @@ fn add_rule<S: Alter>(tx: &mut Transaction<'_, S>, has_rule_table: bool) -> Resu
 }
 
 /// All three in turn.
+#[tactic(auto, using(crate::proofs::Chain::calls))]
 fn migrate_tables<S: Alter>(
     tx: &mut Transaction<'_, S>,
     has_rule_table: bool,
@@ -62,6 +65,7 @@ fn migrate_tables<S: Alter>(
 }
 
 /// The tables, and then the index where it is wanted.
+#[tactic(auto, using(crate::proofs::Chain::calls))]
 fn migrate_all<S: Alter>(
     tx: &mut Transaction<'_, S>,
     has_rule_table: bool,
@@ -77,8 +81,9 @@ fn migrate_all<S: Alter>(
     add_index(tx, indexed)
 }
 
-/// Makes a ledger of an older version one of the current version, in one transaction, or leaves all as it was.
-/// `has_rule_table` says whether the table of the rule is there. It gets the index too, where nothing has its name.
+/// Makes a ledger of an older version one of the current version, in one transaction, or leaves all
+/// as it was. `has_rule_table` says whether the table of the rule is there. It gets the index too,
+/// where nothing has its name.
 ///
 /// An error is the store's.
 pub fn migrate<S: Alter>(conn: &mut Connection<S>, has_rule_table: bool) -> Result<(), Error>
@@ -88,18 +93,22 @@ pub fn migrate<S: Alter>(conn: &mut Connection<S>, has_rule_table: bool) -> Resu
     ensures lasts { Lasts (state S.Store conn.old) (state S.Store conn.new) }
     ensures migrated { HasCleanDisk (state S.Store conn.new) → OnOk result
         (IsMigrated has_rule_table (state S.Store conn.old).now (state S.Store conn.new).now) }
-    ensures open { HasCleanDisk (state S.Store conn.new) → OnOk result (IsTrue (state S.Store conn.new).is_open) }
+    ensures open { HasCleanDisk (state S.Store conn.new)
+        → OnOk result (IsTrue (state S.Store conn.new).is_open) }
     ensures err { HasCleanDisk (state S.Store conn.new) → IsTrue (state S.Store conn.new).is_open
         → OnErr result ((state S.Store conn.new).now ≡ (state S.Store conn.old).now) }
 
-    // What an open after a crash may find: the new version, or after an error the old one or the new one.
+    // What an open after a crash may find: the new version, or after an error the old one or the
+    // new one.
     ensures crash_ok { HasCleanDisk (state S.Store conn.new) → OnOk result ((db : Trees)
         → (state S.Store conn.new).may_leave db → db ≡ (state S.Store conn.new).now.trees) }
     ensures crash_err { HasCleanDisk (state S.Store conn.new) → OnErr result ((db : Trees)
         → (state S.Store conn.new).may_leave db
         → (state S.Store conn.old).may_leave db
-        ⊎ (IsTrue (state S.Store conn.old).is_open × AreMigrated has_rule_table (state S.Store conn.old).now db)) }
+        ⊎ (IsTrue (state S.Store conn.old).is_open × AreMigrated has_rule_table
+        (state S.Store conn.old).now db)) }
 {
+    // (its clause says that outside a transaction the tables are those of the last commit)
     let _settled = conn.is_autocommit();
     let indexed = lacks_index(conn.schema());
     let mut tx = conn.transaction();

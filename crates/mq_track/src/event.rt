@@ -115,7 +115,8 @@ fn end_event<'a>(
     end: CloseEnd,
 ) -> Result<Event<'a>, TrackFault>
     ensures { MatchResult result
-        (λ e. (m : List ℕ) × (message params.now ≡ Some m) × (told e ≡ end_event session.now end (Some m)))
+        (λ e. (m : List ℕ) × (message params.now ≡ Some m)
+        × (told e ≡ end_event session.now end (Some m)))
         (λ f. (message params.now ≡ None) × (f ≡ TrackFault.Message)) }
 {
     match message_of(params) {

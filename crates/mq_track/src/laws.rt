@@ -1,7 +1,9 @@
 //! What holds of sessions and transactions after any accepted lines. Each function states a law in
 //! its contract and does nothing.
-ghost use Rattle.mq_track.specs.Laws.{LoginsAreApart, TransactionsAreApart, AreNumbered, HaveOneSession};
-ghost use Rattle.mq_track.specs.Laws.{StayClosed, NoneVanishes, NoneStandsClosed, AreClosedOnce, ClosedBegan};
+ghost use Rattle.mq_track.specs.Laws.{LoginsAreApart, TransactionsAreApart, AreNumbered};
+ghost use Rattle.mq_track.specs.Laws.{HaveOneSession};
+ghost use Rattle.mq_track.specs.Laws.{StayClosed, NoneVanishes, NoneStandsClosed, AreClosedOnce};
+ghost use Rattle.mq_track.specs.Laws.{ClosedBegan};
 
 /// Two sessions never disturb each other: a line that isn't of a session changes neither its login
 /// nor its open transaction.
@@ -27,8 +29,9 @@ pub fn none_vanishes()
     ensures { NoneVanishes }
 {}
 
-/// A closing is the last of its transaction: no session stands in one that was closed, so that nothing
-/// is asked for it again, and none is closed twice. What is closed has the number of a tx-begin.
+/// A closing is the last of its transaction: no session stands in one that was closed, so that
+/// nothing is asked for it again, and none is closed twice. What is closed has the number of a
+/// tx-begin.
 pub fn closings_are_last()
     ensures standing { NoneStandsClosed }
     ensures once { AreClosedOnce }

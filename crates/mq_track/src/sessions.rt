@@ -1,5 +1,6 @@
 //! The map of sessions: of each its login, its open transaction, or both.
-ghost use Rattle.std.specs.Prelude.{◌≡◌, [], ℕ, Some, None, OnOk, OnErr, is_some, IsTrue, ◌||◌, ◌<◌};
+ghost use Rattle.std.specs.Prelude.{◌≡◌, [], ℕ, Some, None, OnOk, OnErr, is_some, IsTrue, ◌||◌};
+ghost use Rattle.std.specs.Prelude.{◌<◌};
 ghost use Rattle.std.specs.Option.{option_copied};
 
 use std::alloc::{AllocError, Global};
@@ -65,7 +66,8 @@ impl Sessions {
 
     /// The open transaction of a session.
     pub(crate) fn transaction(&self, session: &[u8]) -> Option<&Transaction>
-        ensures { (known self.now session.now).transaction ≡ option_map kept (option_copied result) }
+        ensures { (known self.now session.now).transaction
+            ≡ option_map kept (option_copied result) }
     {
         match self.get(session) {
             Some(record) => record.transaction.as_ref(),
@@ -76,7 +78,11 @@ impl Sessions {
     /// Notes a login. An `Err` changes nothing.
     pub(crate) fn log_in(&mut self, session: &[u8], login: &[u8]) -> Result<(), AllocError>
         ensures ok { OnOk result (Learns self.old self.new session.now
-            (record { login = Some login.now; transaction = (known self.old session.now).transaction })) }
+            (record {
+              login = Some login.now;
+              transaction =
+                  (known self.old session.now).transaction;
+            })) }
         ensures err { OnErr result (self.new ≡ self.old) }
     {
         let login = Some(Vec::from_slice(self.alloc, login)?);
@@ -100,7 +106,10 @@ impl Sessions {
         transaction: Transaction,
     ) -> Result<(), AllocError>
         ensures ok { OnOk result (Learns self.old self.new session.now
-            (record { login = (known self.old session.now).login; transaction = Some (kept transaction) })) }
+            (record {
+              login = (known self.old session.now).login;
+              transaction = Some (kept transaction);
+            })) }
         ensures err { OnErr result (self.new ≡ self.old) }
     {
         if let Some(record) = self.records.get_mut(session) {

@@ -59,11 +59,14 @@ impl Tracker {
     pub fn apply(&mut self, line: &Line<'_>) -> Result<Option<Closing>, TrackFault>
         ensures refused { (past : List Meaning) → TracksAt self.old past →
             IfSome (fault past (meaning line.now)) (λ f. result ≡ Err f) }
-        ensures accepted { (past : List Meaning) → TracksAt self.old past → fault past (meaning line.now) ≡ None →
-            MatchResult result (λ c. c ≡ closing past (meaning line.now)) (λ f. f ≡ TrackFault.Memory) }
+        ensures accepted { (past : List Meaning) → TracksAt self.old past
+            → fault past (meaning line.now) ≡ None →
+            MatchResult result (λ c. c ≡ closing past (meaning line.now))
+            (λ f. f ≡ TrackFault.Memory) }
         ensures stands { OnOk result ((past : List Meaning) →
             TracksAt self.old past → TracksAt self.new (meaning line.now ∷ past)) }
-        ensures memory { result ≡ Err TrackFault.Memory → IsTrue (needs_memory (event (meaning line.now))) }
+        ensures memory { result ≡ Err TrackFault.Memory
+            → IsTrue (needs_memory (event (meaning line.now))) }
         ensures unchanged { OnErr result (self.new ≡ self.old) }
     {
         let event = event_of(line)?;
@@ -73,7 +76,8 @@ impl Tracker {
     /// How a session stands after the accepted lines. Names of sessions compare byte for byte.
     pub fn standing(&self, session: &[u8]) -> Standing<'_>
         ensures numbered { IsNumbered result }
-        ensures position { (past : List Meaning) → TracksAt self.now past → shown result ≡ position past session.now }
+        ensures position { (past : List Meaning) → TracksAt self.now past
+            → shown result ≡ position past session.now }
     {
         let Some(record) = self.sessions.get(session) else {
             return Standing::Anonymous;
@@ -97,7 +101,8 @@ impl Tracker {
         ensures ok { MatchBool (is_exhausted self.old.begins (told event.entry))
             (result ≡ Err TrackFault.Exhausted)
             (MatchResult result
-            (λ c. (c ≡ brought self.old (told event.entry)) × Steps self.old self.new (told event.entry))
+            (λ c. (c ≡ brought self.old (told event.entry))
+            × Steps self.old self.new (told event.entry))
             (λ f. (f ≡ TrackFault.Memory) × IsTrue (needs_memory (told event.entry)))) }
         ensures err { OnErr result (self.new ≡ self.old) }
     {
@@ -149,7 +154,8 @@ impl Tracker {
         if self.begins == u32::MAX {
             return Err(TrackFault::Exhausted);
         }
-        // What it ends is found before anything changes, and so is the memory: an `Err` leaves all as it was.
+        // What it ends is found before anything changes, and so is the memory: an `Err` leaves all
+        // as it was.
         let closing = self.closing(session, None, CloseEnd::Rollback);
         let transaction = Transaction {
             txn: self.begins + 1,
@@ -163,8 +169,10 @@ impl Tracker {
 
     /// A transaction ends by its message id, or whatever its id is.
     fn end(&mut self, session: &[u8], message: Option<&[u8]>, end: CloseEnd) -> Option<Closing>
-        ensures closing { result ≡ brought self.old (Ended session.now (option_copied message.entry) end) }
-        ensures after { Steps self.old self.new (Ended session.now (option_copied message.entry) end) }
+        ensures closing { result ≡ brought self.old (Ended session.now
+            (option_copied message.entry) end) }
+        ensures after { Steps self.old self.new (Ended session.now
+            (option_copied message.entry) end) }
     {
         let closing = self.closing(session, message, end);
         if closing.is_some() {

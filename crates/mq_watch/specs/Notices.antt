@@ -8,12 +8,12 @@ use Rattle.mq_request.specs.declared.message.Reply.TheVariants as reply
 use Rattle.mq_ledger.specs.declared.ledger.LedgerFault.{LedgerFault}
 use Rattle.mq_watch.specs.declared.notice.Notice.{Notice}
 use Rattle.mq_watch.specs.declared.notice.Notice.TheVariants.{Limit, Retire, Ahead, FailedQuestion}
-use Rattle.mq_watch.specs.declared.notice.Seen.{Seen}
-use Rattle.mq_watch.specs.declared.notice.Verdict.{Verdict}
-use Rattle.mq_watch.specs.declared.notice.Verdict.TheVariants as verdicts
+use Rattle.mq_watch.specs.declared.notice.RequestNotices.{RequestNotices}
+use Rattle.mq_watch.specs.declared.notice.OrderVerdict.{OrderVerdict}
+use Rattle.mq_watch.specs.declared.notice.OrderVerdict.TheVariants as verdicts
 
 -- what an answer says of a limit or a retire
-abbrev pub verdict : Result Reply LedgerFault → Verdict
+abbrev pub verdict : Result Reply LedgerFault → OrderVerdict
 verdict (Ok (reply.LimitSet id)) = verdicts.Set
 verdict (Ok (reply.Retired id)) = verdicts.Retired
 verdict (Ok (reply.Over id day used)) = verdicts.Over day used
@@ -32,9 +32,9 @@ level_of FailedQuestion = Error
 level_of _ = Warn
 
 -- nothing is to be logged
-abbrev pub nothing : SocketAddr → Seen
+abbrev pub nothing : SocketAddr → RequestNotices
 nothing peer = record { peer = peer; day = None; address = None; refusal = None; question = None; main = None }
 
 -- the lines of a request, one after the other
-abbrev pub in_order : Seen → List (Option Notice)
+abbrev pub in_order : RequestNotices → List (Option Notice)
 in_order seen = seen.day ∷ seen.address ∷ seen.refusal ∷ seen.question ∷ seen.main ∷ []

@@ -10,7 +10,7 @@ use Rattle.mq_request.specs.declared.message.Reply.TheVariants as reply
 use Rattle.mq_request.specs.declared.message.Request.{Request}
 use Rattle.mq_request.specs.declared.message.Request.TheVariants as request
 use Rattle.mq_ledger.specs.declared.ledger.LedgerFault.{LedgerFault}
-use Rattle.mq_ledger.specs.declared.ledger.Told.{Told}
+use Rattle.mq_ledger.specs.declared.ledger.ReportedCall.{ReportedCall}
 use Rattle.mq_ledger.specs.Day.{day_of}
 use Rattle.mq_ledger.specs.History.{used}
 use Rattle.mq_ledger.specs.Legal.{Book}
@@ -29,9 +29,9 @@ use Rattle.mq_watch.specs.declared.nearing.Usage.{Usage}
 use Rattle.mq_watch.specs.declared.notes.Notes.{Notes}
 use Rattle.mq_watch.specs.declared.notice.Notice.{Notice}
 use Rattle.mq_watch.specs.declared.notice.Notice.TheVariants.{Limit, Retire, Ahead, FarDay, OtherAddress, OldRun, Refusals, NearLimit, FailedQuestion}
-use Rattle.mq_watch.specs.declared.notice.Seen.{Seen}
-use Rattle.mq_watch.specs.declared.notice.Verdict.{Verdict}
-use Rattle.mq_watch.specs.declared.notice.Verdict.TheVariants.{Set}
+use Rattle.mq_watch.specs.declared.notice.RequestNotices.{RequestNotices}
+use Rattle.mq_watch.specs.declared.notice.OrderVerdict.{OrderVerdict}
+use Rattle.mq_watch.specs.declared.notice.OrderVerdict.TheVariants.{Set}
 use Rattle.mq_watch.specs.declared.refusals.Refusals.{Refusals as Refused}
 
 -- a line of this host is told at a moment, or isn't: none named it in the hour that runs, and fewer than 1,000 hosts were
@@ -100,13 +100,13 @@ SeesRefusal id login answer now old new seen =
 
 -- A reserve came from a peer at a moment of the server's clock, in seconds: what is seen of who asks, and of its refusal.
 pub record SeesAsker (days : ℕ → ℕ) (peer : SocketAddr) (id : Id) (moment : ℕ) (login : List ℕ) (answer : Result Reply LedgerFault)
-    (now : ℕ) (old new : Notes) (seen : Seen) : Type 0 where
+    (now : ℕ) (old new : Notes) (seen : RequestNotices) : Type 0 where
   pub day : SeesDay days id.host moment now old.hosts new.hosts seen.day
   pub address : SeesAddress id.host (socket_ip peer) now old.askers new.askers seen.address
   pub refusal : SeesRefusal id login answer now old new seen.refusal
 
 -- where the clock can't be read, nothing is
-pub record SeesNobody (old new : Notes) (seen : Seen) : Type 0 where
+pub record SeesNobody (old new : Notes) (seen : RequestNotices) : Type 0 where
   pub day : seen.day ≡ None
   pub address : seen.address ≡ None
   pub refusal : seen.refusal ≡ None
@@ -115,7 +115,7 @@ pub record SeesNobody (old new : Notes) (seen : Seen) : Type 0 where
   pub askers : new.askers ≡ old.askers
   pub refusals : new.refusals ≡ old.refusals
 
-abbrev pub SeesReserve : (ℕ → ℕ) → SocketAddr → Id → ℕ → List ℕ → Result Reply LedgerFault → Option ℕ → Notes → Notes → Seen → Type 0
+abbrev pub SeesReserve : (ℕ → ℕ) → SocketAddr → Id → ℕ → List ℕ → Result Reply LedgerFault → Option ℕ → Notes → Notes → RequestNotices → Type 0
 SeesReserve day peer id moment login answer None old new seen = SeesNobody old new seen
 SeesReserve day peer id moment login answer (Some now) old new seen = SeesAsker day peer id moment login answer now old new seen
 
@@ -139,7 +139,7 @@ SeesSaid (Ok None) login day old new seen = (seen ≡ None) × (new ≡ old)
 SeesSaid (Err fault) login day old new seen = (seen ≡ Some FailedQuestion) × (new ≡ old)
 
 -- A login was granted so much on a day: the ledger is asked exactly where the login may near its limit.
-pub record SeesGranted (login : List ℕ) (day used : ℕ) (asked asked' : Option (List Told)) (old new : Nearing) (seen : Option Notice) : Type 0 where
+pub record SeesGranted (login : List ℕ) (day used : ℕ) (asked asked' : Option (List ReportedCall)) (old new : Nearing) (seen : Option Notice) : Type 0 where
   pub closed : (IsOpen (standing old.logins login) day used → ⊥) → (seen ≡ None) × (new ≡ old) × (asked' ≡ asked)
   pub open_ : IsOpen (standing old.logins login) day used → (said : Result (Option Usage) LedgerFault)
       × IsAnswered login day asked asked' said × SeesSaid said login day old new seen
@@ -156,13 +156,13 @@ Lowers (Ok (Some usage)) was lowered question = (lowered ≡ (if nat_le was usag
 Lowers (Ok None) was lowered question = (lowered ≡ Some was) × (question ≡ None)
 Lowers (Err fault) was lowered question = (lowered ≡ Some was) × (question ≡ Some FailedQuestion)
 
-abbrev pub SeesAgain : List ℕ → ℕ → Option (List Told) → Option (List Told) → ℕ → Option ℕ → Option Notice → Type 0
+abbrev pub SeesAgain : List ℕ → ℕ → Option (List ReportedCall) → Option (List ReportedCall) → ℕ → Option ℕ → Option Notice → Type 0
 SeesAgain login day asked asked' was lowered question =
     (said : Result (Option Usage) LedgerFault) × IsAnswered login day asked asked' said × Lowers said was lowered question
 
 -- A limit was set where this cap held before, if that is known: the login is forgotten, and where the cap is lower now a
 -- question says whether the limit changed it.
-pub record SeesSet (before : Option ℕ) (cap : ℕ) (login : List ℕ) (day : ℕ) (asked asked' : Option (List Told)) (old new : Nearing)
+pub record SeesSet (before : Option ℕ) (cap : ℕ) (login : List ℕ) (day : ℕ) (asked asked' : Option (List ReportedCall)) (old new : Nearing)
     (lowered : Option ℕ) (question : Option Notice) : Type 0 where
   pub gone : standing new.logins login ≡ None
   pub others : (l : List ℕ) → l ≢ login → standing new.logins l ≡ standing old.logins l
@@ -170,7 +170,7 @@ pub record SeesSet (before : Option ℕ) (cap : ℕ) (login : List ℕ) (day : �
   pub below : (was : ℕ) → before ≡ Some was → cap < was → SeesAgain login day asked asked' was lowered question
 
 -- a limit was answered so, and before it a question for the cap
-abbrev pub SeesLowering : Result (Option ℕ) LedgerFault → Verdict → ℕ → List ℕ → ℕ → Option (List Told) → Option (List Told)
+abbrev pub SeesLowering : Result (Option ℕ) LedgerFault → OrderVerdict → ℕ → List ℕ → ℕ → Option (List ReportedCall) → Option (List ReportedCall)
     → Nearing → Nearing → Option ℕ → Option Notice → Type 0
 SeesLowering (Err fault) v cap login day asked asked' old new lowered question =
     (lowered ≡ None) × (question ≡ Some FailedQuestion) × (new ≡ old) × (asked' ≡ asked)
@@ -180,19 +180,19 @@ SeesLowering (Ok before) _ cap login day asked asked' old new lowered question =
     (lowered ≡ None) × (question ≡ None) × (new ≡ old) × (asked' ≡ asked)
 
 -- the line of a limit
-abbrev pub IsLimit : List ℕ → ℕ → ℕ → Option ℕ → Verdict → Option Notice → Type 0
+abbrev pub IsLimit : List ℕ → ℕ → ℕ → Option ℕ → OrderVerdict → Option Notice → Type 0
 IsLimit login day cap lowered v (Some (Limit l d c w u)) = (l.now ≡ login) × (d ≡ day) × (c ≡ cap) × (w ≡ lowered) × (u ≡ v)
 IsLimit login day cap lowered v _ = ⊥
 
-pub record SeesLimit (peer : SocketAddr) (login : List ℕ) (day cap : ℕ) (before : Result (Option ℕ) LedgerFault) (v : Verdict)
-    (asked asked' : Option (List Told)) (old new : Nearing) (seen : Seen) : Type 0 where
+pub record SeesLimit (peer : SocketAddr) (login : List ℕ) (day cap : ℕ) (before : Result (Option ℕ) LedgerFault) (v : OrderVerdict)
+    (asked asked' : Option (List ReportedCall)) (old new : Nearing) (seen : RequestNotices) : Type 0 where
   pub lowered : Option ℕ
   pub lowering : SeesLowering before v cap login day asked asked' old new lowered seen.question
   pub limit : IsLimit login day cap lowered v seen.main
   pub alone : seen ≡ record (nothing peer) { question = seen.question; main = seen.main }
 
 -- the line of a retire
-abbrev pub IsRetire : Id → Verdict → Option Notice → Type 0
+abbrev pub IsRetire : Id → OrderVerdict → Option Notice → Type 0
 IsRetire id v (Some (Retire i u)) = (i.now ≡ id) × (u ≡ v)
 IsRetire id v _ = ⊥
 
@@ -201,18 +201,18 @@ abbrev pub IsAheadLine : Request → Option ℕ → Option Notice → Type 0
 IsAheadLine (request.Retire id) (Some now) (Some (Ahead i n)) = (i.now ≡ id) × (n ≡ now)
 IsAheadLine _ _ _ = ⊥
 
-abbrev pub SeesAhead : SocketAddr → Request → Option ℕ → Seen → Type 0
+abbrev pub SeesAhead : SocketAddr → Request → Option ℕ → RequestNotices → Type 0
 SeesAhead peer r now seen = (seen ≡ record (nothing peer) { main = seen.main }) × IsAheadLine r now seen.main
 
 -- A granted reserve may near the limit; no other reserve asks the ledger.
-abbrev pub SeesGrant : Result Reply LedgerFault → List ℕ → ℕ → Option (List Told) → Option (List Told) → Nearing → Nearing → Option Notice → Type 0
+abbrev pub SeesGrant : Result Reply LedgerFault → List ℕ → ℕ → Option (List ReportedCall) → Option (List ReportedCall) → Nearing → Nearing → Option Notice → Type 0
 SeesGrant (Ok (reply.Granted i used)) login day asked asked' old new seen = SeesGranted login day used asked asked' old new seen
 SeesGrant _ login day asked asked' old new seen = (seen ≡ None) × (new ≡ old) × (asked' ≡ asked)
 
 -- What is seen of a request of this peer, answered so, at this time of the server's clock in milliseconds; a limit came where a
 -- question had said this cap before. The calls of the ledger and what was noted go from the first to the second.
 abbrev pub Sees : (ℕ → ℕ) → SocketAddr → Result (Option ℕ) LedgerFault → Result Reply LedgerFault → Option ℕ
-    → Option (List Told) → Option (List Told) → Notes → Notes → Seen → Request → Type 0
+    → Option (List ReportedCall) → Option (List ReportedCall) → Notes → Notes → RequestNotices → Request → Type 0
 Sees day peer before answer now asked asked' old new seen (request.Limit id from_day cap login) =
     SeesLimit peer login from_day cap before (verdict answer) asked asked' old.nearing new.nearing seen
     × (new ≡ record old { nearing = new.nearing })
@@ -230,8 +230,8 @@ Sees day peer before answer now asked asked' old new seen (request.Retire id) =
 Sees day peer before answer now asked asked' old new seen _ = (seen ≡ nothing peer) × (new ≡ old) × (asked' ≡ asked)
 
 -- the same of a request that is put to a ledger, after the question for a limit
-abbrev pub SeesPut : (ℕ → ℕ) → SocketAddr → Result Reply LedgerFault → Option ℕ → Option (List Told) → Notes → Notes → Seen → Request → Type 0
-SeesPut day peer answer now asked' old new seen r = (before : Result (Option ℕ) LedgerFault) × (asked : Option (List Told))
+abbrev pub SeesPut : (ℕ → ℕ) → SocketAddr → Result Reply LedgerFault → Option ℕ → Option (List ReportedCall) → Notes → Notes → RequestNotices → Request → Type 0
+SeesPut day peer answer now asked' old new seen r = (before : Result (Option ℕ) LedgerFault) × (asked : Option (List ReportedCall))
     × Sees day peer before answer now asked asked' old new seen r
 
 -- the cap from which a limit was lowered is the one that a question before it said

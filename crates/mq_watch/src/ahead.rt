@@ -7,8 +7,8 @@ use mq_request::Request;
 /// How far a retire may be ahead of the server's clock: an hour, in milliseconds.
 const LEAD: u64 = 3_600_000;
 
-/// Whether it is a retire whose run is more than an hour later than the clock; both are milliseconds since 1970. Where the
-/// clock can't be read, none is.
+/// Whether it is a retire whose run is more than an hour later than the clock; both are
+/// milliseconds since 1970. Where the clock can't be read, none is.
 pub fn is_ahead(request: &Request, now: Option<u64>) -> bool
     ensures { IsTrue result ↔ IsAhead request.now now }
 {

@@ -37,8 +37,9 @@ impl Askers {
         }
     }
 
-    /// Notes that a host asks from an address at this moment, in seconds. Where it asked from another one before in the hour
-    /// that runs, and that wasn't given yet in this hour: that other one.
+    /// Notes that a host asks from an address at this moment, in seconds. Where it asked from
+    /// another one before in the hour that runs, and that wasn't given yet in this hour: that other
+    /// one.
     pub fn other(&mut self, host: &Host, address: IpAddr, now: u64) -> Option<IpAddr>
         ensures asks { (before : Option AnyAsker) →
             IsKnownAt self.old.hosts.since self.old.hosts.names now host.now before →

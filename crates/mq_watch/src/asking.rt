@@ -1,5 +1,6 @@
 //! What a ledger is asked for the log.
-ghost use Rattle.std.specs.Prelude.{◌≡◌, [], ◌∷◌, Err, None, Some, IfOk, IfErr, IfNone, IfSome, OnErr};
+ghost use Rattle.std.specs.Prelude.{◌≡◌, [], ◌∷◌, Err, None, Some, IfOk, IfErr, IfNone, IfSome};
+ghost use Rattle.std.specs.Prelude.{OnErr};
 ghost use Rattle.mq_request.specs.Range.{IsAmount, IsDay, IsLogin, IsReply};
 ghost use Rattle.mq_ledger.specs.Day.{day_of};
 ghost use Rattle.mq_ledger.specs.History.{used};
@@ -12,8 +13,9 @@ use mq_ledger::laws::one_more_arrival;
 use mq_ledger::{Ledger, LedgerFault};
 use mq_request::{Login, Reply, Request};
 
-/// Asks a ledger what a login has used on a day, and its limit. There is no answer where memory runs out; the fault is that
-/// of a store that failed. The login has 1 to 255 bytes, and `day` is a day number, 0 to 376,200.
+/// Asks a ledger what a login has used on a day, and its limit. There is no answer where memory
+/// runs out; the fault is that of a store that failed. The login has 1 to 255 bytes, and `day` is a
+/// day number, 0 to 376,200.
 pub fn ask_usage<L: Ledger>(
     ledger: &mut L,
     login: &Login,
@@ -30,8 +32,10 @@ pub fn ask_usage<L: Ledger>(
     ensures fault { IfErr result (λ fault. fault ≡ LedgerFault.Store) }
     ensures store { OnErr result (L.has_store ledger.old) }
     ensures failed { OnErr result
-        (Tells (L.told ledger.old) (L.told ledger.new) (question login.now day (Err LedgerFault.Store) ∷ [])) }
-    ensures none { L.has_kept ledger.new → L.is_sound ledger.old → IfOk result (λ found. IfNone found
+        (Tells (L.told ledger.old) (L.told ledger.new) (question login.now day
+        (Err LedgerFault.Store) ∷ [])) }
+    ensures none { L.has_kept ledger.new → L.is_sound ledger.old
+        → IfOk result (λ found. IfNone found
         (LacksMemory login.now day (L.told ledger.old) (L.told ledger.new))) }
     ensures answered { IsAnswered login.now day (L.told ledger.old) (L.told ledger.new) result }
 {

@@ -10,14 +10,16 @@ use mq_request::bounds::{FIRST_MOMENT, LAST_MOMENT};
 use std::rt::Clock;
 use std::time::{SystemTime, UNIX_EPOCH};
 
-/// The milliseconds since 1970-01-01T00:00:00Z, where the clock can be read and shows no time before.
+/// The milliseconds since 1970-01-01T00:00:00Z, where the clock can be read and shows no time
+/// before.
 pub fn millis_of(clock: &impl Clock) -> Option<u64> {
     millis_at(SystemTime::now(clock).ok()?)
 }
 
 /// The whole milliseconds from 1970-01-01T00:00:00Z to this time.
 fn millis_at(now: SystemTime) -> Option<u64>
-    ensures { SomeIff result (system_time_nanos now / 1_000_000 < 2 ^ 64) (system_time_nanos now / 1_000_000) }
+    ensures { SomeIff result (system_time_nanos now / 1_000_000 < 2 ^ 64)
+        (system_time_nanos now / 1_000_000) }
 {
     let time = now.duration_since(UNIX_EPOCH).ok()?;
     u64::try_from(time.as_millis()).ok()

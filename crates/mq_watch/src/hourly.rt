@@ -66,15 +66,18 @@ impl<T: Copy + Drop> Hourly<T> {
         }
     }
 
-    /// Notes something of a name, and says whether it is known then: it isn't where there is no memory, or where so many
-    /// others are known.
+    /// Notes something of a name, and says whether it is known then: it isn't where there is no
+    /// memory, or where so many others are known.
     pub fn put(&mut self, name: &[u8], value: T) -> bool
         ensures most { self.new.most ≡ self.old.most }
         ensures since { self.new.since ≡ self.old.since }
         ensures kept { IsTrue result → known self.new.names name.now ≡ Some value }
-        ensures lost { result ≡ false → (l : List ℕ) → known self.new.names l ≡ known self.old.names l }
-        ensures others { (l : List ℕ) → l ≢ name.now → known self.new.names l ≡ known self.old.names l }
-        ensures few { btree_map_len self.old.names ≤ self.old.most → btree_map_len self.new.names ≤ self.old.most }
+        ensures lost { result ≡ false → (l : List ℕ) → known self.new.names l
+            ≡ known self.old.names l }
+        ensures others { (l : List ℕ) → l ≢ name.now → known self.new.names l
+            ≡ known self.old.names l }
+        ensures few { btree_map_len self.old.names ≤ self.old.most
+            → btree_map_len self.new.names ≤ self.old.most }
     {
         if self.is_full(name) {
             return false;

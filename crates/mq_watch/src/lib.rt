@@ -1,16 +1,18 @@
 //! What an administrator has to see of the requests that come to a ledger.
 //!
-//! A [`Watched`] ledger is another one that logs: each limit and each retire, with what it was answered; a mail host whose
-//! clock isn't today's, that asks from two addresses or under a retired run; a login that nears its limit, or is refused all
-//! the time. It answers as the other does, but a retire that is far ahead of the server's clock, and contracts see that one. A server says by
-//! [`Hear`] whose requests come. From `mq_program/src/serving.rt`:
+//! A [`WatchedLedger`] logs what is asked of another ledger: each limit and each retire, with what
+//! it was answered; a mail host whose clock isn't today's, that asks from two addresses or under a
+//! retired run; a login that nears its limit, or is refused all the time. It answers as the other
+//! does, but to a retire that is far ahead of the server's clock, and its contracts are about the
+//! other's book. A server says by [`Hear`] whose requests come. From `mq_program/src/serving.rt`:
 //!
-//!     let mut watched = Watched::new(rt, log, rt.alloc(), ledger);
+//!     let mut watched = WatchedLedger::new(rt, log, rt.alloc(), ledger);
 //!     let outcome = listen(rt, log, rt.alloc(), settings, &mut watched, connections);
 //!
-//! It stands on `mq_request`, `mq_ledger` and `mq_chore`: it knows requests, replies and days, and of a connection its
-//! peer's address alone. [`Within`] has a chore of the other ledger go on. Begin with `specs/Seen.antt`, what is to be seen
-//! of a request: `watch.rt` finds it, and `watched.rt` logs it.
+//! It stands on `mq_request`, `mq_ledger` and `mq_chore`: it knows requests, replies and days, and
+//! of a connection its peer's address alone. [`Within`] has a chore of the other ledger go on.
+//! Begin with `specs/Seen.antt`, what is to be seen of a request: `watch.rt` finds it, and
+//! `watched.rt` logs it.
 #![tactic(auto)]
 
 mod ahead;
@@ -29,5 +31,5 @@ mod watched;
 mod within;
 
 pub use hear::Hear;
-pub use watched::Watched;
+pub use watched::WatchedLedger;
 pub use within::Within;

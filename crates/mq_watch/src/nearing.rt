@@ -1,5 +1,6 @@
 //! Which logins near their limits.
-ghost use Rattle.std.specs.Prelude.{◌≡◌, ◌≢◌, ◌↔◌, ◌<◌, ◌≤◌, ◌⊎◌, ℕ, List, Some, None, IsTrue, false};
+ghost use Rattle.std.specs.Prelude.{◌≡◌, ◌≢◌, ◌↔◌, ◌<◌, ◌≤◌, ◌⊎◌, ℕ, List, Some, None, IsTrue};
+ghost use Rattle.std.specs.Prelude.{false};
 ghost use Rattle.std.specs.BTreeMap.{btree_map_len};
 ghost use Rattle.mq_request.specs.Range.{IsAmount};
 ghost use Rattle.mq_watch.specs.Nearing.{IsLeft, IsNear, IsOpen, four_fifths, standing};
@@ -52,8 +53,9 @@ fn near_at(cap: u32) -> u32
     (4 * cap + 4) / 5
 }
 
-/// Of each login the latest day on which its ledger was asked, and what it has to use to near its limit then. So the
-/// ledger is asked at the first recipient of a login and day, and once more as it nears its limit.
+/// Of each login the latest day on which its ledger was asked, and what it has to use to near its
+/// limit then. So the ledger is asked at the first recipient of a login and day, and once more as
+/// it nears its limit.
 #[derive(Drop)]
 pub struct Nearing {
     alloc: Global,
@@ -81,18 +83,21 @@ impl Nearing {
         }
     }
 
-    /// Notes what the ledger answered of a login and day, and says whether it is due to be logged: the login nears its
-    /// limit, and that wasn't logged on that day or a later one. It counts as logged then. One that finds no memory isn't
-    /// due.
+    /// Notes what the ledger answered of a login and day, and says whether it is due to be logged:
+    /// the login nears its limit, and that wasn't logged on that day or a later one. It counts as
+    /// logged then. One that finds no memory isn't due.
     pub fn is_due(&mut self, login: &Login, day: u32, usage: Usage) -> bool
         requires { IsAmount usage.cap }
         ensures due { IsTrue result → IsNear usage.used usage.cap
             × IsOpen (standing self.old.logins login.now) day usage.used
             × (standing self.new.logins login.now ≡ Some (record { day = day; near = None })) }
-        ensures kept { IsOpen (standing self.old.logins login.now) day usage.used → (IsNear usage.used usage.cap → ⊥) →
+        ensures kept { IsOpen (standing self.old.logins login.now) day usage.used
+            → (IsNear usage.used usage.cap → ⊥) →
             (result ≡ false) × (IsLeft self.old.logins self.new.logins login.now
-            ⊎ (standing self.new.logins login.now ≡ Some (record { day = day; near = Some (four_fifths usage.cap) }))) }
-        ensures lost { IsNear usage.used usage.cap → result ≡ false → IsLeft self.old.logins self.new.logins login.now }
+            ⊎ (standing self.new.logins login.now ≡ Some
+            (record { day = day; near = Some (four_fifths usage.cap) }))) }
+        ensures lost { IsNear usage.used usage.cap → result ≡ false
+            → IsLeft self.old.logins self.new.logins login.now }
         ensures others { (l : List ℕ) → l ≢ login.now → IsLeft self.old.logins self.new.logins l }
         ensures closed { (IsOpen (standing self.old.logins login.now) day usage.used → ⊥) →
             (result ≡ false) × (self.new ≡ self.old) }
@@ -131,7 +136,8 @@ impl Nearing {
     /// Forgets all logins where so many are known that no further one has room.
     fn make_room(&mut self)
         ensures room { btree_map_len self.old.logins < 100000 → self.new ≡ self.old }
-        ensures again { 100000 ≤ btree_map_len self.old.logins → (l : List ℕ) → standing self.new.logins l ≡ None }
+        ensures again { 100000 ≤ btree_map_len self.old.logins → (l : List ℕ)
+            → standing self.new.logins l ≡ None }
         ensures few { btree_map_len self.new.logins < 100000 }
     {
         if LOGINS <= self.logins.len() {
@@ -142,7 +148,8 @@ impl Nearing {
     /// Forgets a login, whose limit was set.
     pub fn forget(&mut self, login: &Login)
         ensures gone { standing self.new.logins login.now ≡ None }
-        ensures others { (l : List ℕ) → l ≢ login.now → standing self.new.logins l ≡ standing self.old.logins l }
+        ensures others { (l : List ℕ) → l ≢ login.now → standing self.new.logins l
+            ≡ standing self.old.logins l }
     {
         self.logins.remove(login.as_slice());
     }

@@ -4,14 +4,16 @@ ghost use Rattle.mq_request.specs.Range.{IsDay, IsLogin, IsMoment};
 ghost use Rattle.mq_ledger.specs.Day.{day_of};
 ghost use Rattle.mq_watch.specs.Asked.{IsAsked};
 ghost use Rattle.mq_watch.specs.Notices.{verdict};
-ghost use Rattle.mq_watch.specs.Seen.{IsUseOf, SeesAddress, SeesAgain, SeesDay, SeesGranted, SeesLimit, SeesLowering, SeesRefusal, SeesRefusals, SeesReserve, SeesRun, SeesSet, TellsBefore};
+ghost use Rattle.mq_watch.specs.Seen.{IsUseOf, SeesAddress, SeesAgain, SeesDay, SeesGranted};
+ghost use Rattle.mq_watch.specs.Seen.{SeesLimit, SeesLowering, SeesRefusal, SeesRefusals};
+ghost use Rattle.mq_watch.specs.Seen.{SeesReserve, SeesRun, SeesSet, TellsBefore};
 
 use crate::askers::Askers;
 use crate::asking::ask_usage;
 use crate::clock::moment_of;
 use crate::hours::{NamedHosts, far_days};
 use crate::nearing::Nearing;
-use crate::notice::{Notice, Seen, Verdict, verdict_of};
+use crate::notice::{Notice, OrderVerdict, RequestNotices, verdict_of};
 use crate::refusals::Refusals;
 use mq_ledger::{Ledger, LedgerFault, Zone};
 use mq_request::{Host, Id, Login, Reply};
@@ -45,7 +47,8 @@ impl Notes {
         }
     }
 
-    /// What is to be seen of a reserve, its host and its peer, at this moment of the server's clock, in seconds.
+    /// What is to be seen of a reserve, its host and its peer, at this moment of the server's
+    /// clock, in seconds.
     pub fn see_reserve<'r>(
         &mut self,
         zone: &Zone,
@@ -55,25 +58,27 @@ impl Notes {
         login: &'r Login,
         answer: &Result<Reply, LedgerFault>,
         now: Option<u64>,
-    ) -> Seen<'r>
+    ) -> RequestNotices<'r>
         requires { IsMoment moment }
-        ensures sees { SeesReserve (day_of zone.now) peer id.now moment login.now answer.now now self.old self.new result }
+        ensures sees { SeesReserve (day_of zone.now) peer id.now moment login.now answer.now now
+            self.old self.new result }
         ensures peer { result.peer ≡ peer }
         ensures others { (result.question ≡ None) × (result.main ≡ None) }
         ensures nearing { self.new.nearing ≡ self.old.nearing }
     {
         let Some(seconds) = now else {
-            return Seen::nothing(peer);
+            return RequestNotices::nothing(peer);
         };
-        Seen {
+        RequestNotices {
             day: see_day(&mut self.hosts, zone, &id.host, moment, seconds),
             address: see_address(&mut self.askers, &id.host, peer.ip(), seconds),
             refusal: self.see_refusal(id, login, answer, seconds),
-            ..Seen::nothing(peer)
+            ..RequestNotices::nothing(peer)
         }
     }
 
-    /// What is to be seen of a reserve's answer: that the login is refused all the time, or that the run is retired.
+    /// What is to be seen of a reserve's answer: that the login is refused all the time, or that
+    /// the run is retired.
     fn see_refusal<'r>(
         &mut self,
         id: &'r Id,
@@ -162,8 +167,8 @@ pub fn see_run<'r>(
     }
 }
 
-/// That a login nears its limit, of which it was granted so much on a day. The recipients are granted, whatever comes of the
-/// question.
+/// That a login nears its limit, of which it was granted so much on a day. The recipients are
+/// granted, whatever comes of the question.
 pub fn see_granted<'r, L: Ledger>(
     ledger: &mut L,
     nearing: &mut Nearing,
@@ -174,8 +179,10 @@ pub fn see_granted<'r, L: Ledger>(
     requires login { IsLogin login.now }
     requires day { IsDay day }
     ensures asked { IsAsked L.told L.book L.has_kept L.is_sound L.has_store ledger.old ledger.new }
-    ensures sees { SeesGranted login.now day used (L.told ledger.old) (L.told ledger.new) nearing.old nearing.new result }
-    ensures usage { L.has_kept ledger.new → L.is_sound ledger.old → IfSome result (IsUseOf (L.book ledger.old)) }
+    ensures sees { SeesGranted login.now day used (L.told ledger.old)
+        (L.told ledger.new) nearing.old nearing.new result }
+    ensures usage { L.has_kept ledger.new → L.is_sound ledger.old
+        → IfSome result (IsUseOf (L.book ledger.old)) }
 {
     if !nearing.is_open(login, day, used) {
         return None;
@@ -203,11 +210,12 @@ pub fn see_limit<'r, L: Ledger>(
     cap: u32,
     before: Result<Option<u32>, LedgerFault>,
     answer: &Result<Reply, LedgerFault>,
-) -> Seen<'r>
+) -> RequestNotices<'r>
     requires login { IsLogin login.now }
     requires day { IsDay from_day }
     ensures asked { IsAsked L.told L.book L.has_kept L.is_sound L.has_store ledger.old ledger.new }
-    ensures sees { SeesLimit peer login.now from_day cap before (verdict answer.now) (L.told ledger.old) (L.told ledger.new)
+    ensures sees { SeesLimit peer login.now from_day cap before (verdict answer.now)
+        (L.told ledger.old) (L.told ledger.new)
         nearing.old nearing.new result }
     ensures from { IfSome result.main (TellsBefore before) }
 {
@@ -215,7 +223,7 @@ pub fn see_limit<'r, L: Ledger>(
     let Lowering { from, question } = see_lowering(
         ledger, nearing, login, from_day, cap, before, verdict,
     );
-    Seen {
+    RequestNotices {
         question,
         main: Some(Notice::Limit {
             login,
@@ -224,7 +232,7 @@ pub fn see_limit<'r, L: Ledger>(
             lowered_from: from,
             verdict,
         }),
-        ..Seen::nothing(peer)
+        ..RequestNotices::nothing(peer)
     }
 }
 
@@ -245,12 +253,13 @@ fn see_lowering<'r, L: Ledger>(
     from_day: u32,
     cap: u32,
     before: Result<Option<u32>, LedgerFault>,
-    verdict: Verdict,
+    verdict: OrderVerdict,
 ) -> Lowering<'r>
     requires login { IsLogin login.now }
     requires day { IsDay from_day }
     ensures asked { IsAsked L.told L.book L.has_kept L.is_sound L.has_store ledger.old ledger.new }
-    ensures sees { SeesLowering before verdict cap login.now from_day (L.told ledger.old) (L.told ledger.new)
+    ensures sees { SeesLowering before verdict cap login.now from_day (L.told ledger.old)
+        (L.told ledger.new)
         nearing.old nearing.new result.from result.question }
     ensures from { IfSome result.from (λ was. before ≡ Ok (Some was)) }
 {
@@ -259,7 +268,7 @@ fn see_lowering<'r, L: Ledger>(
             from: None,
             question: Some(Notice::FailedQuestion),
         },
-        (Ok(before), Verdict::Set) => note_set(ledger, nearing, login, from_day, cap, before),
+        (Ok(before), OrderVerdict::Set) => note_set(ledger, nearing, login, from_day, cap, before),
         (Ok(_), _) => Lowering {
             from: None,
             question: None,
@@ -267,7 +276,8 @@ fn see_lowering<'r, L: Ledger>(
     }
 }
 
-/// Notes that a limit is set: the cap before, where it is lower now. One that came again changed nothing.
+/// Notes that a limit is set: the cap before, where it is lower now. One that came again changed
+/// nothing.
 fn note_set<'r, L: Ledger>(
     ledger: &mut L,
     nearing: &mut Nearing,
@@ -293,13 +303,15 @@ fn note_set<'r, L: Ledger>(
     }
 }
 
-/// Whether the cap is another now than it was, by a question. Where there is no answer, it counts as another.
+/// Whether the cap is another now than it was, by a question. Where there is no answer, it counts
+/// as another.
 fn ask_again<'r, L: Ledger>(ledger: &mut L, login: &Login, from_day: u32, was: u32) -> Lowering<'r>
     requires login { IsLogin login.now }
     requires day { IsDay from_day }
     ensures asked { IsAsked L.told L.book L.has_kept L.is_sound L.has_store ledger.old ledger.new }
     ensures same { IfSome result.from (λ before. before ≡ was) }
-    ensures again { SeesAgain login.now from_day (L.told ledger.old) (L.told ledger.new) was result.from result.question }
+    ensures again { SeesAgain login.now from_day (L.told ledger.old)
+        (L.told ledger.new) was result.from result.question }
 {
     match ask_usage(ledger, login, from_day) {
         Ok(Some(usage)) if was <= usage.cap => Lowering {

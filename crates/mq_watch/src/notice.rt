@@ -5,13 +5,14 @@ ghost use Rattle.mq_watch.specs.Notices.{in_order, level_of, nothing, verdict};
 use crate::nearing::Usage;
 use log::Level;
 use mq_ledger::LedgerFault;
-use mq_request::{Escaped, Host, Id, Login, Reply};
+use mq_request::{EscapedText, Host, Id, Login, Reply};
 use std::fmt;
 use std::net::{IpAddr, SocketAddr};
 
-/// What a limit or a retire was answered. One that comes again is answered as it was the first time.
+/// What a limit or a retire was answered. One that comes again is answered as it was the first
+/// time.
 #[derive(Clone, Copy, Debug, PartialEq, Eq)]
-pub enum Verdict {
+pub enum OrderVerdict {
     Set,
     Retired,
     /// So many recipients are used on that day already.
@@ -26,33 +27,33 @@ pub enum Verdict {
 }
 
 /// What an answer says of a limit or a retire.
-pub fn verdict_of(answer: &Result<Reply, LedgerFault>) -> Verdict
+pub fn verdict_of(answer: &Result<Reply, LedgerFault>) -> OrderVerdict
     ensures { result ≡ verdict answer.now }
 {
     match answer {
-        Ok(Reply::LimitSet { .. }) => Verdict::Set,
-        Ok(Reply::Retired { .. }) => Verdict::Retired,
-        Ok(Reply::Over { day, used, .. }) => Verdict::Over {
+        Ok(Reply::LimitSet { .. }) => OrderVerdict::Set,
+        Ok(Reply::Retired { .. }) => OrderVerdict::Retired,
+        Ok(Reply::Over { day, used, .. }) => OrderVerdict::Over {
             day: *day,
             used: *used,
         },
-        Ok(Reply::Conflict { .. }) => Verdict::Conflict,
-        Ok(Reply::Old { .. }) => Verdict::Old,
-        Ok(_) => Verdict::Other,
-        Err(fault) => Verdict::Fault(*fault),
+        Ok(Reply::Conflict { .. }) => OrderVerdict::Conflict,
+        Ok(Reply::Old { .. }) => OrderVerdict::Old,
+        Ok(_) => OrderVerdict::Other,
+        Err(fault) => OrderVerdict::Fault(*fault),
     }
 }
 
-impl fmt::Display for Verdict {
+impl fmt::Display for OrderVerdict {
     fn fmt<W: fmt::Write>(&self, f: &mut fmt::Formatter<W>) -> fmt::Result {
         match self {
-            Verdict::Set => f.write_str("set"),
-            Verdict::Retired => f.write_str("retired"),
-            Verdict::Over { day, used } => write!(f, "refused, {used} used on day {day}"),
-            Verdict::Conflict => f.write_str("refused, another request has its number"),
-            Verdict::Old => f.write_str("refused, its run is retired"),
-            Verdict::Other => f.write_str("answered"),
-            Verdict::Fault(fault) => write!(f, "{fault}"),
+            OrderVerdict::Set => f.write_str("set"),
+            OrderVerdict::Retired => f.write_str("retired"),
+            OrderVerdict::Over { day, used } => write!(f, "refused, {used} used on day {day}"),
+            OrderVerdict::Conflict => f.write_str("refused, another request has its number"),
+            OrderVerdict::Old => f.write_str("refused, its run is retired"),
+            OrderVerdict::Other => f.write_str("answered"),
+            OrderVerdict::Fault(fault) => write!(f, "{fault}"),
         }
     }
 }
@@ -67,12 +68,12 @@ pub enum Notice<'a> {
         cap: u32,
         /// The cap that the login had on that day before, where it is lower now.
         lowered_from: Option<u32>,
-        verdict: Verdict,
+        verdict: OrderVerdict,
     },
     /// A retire came. Each start of a mail host's smtpd may send one.
     Retire {
         id: &'a Id,
-        verdict: Verdict,
+        verdict: OrderVerdict,
     },
     /// A retire is ahead of the server's clock, in milliseconds since 1970, and wasn't taken.
     Ahead {
@@ -136,7 +137,7 @@ impl fmt::Display for Notice<'_> {
                 lowered_from,
                 verdict,
             } => {
-                let login = Escaped(login.as_slice());
+                let login = EscapedText(login.as_slice());
                 write!(
                     f,
                     "limit {cap} of login {login} from day {from_day}: {verdict}"
@@ -144,27 +145,27 @@ impl fmt::Display for Notice<'_> {
                 write_lowered(f, *lowered_from)
             }
             Notice::Retire { id, verdict } => {
-                let host = Escaped(id.host.as_slice());
+                let host = EscapedText(id.host.as_slice());
                 let run = id.run;
                 write!(f, "runs of host {host} below {run}: {verdict}")
             }
             Notice::Ahead { id, now } => write_ahead(f, *id, *now),
             Notice::FarDay { host, day, today } => {
-                let host = Escaped(host.as_slice());
+                let host = EscapedText(host.as_slice());
                 write!(
                     f,
                     "host {host} reserves for day {day}, and today is day {today}: its clock or the server's is wrong"
                 )
             }
             Notice::OtherAddress { host, other } => {
-                let host = Escaped(host.as_slice());
+                let host = EscapedText(host.as_slice());
                 write!(
                     f,
                     "host {host} has asked from {other} too within an hour: two machines may have its name"
                 )
             }
             Notice::OldRun { id } => {
-                let host = Escaped(id.host.as_slice());
+                let host = EscapedText(id.host.as_slice());
                 let run = id.run;
                 write!(
                     f,
@@ -172,15 +173,15 @@ impl fmt::Display for Notice<'_> {
                 )
             }
             Notice::Refusals { login, host } => {
-                let login = Escaped(login.as_slice());
-                let host = Escaped(host.as_slice());
+                let login = EscapedText(login.as_slice());
+                let host = EscapedText(host.as_slice());
                 write!(
                     f,
                     "login {login} was refused more than 1,000 times within an hour, last for host {host}"
                 )
             }
             Notice::NearLimit { login, day, usage } => {
-                let login = Escaped(login.as_slice());
+                let login = EscapedText(login.as_slice());
                 let used = usage.used;
                 let cap = usage.cap;
                 write!(
@@ -208,7 +209,7 @@ fn write_lowered<W: fmt::Write>(
 
 /// How far a retire is ahead of the server's clock, in milliseconds since 1970.
 fn write_ahead<W: fmt::Write>(f: &mut fmt::Formatter<W>, id: &Id, now: u64) -> fmt::Result {
-    let host = Escaped(id.host.as_slice());
+    let host = EscapedText(id.host.as_slice());
     let run = id.run;
     let seconds = run.saturating_sub(now) / 1_000;
     write!(
@@ -219,7 +220,7 @@ fn write_ahead<W: fmt::Write>(f: &mut fmt::Formatter<W>, id: &Id, now: u64) -> f
 
 /// What is to be logged of a request, in this order, and whose request it is.
 #[derive(Clone, Copy)]
-pub struct Seen<'a> {
+pub struct RequestNotices<'a> {
     pub peer: SocketAddr,
     /// Of a reserve's day.
     pub day: Option<Notice<'a>>,
@@ -233,12 +234,12 @@ pub struct Seen<'a> {
     pub main: Option<Notice<'a>>,
 }
 
-impl<'a> Seen<'a> {
+impl<'a> RequestNotices<'a> {
     /// Nothing is to be logged of a request of this peer.
-    pub fn nothing(peer: SocketAddr) -> Seen<'a>
+    pub fn nothing(peer: SocketAddr) -> RequestNotices<'a>
         ensures { result ≡ nothing peer }
     {
-        Seen {
+        RequestNotices {
             peer,
             day: None,
             address: None,

@@ -29,8 +29,8 @@ impl Refusals {
         }
     }
 
-    /// Counts that a login is refused at this moment, in seconds, and says whether that is due to be logged: it was refused
-    /// 1,000 times before in the hour that runs.
+    /// Counts that a login is refused at this moment, in seconds, and says whether that is due to
+    /// be logged: it was refused 1,000 times before in the hour that runs.
     pub fn is_due(&mut self, login: &Login, now: u64) -> bool
         ensures counts { (before : Option ℕ) →
             IsKnownAt self.old.logins.since self.old.logins.names now login.now before →

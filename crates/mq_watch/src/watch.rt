@@ -1,5 +1,6 @@
 //! A ledger, and what is to be seen of the requests that are put to it.
-ghost use Rattle.std.specs.Prelude.{◌≡◌, [], ◌∷◌, ◌++◌, IfOk, IfErr, IfNone, IfSome, OnErr, OnOk, Err};
+ghost use Rattle.std.specs.Prelude.{◌≡◌, [], ◌∷◌, ◌++◌, IfOk, IfErr, IfNone, IfSome, OnErr, OnOk};
+ghost use Rattle.std.specs.Prelude.{Err};
 ghost use Rattle.mq_request.specs.Range.{IsReply, IsRequest};
 ghost use Rattle.mq_ledger.specs.Answer.{build, reply};
 ghost use Rattle.mq_ledger.specs.Arrivals.{first};
@@ -13,7 +14,7 @@ use crate::ahead::is_ahead;
 use crate::asking::{ask_usage, cap_of};
 use crate::clock::seconds_of;
 use crate::notes::{Notes, see_granted, see_limit, see_run};
-use crate::notice::{Notice, Seen, verdict_of};
+use crate::notice::{Notice, RequestNotices, verdict_of};
 use mq_ledger::{Ledger, LedgerFault};
 use mq_request::{Reply, Request};
 use std::net::SocketAddr;
@@ -28,22 +29,25 @@ pub struct Watch<L> {
 
 /// What a request is answered, and what is to be logged of it.
 #[derive(Drop)]
-pub struct Taken<'r> {
+pub struct NoticedAnswer<'r> {
     pub answer: Result<Reply, LedgerFault>,
-    pub seen: Seen<'r>,
+    pub seen: RequestNotices<'r>,
 }
 
 impl<L: Ledger> Watch<L> {
-    /// Puts a request to the ledger at this moment of the server's clock, in milliseconds since 1970, but a retire that is
-    /// ahead of it.
-    pub fn take<'r>(&mut self, request: &'r Request, now: Option<u64>) -> Taken<'r>
+    /// Puts a request to the ledger at this moment of the server's clock, in milliseconds since
+    /// 1970, but a retire that is ahead of it.
+    pub fn take<'r>(&mut self, request: &'r Request, now: Option<u64>) -> NoticedAnswer<'r>
         requires { IsRequest request.now }
-        ensures ahead { IsAhead request.now now → (result.answer ≡ Err LedgerFault.Memory) × (self.new ≡ self.old)
+        ensures ahead { IsAhead request.now now → (result.answer ≡ Err LedgerFault.Memory)
+            × (self.new ≡ self.old)
             × SeesAhead self.old.peer request.now now result.seen }
         ensures put { (IsAhead request.now now → ⊥) →
             IsPut request.now result.answer (L.told self.old.ledger) (L.told self.new.ledger) }
         ensures peer { self.new.peer ≡ self.old.peer }
-        ensures seen { (IsAhead request.now now → ⊥) → SeesPut (day_of (L.book self.old.ledger).zone) self.old.peer result.answer now (L.told self.new.ledger)
+        ensures seen { (IsAhead request.now now → ⊥) → SeesPut
+            (day_of (L.book self.old.ledger).zone) self.old.peer result.answer now
+            (L.told self.new.ledger)
             self.old.notes self.new.notes result.seen request.now }
 
         // As `Ledger` says of `apply`.
@@ -53,17 +57,21 @@ impl<L: Ledger> Watch<L> {
         ensures kept { L.has_kept self.new.ledger → L.has_kept self.old.ledger }
         ensures no_store { L.has_store self.new.ledger → L.has_store self.old.ledger }
         ensures store { result.answer ≡ Err LedgerFault.Store → L.has_store self.old.ledger }
-        ensures reply { L.has_kept self.new.ledger → L.is_sound self.old.ledger → (let b = L.book self.old.ledger in
+        ensures reply { L.has_kept self.new.ledger → L.is_sound self.old.ledger
+            → (let b = L.book self.old.ledger in
             IfOk result.answer (λ r. r ≡ reply (day_of b.zone) b.default b.history request.now)) }
-        ensures history { L.has_kept self.new.ledger → L.is_sound self.old.ledger → (let b = L.book self.old.ledger in
+        ensures history { L.has_kept self.new.ledger → L.is_sound self.old.ledger
+            → (let b = L.book self.old.ledger in
             OnOk result.answer ((L.book self.new.ledger).history
             ≡ build (day_of b.zone) b.default (first (requests b.history ++ request.now ∷ [])))) }
         ensures fault { L.has_kept self.new.ledger → L.is_sound self.old.ledger →
-            OnErr result.answer ((L.book self.new.ledger).history ≡ (L.book self.old.ledger).history) }
-        ensures sound { L.has_kept self.new.ledger → L.is_sound self.old.ledger → L.is_sound self.new.ledger }
+            OnErr result.answer ((L.book self.new.ledger).history
+            ≡ (L.book self.old.ledger).history) }
+        ensures sound { L.has_kept self.new.ledger → L.is_sound self.old.ledger
+            → L.is_sound self.new.ledger }
     {
         if is_ahead(request, now) {
-            return Taken {
+            return NoticedAnswer {
                 answer: Err(LedgerFault::Memory),
                 seen: see_ahead(self.peer, request, now),
             };
@@ -71,13 +79,15 @@ impl<L: Ledger> Watch<L> {
         self.put(request, now)
     }
 
-    /// Puts a request to the ledger, and says what is to be seen of it. Where a question before it finds a failed store, that
-    /// is the answer.
-    fn put<'r>(&mut self, request: &'r Request, now: Option<u64>) -> Taken<'r>
+    /// Puts a request to the ledger, and says what is to be seen of it. Where a question before it
+    /// finds a failed store, that is the answer.
+    fn put<'r>(&mut self, request: &'r Request, now: Option<u64>) -> NoticedAnswer<'r>
         requires { IsRequest request.now }
-        ensures put { IsPut request.now result.answer (L.told self.old.ledger) (L.told self.new.ledger) }
+        ensures put { IsPut request.now result.answer (L.told self.old.ledger)
+            (L.told self.new.ledger) }
         ensures peer { self.new.peer ≡ self.old.peer }
-        ensures seen { SeesPut (day_of (L.book self.old.ledger).zone) self.old.peer result.answer now (L.told self.new.ledger)
+        ensures seen { SeesPut (day_of (L.book self.old.ledger).zone) self.old.peer result.answer
+            now (L.told self.new.ledger)
             self.old.notes self.new.notes result.seen request.now }
 
         // As `Ledger` says of `apply`.
@@ -87,14 +97,18 @@ impl<L: Ledger> Watch<L> {
         ensures kept { L.has_kept self.new.ledger → L.has_kept self.old.ledger }
         ensures no_store { L.has_store self.new.ledger → L.has_store self.old.ledger }
         ensures store { result.answer ≡ Err LedgerFault.Store → L.has_store self.old.ledger }
-        ensures reply { L.has_kept self.new.ledger → L.is_sound self.old.ledger → (let b = L.book self.old.ledger in
+        ensures reply { L.has_kept self.new.ledger → L.is_sound self.old.ledger
+            → (let b = L.book self.old.ledger in
             IfOk result.answer (λ r. r ≡ reply (day_of b.zone) b.default b.history request.now)) }
-        ensures history { L.has_kept self.new.ledger → L.is_sound self.old.ledger → (let b = L.book self.old.ledger in
+        ensures history { L.has_kept self.new.ledger → L.is_sound self.old.ledger
+            → (let b = L.book self.old.ledger in
             OnOk result.answer ((L.book self.new.ledger).history
             ≡ build (day_of b.zone) b.default (first (requests b.history ++ request.now ∷ [])))) }
         ensures fault { L.has_kept self.new.ledger → L.is_sound self.old.ledger →
-            OnErr result.answer ((L.book self.new.ledger).history ≡ (L.book self.old.ledger).history) }
-        ensures sound { L.has_kept self.new.ledger → L.is_sound self.old.ledger → L.is_sound self.new.ledger }
+            OnErr result.answer ((L.book self.new.ledger).history
+            ≡ (L.book self.old.ledger).history) }
+        ensures sound { L.has_kept self.new.ledger → L.is_sound self.old.ledger
+            → L.is_sound self.new.ledger }
     {
         let before = self.cap_before(request);
         let answer = match before {
@@ -102,23 +116,28 @@ impl<L: Ledger> Watch<L> {
             Err(fault) => Err(fault),
         };
         let seen = self.look(request, before, &answer, now);
-        Taken { answer, seen }
+        NoticedAnswer { answer, seen }
     }
 
-    /// The cap of the login and day from which a limit is asked for, before that is set. Of other requests there is none.
-    /// The fault is that of a store that failed.
+    /// The cap of the login and day from which a limit is asked for, before that is set. Of other
+    /// requests there is none. The fault is that of a store that failed.
     fn cap_before(&mut self, request: &Request) -> Result<Option<u32>, LedgerFault>
         requires { IsRequest request.now }
         ensures peer { self.new.peer ≡ self.old.peer }
         ensures notes { self.new.notes ≡ self.old.notes }
-        ensures asked { IsAsked L.told L.book L.has_kept L.is_sound L.has_store self.old.ledger self.new.ledger }
-        ensures cap { L.has_kept self.new.ledger → L.is_sound self.old.ledger → (let b = L.book self.old.ledger in
-            IfOk result (λ before. IfSome before (λ n. IsCapBefore b.default b.history request.now n))) }
-        ensures none { L.has_kept self.new.ledger → L.is_sound self.old.ledger → IfOk result (λ before. IfNone before
+        ensures asked { IsAsked L.told L.book L.has_kept L.is_sound L.has_store self.old.ledger
+            self.new.ledger }
+        ensures cap { L.has_kept self.new.ledger → L.is_sound self.old.ledger
+            → (let b = L.book self.old.ledger in
+            IfOk result (λ before. IfSome before (λ n. IsCapBefore b.default b.history request.now
+            n))) }
+        ensures none { L.has_kept self.new.ledger → L.is_sound self.old.ledger
+            → IfOk result (λ before. IfNone before
             (LacksCap request.now (L.told self.old.ledger) (L.told self.new.ledger))) }
         ensures fault { IfErr result (λ fault. fault ≡ LedgerFault.Store) }
         ensures store { OnErr result (L.has_store self.old.ledger) }
-        ensures failed { OnErr result (FailsAtQuestion (L.told self.old.ledger) (L.told self.new.ledger)) }
+        ensures failed { OnErr result (FailsAtQuestion (L.told self.old.ledger)
+            (L.told self.new.ledger)) }
     {
         let Request::Limit {
             login,
@@ -132,21 +151,25 @@ impl<L: Ledger> Watch<L> {
         Ok(cap_of(usage))
     }
 
-    /// What is to be seen of a request that was answered so. A limit came where a question said this cap before.
+    /// What is to be seen of a request that was answered so. A limit came where a question said
+    /// this cap before.
     fn look<'r>(
         &mut self,
         request: &'r Request,
         before: Result<Option<u32>, LedgerFault>,
         answer: &Result<Reply, LedgerFault>,
         now: Option<u64>,
-    ) -> Seen<'r>
+    ) -> RequestNotices<'r>
         requires { IsRequest request.now }
-        ensures asked { IsAsked L.told L.book L.has_kept L.is_sound L.has_store self.old.ledger self.new.ledger }
+        ensures asked { IsAsked L.told L.book L.has_kept L.is_sound L.has_store self.old.ledger
+            self.new.ledger }
         ensures peer { self.new.peer ≡ self.old.peer }
-        ensures sees { Sees (day_of (L.book self.old.ledger).zone) self.old.peer before answer.now now (L.told self.old.ledger)
+        ensures sees { Sees (day_of (L.book self.old.ledger).zone) self.old.peer before answer.now
+            now (L.told self.old.ledger)
             (L.told self.new.ledger) self.old.notes self.new.notes result request.now }
         ensures from { TellsFrom request.now before result.main }
-        ensures usage { L.has_kept self.new.ledger → L.is_sound self.old.ledger → TellsUse (L.book self.old.ledger) request.now result.main }
+        ensures usage { L.has_kept self.new.ledger → L.is_sound self.old.ledger
+            → TellsUse (L.book self.old.ledger) request.now result.main }
     {
         let peer = self.peer;
         match request {
@@ -177,7 +200,7 @@ impl<L: Ledger> Watch<L> {
                     .notes
                     .see_reserve(zone, peer, id, *moment, login, answer, seconds_of(now));
                 match answer {
-                    Ok(Reply::Granted { used, .. }) => Seen {
+                    Ok(Reply::Granted { used, .. }) => RequestNotices {
                         main: see_granted(
                             &mut self.ledger,
                             &mut self.notes.nearing,
@@ -190,31 +213,31 @@ impl<L: Ledger> Watch<L> {
                     _ => seen,
                 }
             }
-            Request::Settle { id, .. } | Request::Release { id, .. } => Seen {
+            Request::Settle { id, .. } | Request::Release { id, .. } => RequestNotices {
                 refusal: see_run(&mut self.notes.retired, id, answer, seconds_of(now)),
-                ..Seen::nothing(peer)
+                ..RequestNotices::nothing(peer)
             },
-            Request::Retire { id } => Seen {
+            Request::Retire { id } => RequestNotices {
                 main: Some(Notice::Retire {
                     id,
                     verdict: verdict_of(answer),
                 }),
-                ..Seen::nothing(peer)
+                ..RequestNotices::nothing(peer)
             },
-            _ => Seen::nothing(peer),
+            _ => RequestNotices::nothing(peer),
         }
     }
 }
 
 /// What is to be seen of a retire that isn't put to the ledger.
-fn see_ahead(peer: SocketAddr, request: &Request, now: Option<u64>) -> Seen<'_>
+fn see_ahead(peer: SocketAddr, request: &Request, now: Option<u64>) -> RequestNotices<'_>
     ensures { IsAhead request.now now → SeesAhead peer request.now now result }
 {
     match (request, now) {
-        (Request::Retire { id }, Some(now)) => Seen {
+        (Request::Retire { id }, Some(now)) => RequestNotices {
             main: Some(Notice::Ahead { id, now }),
-            ..Seen::nothing(peer)
+            ..RequestNotices::nothing(peer)
         },
-        _ => Seen::nothing(peer),
+        _ => RequestNotices::nothing(peer),
     }
 }

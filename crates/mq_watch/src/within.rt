@@ -1,22 +1,23 @@
 //! A chore of the ledger that a watched one stands around.
-use crate::watched::Watched;
+use crate::watched::WatchedLedger;
 use log::Log;
 use mq_chore::{Chore, Piece};
 use mq_ledger::Ledger;
 use std::rt::Clock;
 
-/// A chore of the ledger that a watched one stands around: it asks that one, so no line is logged of its questions.
+/// A chore of the ledger that a watched one stands around: it asks that one, so no line is logged
+/// of its questions.
 #[derive(Drop)]
 pub struct Within<K> {
     pub chore: K,
 }
 
-impl<L: Ledger, C: Clock, G: Log, K: Chore<L>> Chore<Watched<'_, L, C, G>> for Within<K> {
+impl<L: Ledger, C: Clock, G: Log, K: Chore<L>> Chore<WatchedLedger<'_, L, C, G>> for Within<K> {
     ghost fits = { λ within book. K.fits within.chore book };
 
     ghost is_done = { λ within book. K.is_done within.chore book };
 
-    fn go_on(&mut self, ledger: &mut Watched<'_, L, C, G>) -> Piece {
+    fn go_on(&mut self, ledger: &mut WatchedLedger<'_, L, C, G>) -> Piece {
         self.chore.go_on(&mut ledger.watch.ledger)
     }
 }

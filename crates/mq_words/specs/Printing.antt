@@ -5,16 +5,16 @@ use Rattle.clap.specs.declared.error.Error.{Error}
 use Rattle.clap.specs.declared.error.kind.ErrorKind.TheVariants.{DisplayHelp, DisplayVersion}
 use Rattle.mq_words.specs.declared.words.WordsFault.{WordsFault}
 use Rattle.mq_words.specs.declared.words.WordsFault.TheVariants as words
-use Rattle.mq_words.specs.declared.printing.Unprinted.{Unprinted}
-use Rattle.mq_words.specs.declared.printing.Unprinted.TheVariants as unprinted
+use Rattle.mq_words.specs.declared.printing.PrintFault.{PrintFault}
+use Rattle.mq_words.specs.declared.printing.PrintFault.TheVariants as unprinted
 
 -- a mistake ends with status 2, and help with 0 where it can be written
-pub record EndsErring (error : Error) (ended : Result ℕ Unprinted) : Type 0 where
+pub record EndsErring (error : Error) (ended : Result ℕ PrintFault) : Type 0 where
   pub mistake : kind_of error ≢ DisplayHelp → kind_of error ≢ DisplayVersion → ended ≡ Ok 2
   pub help : (kind_of error ≡ DisplayHelp) ⊎ (kind_of error ≡ DisplayVersion)
       → MatchResult ended (λ status. status ≡ 0) (λ why. why ≡ unprinted.Write)
 
 -- where memory runs out nothing is printed
-abbrev pub EndsPrinted : WordsFault → Result ℕ Unprinted → Type 0
+abbrev pub EndsPrinted : WordsFault → Result ℕ PrintFault → Type 0
 EndsPrinted words.Memory ended = ended ≡ Err unprinted.Memory
 EndsPrinted (words.Words error) ended = EndsErring error ended

@@ -1,14 +1,16 @@
-//! The words of mailquota's command line: its subcommands with their options and help, and what given words ask for.
+//! The words of mailquota's command line: its subcommands with their options and help, and what
+//! given words ask for.
 //!
-//! [`read_arguments`] gives the arguments that the words ask for, or the help or usage fault that [`print_fault`] prints. From
-//! `mailquota/src/program.rt`:
+//! [`read_arguments`] gives the arguments that the words ask for, or the help or usage fault that
+//! [`print_fault`] prints. From `mailquota/src/program.rt`:
 //!
 //!     match read_arguments(rt.alloc(), words, VERSION) {
 //!         Ok(given) => run_subcommand(rt, given, start, new, errors),
 //!
-//! It stands on `mq_process`, for the arguments as types, and `mq_request`, and is the one crate that gives options to
-//! `clap`; it doesn't know what a subcommand does. Begin with `subcommands.rt`, the options as a table, and `meaning.rt`,
-//! what they ask for; `mailquota(8)` has them in words.
+//! It stands on `mq_process`, for the arguments as types, and `mq_request`, and is the one crate
+//! that gives options to `clap`; it doesn't know what a subcommand does. Begin with
+//! `subcommands.rt`, the options as a table, and `meaning.rt`, what they ask for; `mailquota(8)`
+//! has them in words.
 #![tactic(auto)]
 
 mod meaning;
@@ -16,5 +18,5 @@ mod printing;
 mod subcommands;
 mod words;
 
-pub use printing::{Unprinted, print_fault};
+pub use printing::{PrintFault, print_fault};
 pub use words::{WordsFault, read_arguments};

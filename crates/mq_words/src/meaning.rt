@@ -2,11 +2,15 @@
 ghost use Rattle.std.specs.Prelude.{◌≡◌, ◌≤◌, IfOk, IfSome, codes};
 ghost use Rattle.clap.specs.Matches.{found_of};
 ghost use Rattle.mq_request.specs.Range.{IsAmount, IsDay, IsMoment, IsRun, IsWithin};
-ghost use Rattle.mq_process.specs.Arguments.{IsArguments, IsConnections, IsDayUpTo, IsLimitArguments, IsReplayArguments};
+ghost use Rattle.mq_process.specs.Arguments.{IsArguments, IsConnections, IsDayUpTo};
+ghost use Rattle.mq_process.specs.Arguments.{IsLimitArguments, IsReplayArguments};
 ghost use Rattle.mq_process.specs.Arguments.{IsReportArguments, IsResumeArguments, IsStopArguments};
-ghost use Rattle.mq_words.specs.Meaning.{HasCap, HasConnections, HasDay, HasLogin, HasLoginOrNone, HasNumber, HasNumberOrNone, HasText};
-ghost use Rattle.mq_words.specs.Meaning.{Means, MeansDay, MeansFilter, MeansForget, MeansLimit, MeansReplay, MeansReport, MeansResume};
-ghost use Rattle.mq_words.specs.Meaning.{MeansRetire, MeansServer, MeansStatus, MeansStop, texts_of};
+ghost use Rattle.mq_words.specs.Meaning.{HasCap, HasConnections, HasDay, HasLogin, HasLoginOrNone};
+ghost use Rattle.mq_words.specs.Meaning.{HasNumber, HasNumberOrNone, HasText};
+ghost use Rattle.mq_words.specs.Meaning.{Means, MeansDay, MeansFilter, MeansForget, MeansLimit};
+ghost use Rattle.mq_words.specs.Meaning.{MeansReplay, MeansReport, MeansResume};
+ghost use Rattle.mq_words.specs.Meaning.{MeansRetire, MeansServer, MeansStatus, MeansStop};
+ghost use Rattle.mq_words.specs.Meaning.{texts_of};
 
 use crate::subcommands::{
     AMOUNTS, CROWDS, DAYS, EARLIER_DAYS, MINUTES, MOMENTS, RUNS, Range, TOPS,

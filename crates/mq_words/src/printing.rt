@@ -9,26 +9,28 @@ use clap::Error;
 
 /// Why nothing was printed of words that ask for nothing that can be done.
 #[derive(Clone, Copy)]
-pub enum Unprinted {
+pub enum PrintFault {
     Memory,
     Write,
 }
 
-/// Prints the help that the words ask for on standard output, or what is wrong with them on standard error, and gives the
-/// exit status: 0 for help that was printed, 2 for a mistake, printed or not.
-pub fn print_fault(rt: &HostRuntime, fault: WordsFault) -> Result<u8, Unprinted>
+/// Prints the help that the words ask for on standard output, or what is wrong with them on
+/// standard error, and gives the exit status: 0 for help that was printed, 2 for a mistake, printed
+/// or not.
+pub fn print_fault(rt: &HostRuntime, fault: WordsFault) -> Result<u8, PrintFault>
     ensures { EndsPrinted fault result }
 {
     match fault {
-        WordsFault::Memory => Err(Unprinted::Memory),
+        WordsFault::Memory => Err(PrintFault::Memory),
         WordsFault::Words(error) => print_error(rt, &error),
     }
 }
 
-fn print_error(rt: &HostRuntime, error: &Error) -> Result<u8, Unprinted>
-    ensures mistake { kind_of error.now ≢ DisplayHelp → kind_of error.now ≢ DisplayVersion → result ≡ Ok 2 }
+fn print_error(rt: &HostRuntime, error: &Error) -> Result<u8, PrintFault>
+    ensures mistake { kind_of error.now ≢ DisplayHelp → kind_of error.now ≢ DisplayVersion
+        → result ≡ Ok 2 }
     ensures help { (kind_of error.now ≡ DisplayHelp) ⊎ (kind_of error.now ≡ DisplayVersion)
-        → MatchResult result (λ status. status ≡ 0) (λ why. why ≡ Unprinted.Write) }
+        → MatchResult result (λ status. status ≡ 0) (λ why. why ≡ PrintFault.Write) }
 {
     let printed = error.print(rt);
     if error.use_stderr() {
@@ -36,6 +38,6 @@ fn print_error(rt: &HostRuntime, error: &Error) -> Result<u8, Unprinted>
     }
     match printed {
         Ok(()) => Ok(0),
-        Err(_) => Err(Unprinted::Write),
+        Err(_) => Err(PrintFault::Write),
     }
 }

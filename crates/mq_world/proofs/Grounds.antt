@@ -1,9 +1,9 @@
 -- What was let through was granted in some ledger, under numbers of the run. H has the entries of all ledgers.
-use Rattle.mq_world.proofs.Words.{Action, AreUnderway, Ask, Asked, Bool, Close, CloseEnd, Closed, Drain, Entry, Exchange, Held, In, IsUnderway, List, Live, Never, None, Option, Reply, Request, Some, Source, Standing, Step, Transaction, View, [], after, after_ask, after_close, answer_of, ap, arith}
+use Rattle.mq_world.proofs.Words.{Action, AreUnderway, Ask, RecipientAnswer, Bool, Close, CloseEnd, Closed, Drain, Entry, Exchange, HeldTransaction, In, IsUnderway, List, Live, Never, None, Option, Reply, Request, Some, Source, Standing, Step, Transaction, View, [], after, after_ask, after_close, answer_of, ap, arith}
 use Rattle.mq_world.proofs.Words.{clash, either, false, granted, granted_in, held_by, if◌then◌else◌, inl, inr, is_of, is_other, length, let_through, let_through_at, nat_le, nat_tests, neither_first, neither_second, none_some, not, not_false, number_is, opened, refl, refuses, reserve_of, same_text}
 use Rattle.mq_world.proofs.Words.{same_transaction, some_is, subst, sum_by, sum_by-le-sum_by, sym, tries_in, true, view, ℕ, ◌&&◌, ◌+◌, ◌==◌, ◌∙◌, ◌∷◌, ◌≡◌, ◌≤◌}
 use Rattle.mq_request.specs.declared.message.Reply.TheVariants as reply
-use Rattle.mq_client.specs.declared.held.Asked.TheVariants as asked
+use Rattle.mq_client.specs.declared.held.RecipientAnswer.TheVariants as asked
 use Rattle.mq_client.proofs.WaitingOff.{seq_of}
 use Rattle.mq_world.proofs.Basics.{sum_grows}
 use Rattle.mq_world.proofs.Ranges.{next_among, free_ask}
@@ -92,12 +92,12 @@ opened_let : (day : ℕ → ℕ) (F moment : ℕ) (login : List ℕ) (st : Stand
 opened_let day F moment login (Live h) n same f all = all (subst (λ x. F ≤ day x) (sym same) f)
 opened_let day F moment login st n same f all = omega arith
 
-let_here : IsSameAsItself → (s : Source) (H : List Entry) (n txn moment : ℕ) (login : List ℕ) (a : Asked) (h : Held) → (a ≡ asked.Granted → GrantedIn s H n txn moment login) → h.granted ≤ upto H (of_source s txn) n → (let_through a h).granted ≤ upto H (of_source s txn) (n + 1)
+let_here : IsSameAsItself → (s : Source) (H : List Entry) (n txn moment : ℕ) (login : List ℕ) (a : RecipientAnswer) (h : HeldTransaction) → (a ≡ asked.Granted → GrantedIn s H n txn moment login) → h.granted ≤ upto H (of_source s txn) n → (let_through a h).granted ≤ upto H (of_source s txn) (n + 1)
 let_here I s H n txn moment login asked.Granted h ground le = (let m = upto_grows I s H n txn moment login (ground refl) in omega (arith, le, m))
 let_here I s H n txn moment login a h ground le = (let m = upto_more H (of_source s txn) n in omega (arith, le, m))
 
 -- an ask that isn't refused is of the moment of its transaction
-opened_at : (moment : ℕ) (login : List ℕ) (o : Option Held) (live numbers waiting : ℕ) → refuses o live numbers waiting moment login ≡ false → (opened moment login o).moment ≡ moment
+opened_at : (moment : ℕ) (login : List ℕ) (o : Option HeldTransaction) (live numbers waiting : ℕ) → refuses o live numbers waiting moment login ≡ false → (opened moment login o).moment ≡ moment
 opened_at moment login None live numbers waiting free = refl
 opened_at moment login (Some h) live numbers waiting free =
     let same : is_other h moment login ≡ false = neither_first (is_other h moment login) _ free in
@@ -108,7 +108,7 @@ let_ask : (day : ℕ → ℕ) (F : ℕ) → IsSameAsItself → (s : Source) (H :
 let_ask day F I s H v txn moment login x g same_at ground all = λ t. elim (either (txn == t)) [
   | inr n ↦ rw n (λ f. (let a = all t f in let m = upto_more H (of_source s t) v.numbers in omega (arith, a, m)))
   | inl y ↦ (let same : txn ≡ t = number_is txn t y in
-      let o : Held = opened moment login (held_by (v.standing txn)) in
+      let o : HeldTransaction = opened moment login (held_by (v.standing txn)) in
       let here : F ≤ day (let_through (answer_of (x ∷ g)) o).moment → (let_through (answer_of (x ∷ g)) o).granted ≤ upto H (of_source s txn) (v.numbers + 1) = λ f. (
       let g' : F ≤ day moment = subst (λ z. F ≤ day z) (let_through_at (answer_of (x ∷ g)) o ∙ same_at) f in
       let b = opened_let day F moment login (v.standing txn) (upto H (of_source s txn) v.numbers) same_at g' (all txn) in
@@ -117,11 +117,11 @@ let_ask day F I s H v txn moment login x g same_at ground all = λ t. elim (eith
       rw y (subst G same here))
 ]
 
-held_let : (st : Standing) (h : Held) → held_by st ≡ Some h → (let_at st ≡ h.granted) × (at_of st ≡ h.moment)
-held_let (Live k) h e = (ap (λ (x : Held). x.granted) (some_is k h e), ap (λ (x : Held). x.moment) (some_is k h e))
+held_let : (st : Standing) (h : HeldTransaction) → held_by st ≡ Some h → (let_at st ≡ h.granted) × (at_of st ≡ h.moment)
+held_let (Live k) h e = (ap (λ (x : HeldTransaction). x.granted) (some_is k h e), ap (λ (x : HeldTransaction). x.moment) (some_is k h e))
 held_let st h e = absurd (none_some h e)
 
-let_close : (day : ℕ → ℕ) (F : ℕ) (s : Source) (H : List Entry) (v : View) (txn : ℕ) (end : CloseEnd) (g : List Exchange) (o : Option Held) → held_by (v.standing txn) ≡ o → AllLet day F s H v → AllLet day F s H (after_close s txn end g v o)
+let_close : (day : ℕ → ℕ) (F : ℕ) (s : Source) (H : List Entry) (v : View) (txn : ℕ) (end : CloseEnd) (g : List Exchange) (o : Option HeldTransaction) → held_by (v.standing txn) ≡ o → AllLet day F s H v → AllLet day F s H (after_close s txn end g v o)
 let_close day F s H v txn end g None e all = all
 let_close day F s H v txn end g (Some h) e all = λ t. elim (either (txn == t)) [
   | inr n ↦ rw n (λ f. (let a = all t f in let m = upto_more H (of_source s t) v.numbers in omega (arith, a, m)))

@@ -1,9 +1,9 @@
 -- What a run sends is in range, where its asks are.
-use Rattle.mq_world.proofs.Words.{Action, AllByRecursion, AreUnderway, Ask, Asked, Bool, Close, CloseEnd, ComeInTurn, Drain, Exchange, Held, In, IsBounded, IsHost, IsId, IsLogin, IsMoment, IsOrdinal, IsRequest, IsRun, IsWithin, List, Live, None, Option, Release, Request, Settle, Some, Source}
+use Rattle.mq_world.proofs.Words.{Action, AllByRecursion, AreUnderway, Ask, RecipientAnswer, Bool, Close, CloseEnd, ComeInTurn, Drain, Exchange, HeldTransaction, In, IsBounded, IsHost, IsId, IsLogin, IsMoment, IsOrdinal, IsRequest, IsRun, IsWithin, List, Live, None, Option, Release, Request, Settle, Some, Source}
 use Rattle.mq_world.proofs.Words.{Standing, Step, View, [], after, after_ask, after_close, all_at, all_drop, all_push, answer_of, ap, arith, between, closing_of, decisions, either, failures, false, first_so, held_by, held_for, id_of, if◌then◌else◌, inl, inr, is_commit, is_other, lacks_numbers}
 use Rattle.mq_world.proofs.Words.{le_of, length, let_through, nat_le, nat_tests, neither_first, neither_second, next, next_of, none_some, number_is, opened, queue_of, refl, refuses, reserve_of, second_so, slice_get, some_is, subst, tries_in, true, view, ℕ, ◌&&◌, ◌+◌, ◌<◌, ◌==◌, ◌∷◌, ◌≡◌}
 use Rattle.mq_client.specs.Held.{IsHeld}
-use Rattle.mq_client.specs.declared.held.Asked.TheVariants as asked
+use Rattle.mq_client.specs.declared.held.RecipientAnswer.TheVariants as asked
 use Rattle.mq_world.specs.World.{begun}
 use Rattle.mq_world.proofs.Basics.{in_get}
 
@@ -21,7 +21,7 @@ abbrev pub AreAsked : List Step → Type 0
 AreAsked P = AllByRecursion (λ x. IsAsked x.action) P
 
 pub record IsRanged (v : View) : Type 0 where
-  pub held : (t : ℕ) (h : Held) → v.standing t ≡ Live h → IsHeld t h
+  pub held : (t : ℕ) (h : HeldTransaction) → v.standing t ≡ Live h → IsHeld t h
   pub waiting : AllByRecursion IsRequest v.waiting
 
 -- ---- the next request is one of the queue
@@ -44,7 +44,7 @@ free_ask false r q (inr i) = absurd i
 is_id : (s : Source) (n : ℕ) → IsHost s.host → IsRun s.run → n < 4294967295 → IsId (id_of s (n + 1))
 is_id s n h r less = record { host = h; run = r; number = record { from = omega arith; to = omega (arith, less) } }
 
-closing_in_range : (s : Source) (n txn : ℕ) (end : CloseEnd) (h : Held) → IsHost s.host → IsRun s.run → n < 4294967295 → IsHeld txn h → IsRequest (closing_of s (n + 1) txn end h)
+closing_in_range : (s : Source) (n txn : ℕ) (end : CloseEnd) (h : HeldTransaction) → IsHost s.host → IsRun s.run → n < 4294967295 → IsHeld txn h → IsRequest (closing_of s (n + 1) txn end h)
 closing_in_range s n txn end h host run less i = by_kind (is_commit end) (nat_le 1 h.granted) refl
   where
     by_kind : (b c : Bool) → nat_le 1 h.granted ≡ c → IsRequest (if b && c then Settle (id_of s (n + 1)) txn h.moment h.login h.granted else Release (id_of s (n + 1)) txn h.moment h.login)
@@ -54,15 +54,15 @@ closing_in_range s n txn end h host run less i = by_kind (is_commit end) (nat_le
 
 -- ---- steps
 
-let_held : (txn : ℕ) (a : Asked) (h : Held) → IsOrdinal txn → IsMoment h.moment → IsLogin h.login → h.granted < 1000 → IsHeld txn (let_through a h)
+let_held : (txn : ℕ) (a : RecipientAnswer) (h : HeldTransaction) → IsOrdinal txn → IsMoment h.moment → IsLogin h.login → h.granted < 1000 → IsHeld txn (let_through a h)
 let_held txn asked.Granted h t m l g = record { number = t; moment = m; login = l; granted = omega (arith, g) }
 let_held txn a h t m l g = record { number = t; moment = m; login = l; granted = omega (arith, g) }
 
-held_by_live : (st : Standing) (h : Held) → held_by st ≡ Some h → st ≡ Live h
+held_by_live : (st : Standing) (h : HeldTransaction) → held_by st ≡ Some h → st ≡ Live h
 held_by_live (Live k) h e = ap Live (some_is k h e)
 held_by_live st h e = absurd (none_some h e)
 
-asked_held : (txn moment : ℕ) (login : List ℕ) (answer : Asked) (o : Option Held) (live numbers waiting : ℕ) → IsOrdinal txn × IsMoment moment × IsLogin login → ((h : Held) → o ≡ Some h → IsHeld txn h) → refuses o live numbers waiting moment login ≡ false → IsHeld txn (let_through answer (opened moment login o))
+asked_held : (txn moment : ℕ) (login : List ℕ) (answer : RecipientAnswer) (o : Option HeldTransaction) (live numbers waiting : ℕ) → IsOrdinal txn × IsMoment moment × IsLogin login → ((h : HeldTransaction) → o ≡ Some h → IsHeld txn h) → refuses o live numbers waiting moment login ≡ false → IsHeld txn (let_through answer (opened moment login o))
 asked_held txn moment login answer None live numbers waiting i held free = let_held txn answer (opened moment login None) i.0 i.1 i.2 (omega arith)
 asked_held txn moment login answer (Some h) live numbers waiting i held free =
     let k = held h refl in
@@ -72,7 +72,7 @@ asked_held txn moment login answer (Some h) live numbers waiting i held free =
 ranged_ask : (s : Source) (tries txn moment : ℕ) (login : List ℕ) (x : Exchange) (g : List Exchange) (v : View) → IsOrdinal txn × IsMoment moment × IsLogin login → ComeInTurn tries (queue_of s v (held_for v (Ask txn moment login)) (Ask txn moment login)) (x ∷ g) → IsRanged v → IsRanged (after_ask txn moment login (x ∷ g) v)
 ranged_ask s tries txn moment login x g v i turns r =
     let free = (free_ask (refuses (held_by (v.standing txn)) (length v.live) v.numbers (length v.waiting) moment login) _ x.request (next_among tries _ g x.request turns.0)).0 in
-    let old = λ (h : Held) (e : held_by (v.standing txn) ≡ Some h). r.held txn h (held_by_live (v.standing txn) h e) in
+    let old = λ (h : HeldTransaction) (e : held_by (v.standing txn) ≡ Some h). r.held txn h (held_by_live (v.standing txn) h e) in
     let new : IsHeld txn (let_through (answer_of (x ∷ g)) (opened moment login (held_by (v.standing txn)))) = asked_held txn moment login (answer_of (x ∷ g)) (held_by (v.standing txn)) (length v.live) v.numbers (length v.waiting) i old free in
     record {
       held = λ t h e. elim (either (txn == t)) [
@@ -85,7 +85,7 @@ ranged_ask s tries txn moment login x g v i turns r =
       waiting = r.waiting;
     }
 
-ranged_close : (s : Source) (txn : ℕ) (end : CloseEnd) (g : List Exchange) (v : View) (o : Option Held) → held_by (v.standing txn) ≡ o → IsHost s.host → IsRun s.run → ((h : Held) → o ≡ Some h → v.numbers < 4294967295) → IsRanged v → IsRanged (after_close s txn end g v o)
+ranged_close : (s : Source) (txn : ℕ) (end : CloseEnd) (g : List Exchange) (v : View) (o : Option HeldTransaction) → held_by (v.standing txn) ≡ o → IsHost s.host → IsRun s.run → ((h : HeldTransaction) → o ≡ Some h → v.numbers < 4294967295) → IsRanged v → IsRanged (after_close s txn end g v o)
 ranged_close s txn end g v None is host run less r = r
 ranged_close s txn end g v (Some h) is host run less r =
     let old : IsHeld txn h = r.held txn h (held_by_live (v.standing txn) h is) in
@@ -98,7 +98,7 @@ ranged_close s txn end g v (Some h) is host run less r =
     }
 
 -- a close of a live transaction has a number left
-close_number : (s : Source) (txn : ℕ) (end : CloseEnd) (v : View) (o : Option Held) → IsBounded (after_close s txn end [] v o) → (h : Held) → o ≡ Some h → v.numbers < 4294967295
+close_number : (s : Source) (txn : ℕ) (end : CloseEnd) (v : View) (o : Option HeldTransaction) → IsBounded (after_close s txn end [] v o) → (h : HeldTransaction) → o ≡ Some h → v.numbers < 4294967295
 close_number s txn end v None b h e = absurd (none_some h e)
 close_number s txn end v (Some k) b h e = let n = b.numbers in omega (arith, n)
 
@@ -124,7 +124,7 @@ next_ask s tries txn moment login g v q host run i less e =
     let r : IsRequest (reserve_of s (v.numbers + 1) txn moment login) = (is_id s v.numbers host run less, i.0, i.1, i.2, record { from = omega arith; to = omega arith }) in
     subst IsRequest f.1 r
 
-next_close : (s : Source) (tries txn : ℕ) (end : CloseEnd) (g : List Exchange) (v : View) (o : Option Held) (q : Request) → held_by (v.standing txn) ≡ o → IsHost s.host → IsRun s.run → ((h : Held) → o ≡ Some h → v.numbers < 4294967295) → IsRanged v → next_of tries (queue_of s v o (Close txn end)) g ≡ Some q → IsRequest q
+next_close : (s : Source) (tries txn : ℕ) (end : CloseEnd) (g : List Exchange) (v : View) (o : Option HeldTransaction) (q : Request) → held_by (v.standing txn) ≡ o → IsHost s.host → IsRun s.run → ((h : HeldTransaction) → o ≡ Some h → v.numbers < 4294967295) → IsRanged v → next_of tries (queue_of s v o (Close txn end)) g ≡ Some q → IsRequest q
 next_close s tries txn end g v None q is host run less r e = absurd (next_among tries [] g q e)
 next_close s tries txn end g v (Some h) q is host run less r e =
     let old : IsHeld txn h = r.held txn h (held_by_live (v.standing txn) h is) in

@@ -1,10 +1,10 @@
 -- One run against any others.
-use Rattle.mq_world.proofs.Words.{Action, AreUnderway, Ask, Bool, Down, Entry, Exchange, Faulted, Id, In, IsDecision, IsHost, IsNumbered, IsReply, IsRequest, IsRun, Limit, List, ListRequest, None, NoneReturns, Option, Outcome, Release, RepliesSuit, Reply, Request, Reserve, Retire, Settle, Some}
+use Rattle.mq_world.proofs.Words.{Action, AreUnderway, Ask, Bool, Down, Entry, Exchange, Faulted, Id, In, IsDecision, IsHost, IsNumbered, IsReply, IsRequest, IsRun, Limit, List, ListRequest, None, NoneReturns, Option, ExchangeOutcome, Release, RepliesSuit, Reply, Request, Reserve, Retire, Settle, Some}
 use Rattle.mq_world.proofs.Words.{Source, Step, Usage, View, [], answer_by, answer_of, answers_closing, answers_reserve, ap, arith, clash, decides, false, frame, held_by, id_in, id_of, inl, inr, length, moment_of, next, none_some, one_request, refl, refuses, reply_body, request_body, request_frame}
 use Rattle.mq_world.proofs.Words.{reserve_of, subst, sym, tries_in, true, view, ℕ, ◌+◌, ◌<◌, ◌∙◌, ◌∷◌, ◌≡◌, ◌≤◌, ◌⊎◌}
 use Rattle.mq_request.specs.declared.message.Reply.TheVariants as reply
 use Rattle.mq_link.specs.Link.{Brings}
-use Rattle.mq_client.specs.declared.held.Asked.TheVariants as asked
+use Rattle.mq_client.specs.declared.held.RecipientAnswer.TheVariants as asked
 use Rattle.mq_world.specs.World.{begun, with_exchange}
 use Rattle.mq_world.proofs.Known.{OfFrames, OfClients}
 use Rattle.mq_world.proofs.Numbers.{IsOwn, numbered_own, begun_numbered, more_numbered, ended_numbered}
@@ -191,7 +191,7 @@ sends_on {day = day} {F = since} F C s tries P H sent written a g quiet q e h =
 -- ---- an exchange ends
 
 -- a reply that the exchange brings, and that decides the request, was written
-abbrev pub Comes : (written : List (List ℕ)) → Request → Outcome → Type 0
+abbrev pub Comes : (written : List (List ℕ)) → Request → ExchangeOutcome → Type 0
 Comes written q o = (a : Reply) → Brings o a → decides q a ≡ true → In (frame (reply_body a)) written × IsReply a
 
 -- an answer Granted comes of a reply Granted

@@ -1,5 +1,5 @@
 -- A ledger takes a request.
-use Rattle.mq_world.proofs.Words.{Bool, CloseEnd, Closed, Entry, Held, Id, In, IsNumbered, IsReply, IsRequest, List, Live, Never, Release, RepliesSuit, Reply, Request, Reserve, Settle, Some, Source, Standing, Step, Suits, Transaction, [], answer, ap, appended, clash, closes, closing_of, counted}
+use Rattle.mq_world.proofs.Words.{Bool, CloseEnd, Closed, Entry, HeldTransaction, Id, In, IsNumbered, IsReply, IsRequest, List, Live, Never, Release, RepliesSuit, Reply, Request, Reserve, Settle, Some, Source, Standing, Step, Suits, Transaction, [], answer, ap, appended, clash, closes, closing_of, counted}
 use Rattle.mq_world.proofs.Words.{either, ended, false, first_so, frame, id_in, id_of, if◌then◌else◌, inl, inr, is_commit, is_of, ledger_id, moment_of, nat_le, refl, reply_body, request_body, reserve_of, same_transaction, second_so, subst, sym, transaction, true, txn_in, view, ℕ, ◌&&◌, ◌++◌, ◌∙◌}
 use Rattle.mq_world.proofs.Words.{◌∷◌, ◌≡◌, ◌⊎◌}
 use Rattle.mq_request.specs.declared.message.Reply.TheVariants as reply
@@ -47,7 +47,7 @@ entry_suits C L s tries P H sent written h t e i mine =
 -- ---- all requests of a transaction are of its moment
 
 -- what holds of a settle and of a release, holds of a closing
-pub closing_kinds : (P : Request → Type 0) (s : Source) (n t : ℕ) (end : CloseEnd) (h : Held) → P (Settle (id_of s n) t h.moment h.login h.granted) → P (Release (id_of s n) t h.moment h.login) → P (closing_of s n t end h)
+pub closing_kinds : (P : Request → Type 0) (s : Source) (n t : ℕ) (end : CloseEnd) (h : HeldTransaction) → P (Settle (id_of s n) t h.moment h.login h.granted) → P (Release (id_of s n) t h.moment h.login) → P (closing_of s n t end h)
 closing_kinds P s n t end h settle release = by_kind (is_commit end && nat_le 1 h.granted)
   where
     by_kind : (b : Bool) → P (if b then Settle (id_of s n) t h.moment h.login h.granted else Release (id_of s n) t h.moment h.login)
@@ -94,7 +94,7 @@ not_ended H t none = elim (either (ended H t)) [
 pub closes_not : (r : Request) (a : Reply) → RepliesSuit r a → is_closing r ≡ false → closes a ≡ false
 closes_not r a h n = elim (either (closes a)) [ inr f ↦ f | inl y ↦ absurd (clash (is_closing r) (closes_closing r a h y) n) ]
 
-pub reserve_closes : (s : Source) (n t : ℕ) (h : Held) (q : Request) → q ≡ reserve_of s n t h.moment h.login → is_closing q ≡ false
+pub reserve_closes : (s : Source) (n t : ℕ) (h : HeldTransaction) (q : Request) → q ≡ reserve_of s n t h.moment h.login → is_closing q ≡ false
 unfolding is_closing
 reserve_closes s n t h q e = ap is_closing e
 

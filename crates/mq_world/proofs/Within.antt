@@ -1,10 +1,10 @@
 -- What was let through is held or settled by the ledgers together: of a transaction, and of a login and day.
-use Rattle.mq_world.proofs.Words.{Action, AllByRecursion, AreDistinct, AreUnderway, Ask, Book, Bool, Close, CloseEnd, Closed, Drain, Entry, Exchange, Held, In, IsLegalBook, List, Live, Never, None, NoneReturns, Option, Reply, Request, Some, Source, Standing, Step, Suits, Transaction, View, Zone, []}
+use Rattle.mq_world.proofs.Words.{Action, AllByRecursion, AreDistinct, AreUnderway, Ask, Book, Bool, Close, CloseEnd, Closed, Drain, Entry, Exchange, HeldTransaction, In, IsLegalBook, List, Live, Never, None, NoneReturns, Option, Reply, Request, Some, Source, Standing, Step, Suits, Transaction, View, Zone, []}
 use Rattle.mq_world.proofs.Words.{after, after_ask, after_close, answer_by, answer_of, ap, arith, both_so, clash, closes, closing_of, counted, counted_in, day_of, decisions, either, ended_not, failures, false, first_so, granted, granted_in, held, held_by, held_on, if◌then◌else◌, inl, inr, is_closed}
 use Rattle.mq_world.proofs.Words.{is_for, is_of, is_some, length, let_through, list_any, named, names_for, nat_le, nat_tests, next_of, none_some, number_is, opened, option_cases, refl, refuses, reserve_of, same_text, second_so, settled_in, settled_on, slice_get, some_is, subst, suc, sum_by}
 use Rattle.mq_world.proofs.Words.{sum_by-append, sum_by-cons, sum_by-le-sum_by, sym, tries_in, true, view, zero, zero_or_more, ℕ, ◌&&◌, ◌+◌, ◌<◌, ◌==◌, ◌∙◌, ◌∷◌, ◌≡◌, ◌≤◌, ◌⊎◌}
 use Rattle.mq_track.specs.declared.closing.CloseEnd.TheVariants as ending
-use Rattle.mq_client.specs.declared.held.Asked.TheVariants as asked
+use Rattle.mq_client.specs.declared.held.RecipientAnswer.TheVariants as asked
 use Rattle.mq_world.specs.World.{with_exchange}
 use Rattle.mq_world.specs.Law.{counting, granted_of, let_by, is_on, let_on}
 use Rattle.mq_world.specs.Together.{kept_of, used_of, cap_of}
@@ -56,7 +56,7 @@ counts_ask tries txn moment login r q b (x ∷ g) v fresh_one e t = elim (either
       rw y (inr (ap (λ a. Some (let_through a (opened moment login (held_by (v.standing txn))))) none)))
 ]
 
-counts_close : (s : Source) (txn : ℕ) (end : CloseEnd) (g : List Exchange) (q : Request) (v : View) (o : Option Held) (t : ℕ) → Counts ((after_close s txn end g v o).standing t) ((after_close s txn end (failing q ∷ g) v o).standing t)
+counts_close : (s : Source) (txn : ℕ) (end : CloseEnd) (g : List Exchange) (q : Request) (v : View) (o : Option HeldTransaction) (t : ℕ) → Counts ((after_close s txn end g v o).standing t) ((after_close s txn end (failing q ∷ g) v o).standing t)
 counts_close s txn end g q v None t = inr refl
 counts_close s txn end g q v (Some h) t = inr refl
 
@@ -89,14 +89,14 @@ kept_each L (b ∷ bs) t each =
     let parts = sum_by-append (λ e. if is_of t e.request then granted e.request e.reply else 0) b.history (pool bs) in
     omega (arith, kept, rest, parts, sum_by-cons (kept_of t) b bs)
 
-closing_count : (s : Source) (n t : ℕ) (k : Held) → is_settle (closing_of s n t ending.Commit k) ≡ true → count_of (closing_of s n t ending.Commit k) ≡ k.granted
+closing_count : (s : Source) (n t : ℕ) (k : HeldTransaction) → is_settle (closing_of s n t ending.Commit k) ≡ true → count_of (closing_of s n t ending.Commit k) ≡ k.granted
 closing_count s n t k = closing_kinds (λ r. is_settle r ≡ true → count_of r ≡ k.granted) s n t ending.Commit k (λ y. refl) (λ y. absurd (clash false y refl))
 
-closing_settle : (s : Source) (n t : ℕ) (k : Held) → 0 < k.granted → is_settle (closing_of s n t ending.Commit k) ≡ true
+closing_settle : (s : Source) (n t : ℕ) (k : HeldTransaction) → 0 < k.granted → is_settle (closing_of s n t ending.Commit k) ≡ true
 closing_settle s n t k some = let one : nat_le 1 k.granted ≡ true = grind (arith, nat_tests, some) in rw one refl
 
 -- a ledger that closed a committed transaction settled all that was let through, by whichever ledgers
-closed_each : (s : Source) (bs : List Book) → AllSuit (pool bs) → (t number : ℕ) (k : Held) (e : Entry) → 0 < k.granted → In e (pool bs) → is_of (of_source s t) e.request ≡ true → closes e.reply ≡ true
+closed_each : (s : Source) (bs : List Book) → AllSuit (pool bs) → (t number : ℕ) (k : HeldTransaction) (e : Entry) → 0 < k.granted → In e (pool bs) → is_of (of_source s t) e.request ≡ true → closes e.reply ≡ true
     → SuitsUnder s t (Closed ending.Commit number k) e.request → k.granted ≤ sum_by (kept_of (of_source s t)) bs
 closed_each s bs suits t number k e some i mine shut u = by_suits u.suits
   where
@@ -213,9 +213,9 @@ by_from st now n (inr same) le = (let e : let_by st ≡ let_by now = ap granted_
 
 -- ---- the day of what counts
 
-pub counting_at : (st : Standing) (h : Held) → counting st ≡ Some h → at_of st ≡ h.moment
-counting_at (Live k) h e = ap (λ (x : Held). x.moment) (some_is k h e)
-counting_at (Closed ending.Commit number k) h e = ap (λ (x : Held). x.moment) (some_is k h e)
+pub counting_at : (st : Standing) (h : HeldTransaction) → counting st ≡ Some h → at_of st ≡ h.moment
+counting_at (Live k) h e = ap (λ (x : HeldTransaction). x.moment) (some_is k h e)
+counting_at (Closed ending.Commit number k) h e = ap (λ (x : HeldTransaction). x.moment) (some_is k h e)
 counting_at st h e = absurd (none_some h e)
 
 pub on_at : (day : ℕ → ℕ) (l : List ℕ) (d : ℕ) (st : Standing) → is_on day l d (counting st) ≡ true → day (at_of st) ≡ d
@@ -224,6 +224,6 @@ on_at day l d (Closed ending.Commit number k) on = number_is (day k.moment) d (s
 on_at day l d st on = absurd (clash false on refl)
 
 -- what counted before an exchange that is on its way
-pub counts_at : (st now : Standing) (n : ℕ) (h : Held) → Counts st now → counting st ≡ Some h → (at_of now ≡ h.moment → let_by now ≤ n) → let_by st ≤ n
+pub counts_at : (st now : Standing) (n : ℕ) (h : HeldTransaction) → Counts st now → counting st ≡ Some h → (at_of now ≡ h.moment → let_by now ≤ n) → let_by st ≤ n
 counts_at st now n h (inl z) is le = omega (arith, z)
 counts_at st now n h (inr same) is le = by_from st now n (inr same) (le (counting_at now h (sym same ∙ is)))

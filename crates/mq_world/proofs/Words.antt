@@ -17,9 +17,9 @@ pub use Rattle.mq_client.specs.Past.{after_ask, after_close, answer_by, answer_o
 pub use Rattle.mq_client.specs.Reading.{numbers_in, standing_in, takes_number}
 pub use Rattle.mq_client.specs.Run.{AfterReady, BeforeReady, EndsWith, Goes, HasText, IsInHand, IsReady, Outside, Stage, StopsAt}
 pub use Rattle.mq_client.specs.Turns.{AreUnderway, ComeInTurn, IsUnderway, failures, next, next_of, queue_of}
-pub use Rattle.mq_client.specs.declared.filter.Ended.{Ended}
-pub use Rattle.mq_client.specs.declared.held.Asked.{Asked}
-pub use Rattle.mq_client.specs.declared.held.Held.{Held}
+pub use Rattle.mq_client.specs.declared.filter.RunEnd.{RunEnd}
+pub use Rattle.mq_client.specs.declared.held.RecipientAnswer.{RecipientAnswer}
+pub use Rattle.mq_client.specs.declared.held.HeldTransaction.{HeldTransaction}
 pub use Rattle.mq_forget.specs.Remembered.{day_named, is_about, is_set, moment_of, remembered, stays}
 pub use Rattle.mq_frame.specs.Spelling.{SpellsReply, SpellsRequest, frame, reply_body, request_body, request_frame}
 pub use Rattle.mq_ledger.specs.Answer.{answer, appended, history_of, reply, reply as ledger_reply, reply_by, reply_to, stored, with_arrival, with_arrival_by}
@@ -39,8 +39,8 @@ pub use Rattle.mq_lemmas.proofs.Numbers.{le_of, number_is, number_itself, zero_o
 pub use Rattle.mq_lemmas.proofs.Options.{none_some, option_cases, some_is}
 pub use Rattle.mq_line.specs.Grammar.{FilterLine, IsStamp, Meaning, Reads as IsRead, ReportLine}
 pub use Rattle.mq_link.specs.declared.link.LinkFault.TheVariants.{Down, TimedOut}
-pub use Rattle.mq_link.specs.declared.link.Outcome.{Outcome}
-pub use Rattle.mq_link.specs.declared.link.Outcome.TheVariants.{Answered, Faulted}
+pub use Rattle.mq_link.specs.declared.link.ExchangeOutcome.{ExchangeOutcome}
+pub use Rattle.mq_link.specs.declared.link.ExchangeOutcome.TheVariants.{Answered, Faulted}
 pub use Rattle.mq_request.specs.Range.{IsAmount, IsCount, IsHost, IsHostByte, IsId, IsLogin, IsMoment, IsOrdinal, IsReply, IsRequest, IsRun, IsWithin, between}
 pub use Rattle.mq_request.specs.Same.{same_id, same_request, same_text}
 pub use Rattle.mq_request.specs.declared.message.Id.{Id}

@@ -16,12 +16,12 @@ use Rattle.mq_ledger.specs.Sums.{AreDistinct}
 use Rattle.mq_client.specs.Exchanges.{Exchange, decides}
 use Rattle.mq_client.specs.Past.{Source, Step, drained, view}
 use Rattle.mq_client.specs.Run.{Outside, EndsWith}
-use Rattle.mq_client.specs.declared.filter.Ended.{Ended}
+use Rattle.mq_client.specs.declared.filter.RunEnd.{RunEnd}
 use Rattle.mq_client.specs.Numbered.{exchanges_in}
 use Rattle.mq_link.specs.declared.link.LinkFault.{LinkFault}
-use Rattle.mq_link.specs.declared.link.Outcome.TheVariants.{Answered, Faulted}
+use Rattle.mq_link.specs.declared.link.ExchangeOutcome.TheVariants.{Answered, Faulted}
 use Rattle.mq_world.specs.World.{Site, World, IsStart, Next, Reaches, with_run, after_exchange, same_source, source_of}
-use Rattle.mq_client.specs.declared.held.Held.{Held}
+use Rattle.mq_client.specs.declared.held.HeldTransaction.{HeldTransaction}
 use Rattle.mq_world.specs.Law.{run_of, standing_of, counting, let_by, let_together}
 use Rattle.mq_world.specs.Running.{ran, GoesOnAround, IsNew}
 use Rattle.mq_world.specs.Forgetting.{forgotten, ReachesForgetting}
@@ -174,7 +174,7 @@ pub record WentOnThoughForgotten (site : Site) (start w : World) : Type 0 where
   pub reached : ReachesForgetting site start day now
   pub transaction : Transaction
   pub same_run : run_of transaction ≡ run_of earlier
-  pub asked : Held
+  pub asked : HeldTransaction
   pub counts : counting (standing_of now transaction) ≡ Some asked
   pub is_one : asked.granted ≡ 1
   pub is_first_day : day_of now.ledger.zone asked.moment ≡ day
@@ -202,7 +202,7 @@ pub record HasRunToItsEnd (site : Site) (start w : World) : Type 0 where
   pub before : Outside
   pub bytes : List ℕ
   pub after : Outside
-  pub ended : Ended
+  pub ended : RunEnd
   pub ends : EndsWith before bytes after ended
   pub is_new : IsNew site start (run_of transaction) before.client
   pub later : World
@@ -228,7 +228,7 @@ pub record IsReachableTogether (a b : Book) (Happened : Site → (start c : Toge
 pub record WasSplit (site : Site) (start c : Together) : Type 0 where
   pub transaction : Transaction
   pub is_run : site.is_run (run_of transaction) ≡ true
-  pub asked : Held
+  pub asked : HeldTransaction
   pub counts : counting (standing_of c.world transaction) ≡ Some asked
   pub are_two : asked.granted ≡ 2
   pub closing : Request

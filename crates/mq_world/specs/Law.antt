@@ -7,7 +7,7 @@ use Rattle.mq_client.specs.Past.{Source, Action, Drain, Step, Standing, Never, L
 use Rattle.mq_client.specs.Filter.{actions, actions_of}
 use Rattle.mq_client.specs.Turns.{AreUnderway}
 use Rattle.mq_client.specs.Reading.{standing_in}
-use Rattle.mq_client.specs.declared.held.Held.{Held}
+use Rattle.mq_client.specs.declared.held.HeldTransaction.{HeldTransaction}
 use Rattle.mq_world.specs.World.{Run, World}
 
 -- the run that a transaction is of
@@ -19,13 +19,13 @@ abbrev pub standing_of : World → Transaction → Standing
 standing_of w t = standing_in (w.runs (run_of t)).past t.txn
 
 -- a transaction that is live, or whose last close that found it live was a commit
-abbrev pub counting : Standing → Option Held
+abbrev pub counting : Standing → Option HeldTransaction
 counting Never = None
 counting (Live h) = Some h
 counting (Closed end number h) = if is_commit end then Some h else None
 
 -- recipients that were let through, and 0 where none count
-abbrev pub granted_of : Option Held → ℕ
+abbrev pub granted_of : Option HeldTransaction → ℕ
 granted_of None = 0
 granted_of (Some h) = h.granted
 
@@ -34,7 +34,7 @@ abbrev pub let_by : Standing → ℕ
 let_by st = granted_of (counting st)
 
 -- it is known to be of that login and to have begun on that day
-abbrev pub is_on : (ℕ → ℕ) → List ℕ → ℕ → Option Held → Bool
+abbrev pub is_on : (ℕ → ℕ) → List ℕ → ℕ → Option HeldTransaction → Bool
 is_on day l d None = false
 is_on day l d (Some h) = same_text l h.login && (day h.moment == d)
 

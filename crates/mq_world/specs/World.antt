@@ -21,8 +21,8 @@ use Rattle.mq_client.specs.Past.{Source, Action, Drain, Step, IsPlayed}
 use Rattle.mq_client.specs.Turns.{next_in}
 use Rattle.mq_client.specs.Numbered.{id_in}
 use Rattle.mq_client.specs.Filter.{push, action_of}
-use Rattle.mq_link.specs.declared.link.Outcome.{Outcome}
-use Rattle.mq_link.specs.declared.link.Outcome.TheVariants.{Answered, Faulted}
+use Rattle.mq_link.specs.declared.link.ExchangeOutcome.{ExchangeOutcome}
+use Rattle.mq_link.specs.declared.link.ExchangeOutcome.TheVariants.{Answered, Faulted}
 
 -- which hosts and runs are those of filter runs, and how often each of them tries a request
 pub record Site : Type 0 where
@@ -157,7 +157,7 @@ after_stop r = record {
 }
 
 -- what an exchange may bring: a link fault, Retry, Bad, or any reply that was ever written, to anyone
-abbrev pub MayCome : List (List ℕ) → Outcome → Type 0
+abbrev pub MayCome : List (List ℕ) → ExchangeOutcome → Type 0
 MayCome written (Faulted fault) = Unit {0}
 MayCome written (Answered body) = (body ≡ reply_body Retry) ⊎ ((body ≡ reply_body Bad)
     ⊎ ((which : ℕ) × (slice_get written which ≡ Some (frame body))))

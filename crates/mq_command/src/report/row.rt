@@ -48,8 +48,10 @@ fn row_text(alloc: Global, row: &UsageRow) -> Result<String, AllocError>
 
 /// Writes the line of a login.
 pub fn write_row<W: Write>(alloc: Global, output: &mut W, row: &UsageRow) -> Result<(), OutputFault>
-    ensures whole { OnOk result (Appends (W.contents output.old) (W.contents output.new) (row_line row.now)) }
-    ensures front { AppendsFront (W.contents output.old) (W.contents output.new) (row_line row.now) }
+    ensures whole { OnOk result (Appends (W.contents output.old) (W.contents output.new)
+        (row_line row.now)) }
+    ensures front { AppendsFront (W.contents output.old) (W.contents output.new)
+        (row_line row.now) }
 {
     let line = row_text(alloc, row)?;
     write_whole(output, line.as_bytes())
@@ -61,8 +63,10 @@ pub fn write_rows<W: Write>(
     output: &mut W,
     rows: &[UsageRow],
 ) -> Result<(), OutputFault>
-    ensures whole { OnOk result (Appends (W.contents output.old) (W.contents output.new) (report_lines rows.now)) }
-    ensures front { AppendsFront (W.contents output.old) (W.contents output.new) (report_lines rows.now) }
+    ensures whole { OnOk result (Appends (W.contents output.old) (W.contents output.new)
+        (report_lines rows.now)) }
+    ensures front { AppendsFront (W.contents output.old) (W.contents output.new)
+        (report_lines rows.now) }
 {
     for row in rows {
         write_row(alloc, output, row)?;

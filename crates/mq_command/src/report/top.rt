@@ -12,8 +12,8 @@ fn used_of(row: &UsageRow) -> u64
     u64::from(row.settled) + u64::from(row.reserved)
 }
 
-/// So many of the rows at most: those that used most, most first. Of those that used the same the one that stands first goes
-/// first.
+/// So many of the rows at most: those that used most, most first. Of those that used the same the
+/// one that stands first goes first.
 pub fn top_of(rows: Vec<UsageRow>, count: usize) -> Result<Vec<UsageRow>, AllocError>
     ensures { IfOk result (λ top. IsTop count rows.items top.items) }
 {

@@ -17,10 +17,10 @@ mod stops;
 use crate::filter_end::asserts::{MEMORY, assert_bytes, assert_count, assert_that};
 use crate::filter_end::client::script::ScriptLink;
 use log::sink::Memory as Kept;
-use mq_client::{Client, Ended, FilterFault, Spans, run_filter};
-use mq_link::{LinkFault, Outcome, Told};
+use mq_client::{Client, FilterFault, RunEnd, Spans, run_filter};
+use mq_link::{ExchangeOutcome, LinkFault, ReportedExchange};
 use mq_request::{Bytes, Host, is_host};
-use mq_stream::{FromRead, Sink, Source, ToWrite};
+use mq_stream::{FromRead, Sink, Source, WriterSink};
 use std::alloc::Global;
 use std::collections::VecDeque;
 use std::process::Abort;
@@ -90,7 +90,8 @@ const PROCEEDS: &[&str] = &[REGISTRATION, PROCEED];
 
 const REFUSES: &[&str] = &[REGISTRATION, SERVICE];
 
-/// How an exchange ends: by a body of these hexadecimal digits, or by a fault. Or so many of them, each by a grant.
+/// How an exchange ends: by a body of these hexadecimal digits, or by a fault. Or so many of them,
+/// each by a grant.
 #[derive(Clone, Copy)]
 enum Reply<'a> {
     Body(&'a str),
@@ -130,7 +131,7 @@ fn joined(rt: &impl Abort, alloc: Global, parts: &[&str]) -> String {
     whole
 }
 
-fn add(rt: &impl Abort, script: &mut VecDeque<Outcome>, outcome: Outcome) {
+fn add(rt: &impl Abort, script: &mut VecDeque<ExchangeOutcome>, outcome: ExchangeOutcome) {
     script.push_back(outcome).expect(rt, MEMORY);
 }
 
@@ -138,7 +139,7 @@ fn add(rt: &impl Abort, script: &mut VecDeque<Outcome>, outcome: Outcome) {
 fn add_numbered(
     rt: &impl Abort,
     alloc: Global,
-    script: &mut VecDeque<Outcome>,
+    script: &mut VecDeque<ExchangeOutcome>,
     front: &str,
     number: u32,
     count: u32,
@@ -146,25 +147,30 @@ fn add_numbered(
     let mut body = bytes_of(rt, alloc, front);
     append(rt, &mut body, &number.to_be_bytes());
     append(rt, &mut body, &count.to_be_bytes());
-    add(rt, script, Outcome::Answered(Bytes::new(body)));
+    add(rt, script, ExchangeOutcome::Answered(Bytes::new(body)));
 }
 
 /// Adds the refusal of the request with that number, with 1 used of 1.
-fn add_full(rt: &impl Abort, alloc: Global, script: &mut VecDeque<Outcome>, number: u32) {
+fn add_full(rt: &impl Abort, alloc: Global, script: &mut VecDeque<ExchangeOutcome>, number: u32) {
     let mut body = bytes_of(rt, alloc, "82 036d7831 0000000000000001");
     for part in [number, 1, 1] {
         append(rt, &mut body, &part.to_be_bytes());
     }
-    add(rt, script, Outcome::Answered(Bytes::new(body)));
+    add(rt, script, ExchangeOutcome::Answered(Bytes::new(body)));
 }
 
-fn add_reply(rt: &impl Abort, alloc: Global, script: &mut VecDeque<Outcome>, reply: Reply<'_>) {
+fn add_reply(
+    rt: &impl Abort,
+    alloc: Global,
+    script: &mut VecDeque<ExchangeOutcome>,
+    reply: Reply<'_>,
+) {
     match reply {
         Reply::Body(text) => {
             let body = bytes_of(rt, alloc, text);
-            add(rt, script, Outcome::Answered(Bytes::new(body)));
+            add(rt, script, ExchangeOutcome::Answered(Bytes::new(body)));
         }
-        Reply::Fault(fault) => add(rt, script, Outcome::Faulted(fault)),
+        Reply::Fault(fault) => add(rt, script, ExchangeOutcome::Faulted(fault)),
         Reply::Transactions(last) => {
             for number in 1..=last {
                 add_numbered(rt, alloc, script, GRANT, number, 1);
@@ -229,20 +235,20 @@ fn rig_with(rt: &impl Abort, alloc: Global, row: &Row<'_>) -> Rig {
 }
 
 /// How a run ends.
-type End = Result<Ended, FilterFault>;
+type End = Result<RunEnd, FilterFault>;
 
 /// A run in which smtpd was answered once.
-const ONE_ANSWER: End = Ok(Ended {
+const ONE_ANSWER: End = Ok(RunEnd {
     answers: 1,
     left: 0,
 });
 
-const TWO_ANSWERS: End = Ok(Ended {
+const TWO_ANSWERS: End = Ok(RunEnd {
     answers: 2,
     left: 0,
 });
 
-const THREE_ANSWERS: End = Ok(Ended {
+const THREE_ANSWERS: End = Ok(RunEnd {
     answers: 3,
     left: 0,
 });
@@ -327,7 +333,7 @@ fn assert_run(rt: &impl Abort, alloc: Global, row: &Row<'_>, input: &str, output
 /// Runs the filter on this input, asserts how that ends, and gives what it wrote.
 fn written(rt: &impl Abort, alloc: Global, rig: &mut Rig, input: &[u8], row: &Row<'_>) -> Vec<u8> {
     let mut source = FromRead::new(input);
-    let mut sink = ToWrite::new(Vec::new(alloc));
+    let mut sink = WriterSink::new(Vec::new(alloc));
     let ended = run(alloc, rig, &mut source, &mut sink);
     assert_ended(rt, ended, row.ended, row.name);
     let _ = source.into_inner();
@@ -338,7 +344,7 @@ fn assert_ended(rt: &impl Abort, got: End, wanted: End, name: &str) {
     assert_eq!(rt; got, wanted, "{name}");
 }
 
-fn assert_sent(rt: &impl Abort, alloc: Global, kept: &[Told], sent: Sent<'_>) {
+fn assert_sent(rt: &impl Abort, alloc: Global, kept: &[ReportedExchange], sent: Sent<'_>) {
     match sent {
         Sent::Frames(frames) => assert_frames(rt, alloc, kept, frames),
         Sent::Count(count) => assert_count(rt, kept.len(), count, "exchanges"),
@@ -346,14 +352,14 @@ fn assert_sent(rt: &impl Abort, alloc: Global, kept: &[Told], sent: Sent<'_>) {
 }
 
 /// Asserts that the exchanges had these frames.
-fn assert_frames(rt: &impl Abort, alloc: Global, kept: &[Told], frames: &[&str]) {
+fn assert_frames(rt: &impl Abort, alloc: Global, kept: &[ReportedExchange], frames: &[&str]) {
     assert_count(rt, kept.len(), frames.len(), "exchanges");
     for (told, frame) in kept.iter().zip(frames) {
         assert_frame(rt, alloc, told, frame);
     }
 }
 
-fn assert_frame(rt: &impl Abort, alloc: Global, told: &Told, frame: &str) {
+fn assert_frame(rt: &impl Abort, alloc: Global, told: &ReportedExchange, frame: &str) {
     assert_bytes(rt, told.frame.as_slice(), &bytes_of(rt, alloc, frame));
 }
 

@@ -4,7 +4,7 @@ mod files;
 
 use crate::filter_end::asserts::{MEMORY, assert_text, printed};
 use mq_ledger::Zone;
-use mq_request::Escaped;
+use mq_request::EscapedText;
 use mq_settings::{FilterSettings, ServerSettings, read_filter_settings, read_server_settings};
 use std::alloc::Global;
 use std::process::Abort;
@@ -33,7 +33,7 @@ fn filter_outcome(rt: &impl Abort, alloc: Global, text: &[u8]) -> String {
 }
 
 fn filter_text(rt: &impl Abort, alloc: Global, settings: &FilterSettings) -> String {
-    let host = Escaped(settings.host.as_slice());
+    let host = EscapedText(settings.host.as_slice());
     let FilterSettings {
         server,
         tries,

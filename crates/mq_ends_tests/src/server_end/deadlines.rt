@@ -24,7 +24,8 @@ const BODY: &str = "81016100000000000000010000000100000001";
 /// At most so many bytes are written by one call: the frame of `RESERVE` takes three.
 const MOST: usize = 16;
 
-/// A clock, and what was waited for: each call of a connection takes its time, and is to be given just the rest of it.
+/// A clock, and what was waited for: each call of a connection takes its time, and is to be given
+/// just the rest of it.
 #[derive(Drop)]
 struct Course {
     millis: Cell<u64>,
@@ -158,7 +159,8 @@ fn brought<L: Link>(alloc: Global, link: &mut L, frame: &[u8]) -> Result<String,
     }
 }
 
-/// Milliseconds: the timeout, and how long a call takes that writes and one that reads; and what the exchange brings.
+/// Milliseconds: the timeout, and how long a call takes that writes and one that reads; and what
+/// the exchange brings.
 type Row<'a> = (u64, u64, u64, &'a str);
 
 const ROWS: &[Row<'static>] = &[

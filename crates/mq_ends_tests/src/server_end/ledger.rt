@@ -7,7 +7,8 @@ mod worked;
 use mq_ledger::{BadOffset, Ledger, PlainLedger, RuleFault, Zone};
 use std::process::Abort;
 
-/// Central Europe's rule: an hour ahead of UTC, and two from the last Sunday of March to that of October.
+/// Central Europe's rule: an hour ahead of UTC, and two from the last Sunday of March to that of
+/// October.
 const CENTRAL_EUROPE: &str = "CET-1CEST,M3.5.0,M10.5.0/3";
 
 /// The day of a moment where clocks are so many minutes ahead of UTC.

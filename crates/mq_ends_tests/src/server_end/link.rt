@@ -7,8 +7,8 @@ use crate::server_end::fixtures::bytes_of;
 use crate::server_end::server::RESERVE;
 use crate::server_end::serving::{ledger, run};
 use mq_link::{Connector, Link, LinkFault, TcpLink};
-use mq_server::Served;
-use mq_stream::{FromRead, ToWrite};
+use mq_server::EndCause;
+use mq_stream::{FromRead, WriterSink};
 use std::alloc::{AllocError, Global};
 use std::net::{Net, TcpListener};
 use std::process::Abort;
@@ -66,14 +66,15 @@ fn exchanged(alloc: Global, link: &mut Linked<'_>, frame: &[u8]) -> Result<Strin
     text_of(alloc, ended, reply.as_slice())
 }
 
-/// Serves the next connection over a new ledger whose logins may write to 3 recipients, to the end of its input.
+/// Serves the next connection over a new ledger whose logins may write to 3 recipients, to the end
+/// of its input.
 fn serve_next(rt: &impl Abort, alloc: Global, listener: &TcpListener) -> Result<(), Fail> {
     let (stream, _) = listener.accept()?;
     let mut ledger = ledger(rt, alloc, 3);
     let mut input = FromRead::new(&stream);
-    let mut output = ToWrite::new(&stream);
+    let mut output = WriterSink::new(&stream);
     match run(alloc, &mut input, &mut output, &mut ledger)? {
-        Served::InputEnd => Ok(()),
+        EndCause::InputEnd => Ok(()),
         _ => Err("not served".into()),
     }
 }

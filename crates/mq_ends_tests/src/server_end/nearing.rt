@@ -8,7 +8,7 @@ use crate::server_end::watching::{QUESTION_FAILED, Row, Shown, check_lines};
 use log::sink::Discard;
 use mq_ledger::{Ledger, LedgerFault};
 use mq_request::{Reply, Request, is_request};
-use mq_watch::Watched;
+use mq_watch::WatchedLedger;
 use std::alloc::Global;
 use std::cell::Cell;
 use std::process::Abort;
@@ -105,8 +105,8 @@ fn logins_near_their_limits(rt: HostRuntime) -> Result<(), Fail> {
     check_lines(&rt, alloc, ledger(&rt, alloc, 5), NEAR)
 }
 
-/// A reply that was given when a login was near its limit, and comes again after all of it was given back: what is used then
-/// is asked for, and isn't near.
+/// A reply that was given when a login was near its limit, and comes again after all of it was
+/// given back: what is used then is asked for, and isn't near.
 const GIVEN_BACK: &[Row<'_>] = &[
     (
         86_400,
@@ -209,7 +209,7 @@ fn a_lost_question_leaves_the_reply(rt: HostRuntime) -> Result<(), Fail> {
             calls_before: 1,
             fault,
         };
-        let mut watched = Watched::new(&clock, &Discard, alloc, failing);
+        let mut watched = WatchedLedger::new(&clock, &Discard, alloc, failing);
         let answer = answer_of(&rt, &mut watched, &reserve(&rt, alloc, b"u", 4));
         let granted = Reply::Granted {
             id: id(&rt, alloc, b"a", 1),

@@ -168,7 +168,8 @@ const ONE_OUTAGE: &[Case<'static>] = &[
     },
 ];
 
-/// Of outages less than a second after a line only the first is logged, and the next line counts the others.
+/// Of outages less than a second after a line only the first is logged, and the next line counts
+/// the others.
 const MANY_OUTAGES: &[Case<'static>] = &[
     Case {
         rows: &[

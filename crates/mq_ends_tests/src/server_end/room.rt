@@ -8,10 +8,10 @@ use crate::server_end::fixtures::bytes_of;
 use crate::server_end::serving::ledger;
 use log::sink::Discard;
 use mq_chore::NoChore;
-use mq_connections::{Ended, RoomFault};
+use mq_connections::{RoomFault, ServingEnd};
 use mq_ledger::{Ledger, LedgerFault, Zone};
 use mq_request::{Reply, Request};
-use mq_watch::Watched;
+use mq_watch::WatchedLedger;
 use network::{Peer, Peers, Ticking, serve_peers};
 use std::alloc::Global;
 use std::cell::Cell;
@@ -20,8 +20,9 @@ use std::process::Abort;
 use std::test::Fail;
 use std::time::Duration;
 
-/// What a peer sends, piece by piece, where an empty one says that the others have their turn; how many bytes of replies
-/// it takes at a time, after so many refusals; and all that it has taken in the end.
+/// What a peer sends, piece by piece, where an empty one says that the others have their turn; how
+/// many bytes of replies it takes at a time, after so many refusals; and all that it has taken in
+/// the end.
 type Row<'a> = (&'a [&'a str], usize, u32, &'a str);
 
 /// Recipients reserved for the login `u` under the numbers 1 to 4.
@@ -45,8 +46,8 @@ const HALF_HEAD: &str = "00";
 const AFTER_IT: &str =
     "21 01 0161 0000000000000001 00000004 00000001 0000000000015180 0175 00000001";
 
-/// Each asks in a turn of its own, whatever comes of the others in between: the ledger takes 1, 2, 4 and 3, and 3 is one
-/// too many. Halves of frames wait for their ends.
+/// Each asks in a turn of its own, whatever comes of the others in between: the ledger takes 1, 2,
+/// 4 and 3, and 3 is one too many. Halves of frames wait for their ends.
 const IN_TURNS: &[Row<'_>] = &[
     (
         &[FIRST, "", THIRD_BEGINS, "", "", THIRD_ENDS],
@@ -85,7 +86,8 @@ const REPLIES_WAIT: &[Row<'_>] = &[
     ),
 ];
 
-/// Two requests and what is none at once, of a peer that takes the replies bit by bit: it gets the last ones too.
+/// Two requests and what is none at once, of a peer that takes the replies bit by bit: it gets the
+/// last ones too.
 const LAST_REPLIES_WAIT: &[Row<'_>] = &[(
     &[
         "0021 01 0161 0000000000000001 00000001 00000001 0000000000015180 0175 00000001 \
@@ -102,8 +104,8 @@ const SECOND_AND_THIRD: &str = "\
     0021 01 0161 0000000000000001 00000002 00000001 0000000000015180 0175 00000001 \
     0021 01 0161 0000000000000001 00000003 00000001 0000000000015180 0175 00000001";
 
-/// The store fails at the third request: the replies before it go out as far as their peers take them, and nothing that
-/// comes after it is answered.
+/// The store fails at the third request: the replies before it go out as far as their peers take
+/// them, and nothing that comes after it is answered.
 const STORE_FAILS: &[Row<'_>] = &[
     (
         &[FIRST, "", "", SECOND],
@@ -162,14 +164,15 @@ fn peers_of(rt: &impl Abort, alloc: Global, rows: &[Row<'_>]) -> Result<Peers, F
     })
 }
 
-/// Serves the peers of these rows: it ends so, and each has taken just what it should. Where all are served each
-/// connection is closed and all that came on it was read, also after the peer was given up, so that its end comes in order.
+/// Serves the peers of these rows: it ends so, and each has taken just what it should. Where all
+/// are served each connection is closed and all that came on it was read, also after the peer was
+/// given up, so that its end comes in order.
 fn check_rows<L: Ledger + Drop>(
     rt: &impl Abort,
     alloc: Global,
     ledger: L,
     rows: &[Row<'_>],
-    end: Result<Ended, RoomFault>,
+    end: Result<ServingEnd, RoomFault>,
 ) -> Result<(), Fail> {
     let clock = Ticking(Cell::new(0));
     check_rows_by(rt, alloc, &clock, ledger, rows, end)
@@ -182,11 +185,11 @@ fn check_rows_by<L: Ledger + Drop>(
     clock: &Ticking,
     ledger: L,
     rows: &[Row<'_>],
-    end: Result<Ended, RoomFault>,
+    end: Result<ServingEnd, RoomFault>,
 ) -> Result<(), Fail> {
     let mut network = peers_of(rt, alloc, rows)?;
     let timeout = Duration::from_millis(1_000);
-    let mut watched = Watched::new(clock, &Discard, alloc, ledger);
+    let mut watched = WatchedLedger::new(clock, &Discard, alloc, ledger);
     let ended = serve_peers(
         clock,
         &Discard,
@@ -242,7 +245,8 @@ impl<L: Ledger> Ledger for Slow<'_, L> {
     }
 }
 
-/// The second peer's request comes while the ledger takes longer for the first one's than the timeout: it is answered.
+/// The second peer's request comes while the ledger takes longer for the first one's than the
+/// timeout: it is answered.
 const BEHIND_A_SLOW_ONE: &[Row<'_>] = &[
     (
         &[FIRST],
@@ -266,13 +270,26 @@ fn behind_a_slow_request(rt: HostRuntime) -> Result<(), Fail> {
         ledger: ledger(&rt, alloc, 3),
         clock: &clock,
     };
-    check_rows_by(&rt, alloc, &clock, slow, BEHIND_A_SLOW_ONE, Ok(Ended::Over))
+    check_rows_by(
+        &rt,
+        alloc,
+        &clock,
+        slow,
+        BEHIND_A_SLOW_ONE,
+        Ok(ServingEnd::Over),
+    )
 }
 
 #[test]
 fn connections_in_turns(rt: HostRuntime) -> Result<(), Fail> {
     let alloc = rt.alloc();
-    check_rows(&rt, alloc, ledger(&rt, alloc, 3), IN_TURNS, Ok(Ended::Over))
+    check_rows(
+        &rt,
+        alloc,
+        ledger(&rt, alloc, 3),
+        IN_TURNS,
+        Ok(ServingEnd::Over),
+    )
 }
 
 #[test]
@@ -283,7 +300,7 @@ fn replies_that_wait(rt: HostRuntime) -> Result<(), Fail> {
         alloc,
         ledger(&rt, alloc, 3),
         REPLIES_WAIT,
-        Ok(Ended::Over),
+        Ok(ServingEnd::Over),
     )
 }
 
@@ -291,7 +308,13 @@ fn replies_that_wait(rt: HostRuntime) -> Result<(), Fail> {
 fn last_replies_that_wait(rt: HostRuntime) -> Result<(), Fail> {
     let alloc = rt.alloc();
     let rows = LAST_REPLIES_WAIT;
-    check_rows(&rt, alloc, ledger(&rt, alloc, 3), rows, Ok(Ended::Over))
+    check_rows(
+        &rt,
+        alloc,
+        ledger(&rt, alloc, 3),
+        rows,
+        Ok(ServingEnd::Over),
+    )
 }
 
 #[test]

@@ -7,7 +7,7 @@ use crate::server_end::fixtures::{bytes_of, split};
 use crate::server_end::serving::{check_served, ledger, run};
 use devices::{Flushing, Pieces, Room, Telling, Watching};
 use mq_ledger::{Ledger, LedgerFault};
-use mq_server::{ConnectionEnd, ServeFault, Served, serve_all};
+use mq_server::{ConnectionEnd, EndCause, ServeFault, serve_all};
 use mq_stream::{Sink, Source};
 use std::alloc::Global;
 use std::cell::Cell;
@@ -77,7 +77,7 @@ fn check_connection(
     ledger: &mut impl Ledger,
     mut source: Pieces<'_>,
     mut sink: Room<'_>,
-    end: Result<Served, ServeFault>,
+    end: Result<EndCause, ServeFault>,
 ) {
     let ended = run(alloc, &mut source, &mut sink, ledger);
     assert_that(rt, ended == end, "how it ends");
@@ -103,8 +103,8 @@ fn check_outputs(rt: &impl Abort, outputs: &[Room<'_>]) {
     }
 }
 
-/// Serves several connections in turn: this is printed of how they end, and just what the sinks want
-/// is written.
+/// Serves several connections in turn: this is printed of how they end, and just what the sinks
+/// want is written.
 fn check_all(
     rt: &impl Abort,
     alloc: Global,
@@ -119,23 +119,23 @@ fn check_all(
 }
 
 /// Inputs, and what is written and how the connection ends on each.
-const ENDS_BY_INPUT: &[(&str, &str, Served)] = &[
-    ("", "", Served::InputEnd),
-    (RESERVE, GRANTED, Served::InputEnd),
-    ("00", "", Served::CutFrame),
-    ("002101", "", Served::CutFrame),
-    ("0000", "0001 8e", Served::BadFrame),
-    ("0201", "0001 8e", Served::BadFrame),
-    ("0008 05 0175 00000001 00", "0001 8e", Served::BadFrame),
+const ENDS_BY_INPUT: &[(&str, &str, EndCause)] = &[
+    ("", "", EndCause::InputEnd),
+    (RESERVE, GRANTED, EndCause::InputEnd),
+    ("00", "", EndCause::CutFrame),
+    ("002101", "", EndCause::CutFrame),
+    ("0000", "0001 8e", EndCause::BadFrame),
+    ("0201", "0001 8e", EndCause::BadFrame),
+    ("0008 05 0175 00000001 00", "0001 8e", EndCause::BadFrame),
     (
         "0021 01 0161 0000000000000001 00000001 00000001 000000000001517f 0175 00000001",
         "0001 8e",
-        Served::BadFrame,
+        EndCause::BadFrame,
     ),
     (
         "0007 05 0175 00000001 0000 0007 05 0175 00000001",
         "0013 8b 0175 00000001 00000000 00000000 00000003 0001 8e",
-        Served::BadFrame,
+        EndCause::BadFrame,
     ),
 ];
 
@@ -158,7 +158,14 @@ fn pieces_of_one_byte(rt: HostRuntime) {
         let source = Pieces::new(&input, 1);
         let sink = Room::new(&output, usize::MAX);
         let mut ledger = ledger(&rt, alloc, 3);
-        check_connection(&rt, alloc, &mut ledger, source, sink, Ok(Served::InputEnd));
+        check_connection(
+            &rt,
+            alloc,
+            &mut ledger,
+            source,
+            sink,
+            Ok(EndCause::InputEnd),
+        );
     }
 }
 
@@ -177,7 +184,7 @@ fn flushes_before_it_reads(rt: HostRuntime) {
         unflushed: &unflushed,
     };
     let end = run(alloc, &mut source, &mut sink, &mut ledger(&rt, alloc, 3));
-    assert!(rt; end == Ok(Served::InputEnd));
+    assert!(rt; end == Ok(EndCause::InputEnd));
     assert!(rt; !source.early);
 }
 
@@ -204,7 +211,7 @@ fn check_enough(rt: &impl Abort, alloc: Global, count: usize) {
         failed: false,
     };
     let sink = Room::new(&output, usize::MAX);
-    check_connection(rt, alloc, &mut ledger, source, sink, Ok(Served::Enough));
+    check_connection(rt, alloc, &mut ledger, source, sink, Ok(EndCause::Enough));
 }
 
 /// 10,000 frames are answered on a connection, one more gets no answer, and no more is read.
@@ -216,14 +223,15 @@ fn ten_thousand_frames(rt: HostRuntime) {
 
 /// What a ledger told that had no memory for its first call. The host is `a`, and the login `u`.
 const CALLS: &str = "[\
-    Told { request: Reserve { id: Id { host: [97], run: 1, number: 1 }, txn: 1, moment: 86400, login: [117], count: 1 }, \
+    ReportedCall { request: Reserve { id: Id { host: [97], run: 1, number: 1 }, txn: 1, moment: 86400, login: [117], count: 1 }, \
     answer: Err(Memory) }, \
-    Told { request: Reserve { id: Id { host: [97], run: 1, number: 1 }, txn: 1, moment: 86400, login: [117], count: 1 }, \
+    ReportedCall { request: Reserve { id: Id { host: [97], run: 1, number: 1 }, txn: 1, moment: 86400, login: [117], count: 1 }, \
     answer: Ok(Granted { id: Id { host: [97], run: 1, number: 1 }, used: 1 }) }, \
-    Told { request: Usage { login: [117], day: 1 }, \
+    ReportedCall { request: Usage { login: [117], day: 1 }, \
     answer: Ok(Usage { login: [117], day: 1, settled: 0, reserved: 1, cap: 3 }) }]";
 
-/// Each frame is one call of the ledger, and `Retry` is the answer to the call that had no memory alone.
+/// Each frame is one call of the ledger, and `Retry` is the answer to the call that had no memory
+/// alone.
 #[test]
 fn calls_of_a_connection(rt: HostRuntime) {
     let alloc = rt.alloc();
@@ -243,7 +251,14 @@ fn calls_of_a_connection(rt: HostRuntime) {
         calls: Vec::new(alloc),
         tells: true,
     };
-    check_served(&rt, alloc, &mut telling, frames, Served::BadFrame, replies);
+    check_served(
+        &rt,
+        alloc,
+        &mut telling,
+        frames,
+        EndCause::BadFrame,
+        replies,
+    );
     assert!(rt; telling.tells);
     assert_printed(&rt, alloc, &telling.calls, CALLS);
 }
@@ -255,7 +270,7 @@ fn check_failing_writer(rt: &impl Abort, alloc: Global, input: &[u8], output: &[
     let sink = Room::new(split(output, count).0, count);
     check_connection(rt, alloc, &mut ledger, source, sink, Err(ServeFault::Write));
     let sink = Room::new(output, usize::MAX);
-    check_connection(rt, alloc, &mut ledger, source, sink, Ok(Served::InputEnd));
+    check_connection(rt, alloc, &mut ledger, source, sink, Ok(EndCause::InputEnd));
 }
 
 /// Prints how many places a sweep tried, and says whether it could.
@@ -284,7 +299,7 @@ fn check_failing_reader(rt: &impl Abort, alloc: Global, input: &[u8], output: &[
     check_connection(rt, alloc, &mut ledger, source, sink, Err(ServeFault::Read));
     let source = Pieces::new(input, usize::MAX);
     let sink = Room::new(output, usize::MAX);
-    check_connection(rt, alloc, &mut ledger, source, sink, Ok(Served::InputEnd));
+    check_connection(rt, alloc, &mut ledger, source, sink, Ok(EndCause::InputEnd));
 }
 
 /// Before a read that fails just the whole frames are answered, and sent again all is as it would
@@ -304,9 +319,9 @@ fn reader_fails_anywhere(rt: HostRuntime) {
 fn check_front(rt: &impl Abort, alloc: Global, input: &[u8], output: &[u8], count: usize) {
     let (taken, told) = whole_frames(count);
     let end = if taken == count {
-        Served::InputEnd
+        EndCause::InputEnd
     } else {
-        Served::CutFrame
+        EndCause::CutFrame
     };
     let source = Pieces::new(split(input, count).0, usize::MAX);
     let sink = Room::new(split(output, told).0, usize::MAX);

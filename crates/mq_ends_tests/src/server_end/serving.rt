@@ -1,10 +1,11 @@
-//! Serving over devices of the tests. None of it has a clause, so that the tests stay cheap to prove.
+//! Serving over devices of the tests. None of it has a clause, so that the tests stay cheap to
+//! prove.
 
 use crate::server_end::asserts::{assert_bytes, assert_that};
 use crate::server_end::fixtures::bytes_of;
 use mq_ledger::{Ledger, PlainLedger, Zone};
-use mq_server::{ServeFault, Served, serve};
-use mq_stream::{FromRead, Sink, Source, ToWrite};
+use mq_server::{EndCause, ServeFault, serve};
+use mq_stream::{FromRead, Sink, Source, WriterSink};
 use std::alloc::Global;
 use std::process::Abort;
 
@@ -20,7 +21,7 @@ pub fn run<S: Source, W: Sink, L: Ledger>(
     input: &mut S,
     output: &mut W,
     ledger: &mut L,
-) -> Result<Served, ServeFault> {
+) -> Result<EndCause, ServeFault> {
     serve(alloc, input, output, ledger)
 }
 
@@ -30,11 +31,11 @@ pub fn check_served(
     alloc: Global,
     ledger: &mut impl Ledger,
     frames: &str,
-    end: Served,
+    end: EndCause,
     replies: &str,
 ) {
     let input = bytes_of(rt, alloc, frames);
-    let mut output = ToWrite::new(Vec::new(alloc));
+    let mut output = WriterSink::new(Vec::new(alloc));
     let ended = run(
         alloc,
         &mut FromRead::new(input.as_slice()),

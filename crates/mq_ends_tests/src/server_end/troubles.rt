@@ -10,8 +10,8 @@ use std::rt::Clock;
 use std::test::Fail;
 use std::time::Duration;
 
-/// A request whose first exchange finds no connection, and whose second one is answered that there is no memory: the log
-/// says the latter.
+/// A request whose first exchange finds no connection, and whose second one is answered that there
+/// is no memory: the log says the latter.
 #[test]
 fn the_last_trouble_is_logged(rt: HostRuntime) -> Result<(), Fail> {
     let alloc = rt.alloc();

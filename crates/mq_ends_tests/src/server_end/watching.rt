@@ -7,8 +7,8 @@ use crate::server_end::serving::{ledger, run};
 use log::sink::Memory as Kept;
 use mq_ledger::{Ledger, LedgerFault, Zone};
 use mq_request::{Reply, Request};
-use mq_stream::{FromRead, ToWrite};
-use mq_watch::{Hear, Watched};
+use mq_stream::{FromRead, WriterSink};
+use mq_watch::{Hear, WatchedLedger};
 use std::alloc::Global;
 use std::cell::Cell;
 use std::io;
@@ -221,12 +221,12 @@ fn serve_rows<L: Ledger + Drop>(
     rows: &[Row<'_>],
 ) -> Result<(), Fail> {
     let clock = Shown(Cell::new(0));
-    let mut watched = Watched::new(&clock, log, alloc, ledger);
+    let mut watched = WatchedLedger::new(&clock, log, alloc, ledger);
     watched.hear("192.0.2.7:40312".parse()?);
     for row in rows {
         clock.0.set(row.0);
         let input = bytes_of(rt, alloc, row.1);
-        let mut output = ToWrite::new(Vec::new(alloc));
+        let mut output = WriterSink::new(Vec::new(alloc));
         let _ = run(
             alloc,
             &mut FromRead::new(input.as_slice()),
@@ -333,10 +333,10 @@ fn a_thousand_hosts_an_hour(rt: HostRuntime) -> Result<(), Fail> {
     let alloc = rt.alloc();
     let log = Kept::new(alloc);
     let clock = Shown(Cell::new(864_000));
-    let mut watched = Watched::new(&clock, &log, alloc, Full(ledger(&rt, alloc, 3)));
+    let mut watched = WatchedLedger::new(&clock, &log, alloc, Full(ledger(&rt, alloc, 3)));
     for host in 0..1_003 {
         let input = bytes_of(&rt, alloc, frame_of(alloc, host)?.as_str());
-        let mut output = ToWrite::new(Vec::new(alloc));
+        let mut output = WriterSink::new(Vec::new(alloc));
         // The last two come in the next hour.
         if host == 1_001 {
             clock.0.set(867_600);

@@ -52,7 +52,8 @@ fn nearer<'a>(found: Option<&'a Login>, login: &'a Login) -> &'a Login
 /// The first login above `after` that has a granted reserve on that day.
 fn next_login<'a>(entries: &'a [Entry], zone: Zone, day: u32, after: &[u8]) -> Option<&'a Login>
     requires { All (λ entry. IsRequest entry.request) entries.now }
-    ensures { option_copied result ≡ slice_get (logins_above (day_of zone) entries.now day after.now) 0 }
+    ensures { option_copied result ≡ slice_get (logins_above
+        (day_of zone) entries.now day after.now) 0 }
 {
     let mut found = None;
     for entry in entries {
@@ -99,7 +100,8 @@ pub fn page(
     requires range { All (λ entry. IsRequest entry.request) entries.now }
     requires fits { (l : List ℕ) → used (day_of zone) entries.now l day < 2 ^ 32 }
     ensures { IfOk result (λ rows. rows.items
-        ≡ map (row (day_of zone) default entries.now day) (page (day_of zone) entries.now day after.now)) }
+        ≡ map (row (day_of zone) default entries.now day)
+        (page (day_of zone) entries.now day after.now)) }
 {
     let mut rows = Vec::new(alloc);
     let mut last = after;

@@ -1,14 +1,16 @@
 //! How a transaction stands: who it belongs to, whether it is closed, and what it was granted.
-ghost use Rattle.std.specs.Prelude.{◌≡◌, ◌<◌, ◌^◌, ◌&&◌, IfOk};
+ghost use Rattle.std.specs.Prelude.{◌≡◌, ◌<◌, ◌^◌, ◌&&◌};
 ghost use Rattle.std.specs.Option.{option_copied, MatchOption};
 ghost use Rattle.mq_request.specs.declared.message.Reply.{Reply as AnyReply};
 ghost use Rattle.mq_ledger.specs.Answer.{if_open};
-ghost use Rattle.mq_ledger.specs.History.{transaction, is_of, is_at, named, agrees, closes, ended, closed, abandoned, granted_in, IsOpenTo};
+ghost use Rattle.mq_ledger.specs.Outcome.{reply_of};
+ghost use Rattle.mq_ledger.specs.History.{transaction, is_of, is_at, named, agrees, closes, ended};
+ghost use Rattle.mq_ledger.specs.History.{closed, abandoned, granted_in, IsOpenTo};
 
 use crate::entry::Entry;
+use crate::outcome::Outcome;
 use crate::plain::entries::{closes, granted, is_below};
-use mq_request::{Id, Login, Reply, Request};
-use std::alloc::AllocError;
+use mq_request::{Id, Login, Request};
 
 /// Whether the request is of the transaction.
 fn is_of(request: &Request, id: &Id, txn: u32) -> bool
@@ -78,7 +80,8 @@ fn agrees(entries: &[Entry], id: &Id, txn: u32, moment: u64, login: &Login) -> b
 
 /// Whether the entry settled or released the transaction.
 fn ends(entry: &Entry, id: &Id, txn: u32) -> bool
-    ensures { result ≡ (is_of (transaction id.now txn) entry.now.request && closes entry.now.reply) }
+    ensures { result ≡ (is_of (transaction id.now txn) entry.now.request
+        && closes entry.now.reply) }
 {
     // (the reply first: of the entries that are looked back at few close anything)
     closes(&entry.reply) && is_of(&entry.request, id, txn)
@@ -105,26 +108,20 @@ pub fn is_abandoned(entries: &[Entry], id: &Id, txn: u32) -> bool
     is_below(entries, &id.host, id.run) && !is_ended(entries, id, txn)
 }
 
-/// The reply to a request whose transaction isn't open to it: it has another moment or login, or is
-/// closed.
-pub fn refusal(
-    entries: &[Entry],
-    id: &Id,
-    txn: u32,
-    moment: u64,
-    login: &Login,
-) -> Result<Option<Reply>, AllocError>
-    ensures { IfOk result (λ refused. MatchOption refused
-        (IsOpenTo moment login.now entries.now (transaction id.now txn))
-        (λ reply. (a : AnyReply) → reply ≡ if_open entries.now id.now txn moment login.now a)) }
+/// What a request comes to whose transaction isn't open to it: it has another moment or login, or
+/// is closed.
+pub fn refusal(entries: &[Entry], id: &Id, txn: u32, moment: u64, login: &Login) -> Option<Outcome>
+    ensures { MatchOption result (IsOpenTo moment login.now entries.now (transaction id.now txn))
+        (λ refused. (a : AnyReply) → reply_of id.now refused
+        ≡ if_open entries.now id.now txn moment login.now a) }
 {
     if !agrees(entries, id, txn, moment, login) {
-        return Ok(Some(Reply::Mismatch { id: id.clone()? }));
+        return Some(Outcome::Mismatch);
     }
     if is_closed(entries, id, txn) {
-        return Ok(Some(Reply::Closed { id: id.clone()? }));
+        return Some(Outcome::Closed);
     }
-    Ok(None)
+    None
 }
 
 /// What the transaction's reserves were granted: what it holds while it is open.

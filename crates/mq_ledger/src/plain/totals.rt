@@ -2,7 +2,8 @@
 ghost use Rattle.std.specs.Prelude.{◌≡◌, ◌<◌, ◌^◌, ◌+◌, if◌then◌else◌, All};
 ghost use Rattle.mq_request.specs.Range.{IsRequest};
 ghost use Rattle.mq_ledger.specs.Day.{day_of};
-ghost use Rattle.mq_ledger.specs.History.{concerns, is_open, is_abandoned, granted, counted, reserved_of, settled_of, reserved, settled, used};
+ghost use Rattle.mq_ledger.specs.History.{concerns, is_open, is_abandoned, granted, counted};
+ghost use Rattle.mq_ledger.specs.History.{reserved_of, settled_of, reserved, settled, used};
 
 use crate::entry::Entry;
 use crate::plain::entries::{counted, granted};
@@ -69,7 +70,8 @@ fn is_abandoned(entries: &[Entry], request: &Request) -> bool
 /// What the entry counts for: what was settled, or what was granted and then abandoned.
 fn settled_count(entries: &[Entry], entry: &Entry) -> u32
     ensures { result ≡ counted entry.now.request entry.now.reply
-        + (if is_abandoned entries.now entry.now.request then granted entry.now.request entry.now.reply else 0) }
+        + (if is_abandoned entries.now entry.now.request then granted entry.now.request
+        entry.now.reply else 0) }
 {
     let count = granted(entry);
     if 0 < count {

@@ -2,7 +2,8 @@
 ghost use Rattle.std.specs.Prelude.{◌↔◌, ◌<◌, ◌*◌, ℕ, IfOk, IfSome, IsTrue, List, Option};
 ghost use Rattle.mq_request.specs.Range.{IsRun};
 ghost use Rattle.mq_process.specs.Settings.{CanAsk};
-ghost use Rattle.mq_remote.specs.Filters.{AnswersLines, Begins, ChecksServer, FiltersBy, FiltersFile, FiltersNumbered, FiltersRun};
+ghost use Rattle.mq_remote.specs.Filters.{AnswersLines, Begins, ChecksServer, FiltersBy};
+ghost use Rattle.mq_remote.specs.Filters.{FiltersFile, FiltersNumbered, FiltersRun};
 
 use crate::fault::FilterEnd;
 use log::sink::Console;
@@ -12,16 +13,16 @@ use mq_link::{Link, LoggedLink};
 use mq_process::{
     Dial, FilterArguments, ProcessFault, Question, ask_once, filter_settings, run_number,
 };
-use mq_request::Escaped;
+use mq_request::EscapedText;
 use mq_settings::FilterSettings;
-use mq_stream::{FromRead, ToWrite};
+use mq_stream::{FromRead, WriterSink};
 use std::alloc::{AllocError, Global};
 use std::io;
 use std::io::Write;
 use std::rt::{Clock, Files};
 
-/// Runs the filter until its input ends: the settings first, then the clock. With `check` it reads no input, and only asks
-/// whether the server of its settings takes the requests of its host.
+/// Runs the filter until its input ends: the settings first, then the clock. With `check` it reads
+/// no input, and only asks whether the server of its settings takes the requests of its host.
 pub fn filter<R: Files + Clock + Input + Print + Eprint + AllocGlobal, D: Dial, E: Write>(
     rt: &R,
     dial: &D,
@@ -73,7 +74,8 @@ fn run_numbered<R: Clock + Input + Print + Eprint + AllocGlobal, D: Dial>(
     }
 }
 
-/// Asks once whether the server of the settings takes the requests of their host, and prints how long the filter holds back.
+/// Asks once whether the server of the settings takes the requests of their host, and prints how
+/// long the filter holds back.
 fn check_server<R: Clock + Print + Eprint + AllocGlobal, D: Dial, E: Write>(
     rt: &R,
     dial: &D,
@@ -100,7 +102,8 @@ fn is_short(settings: &FilterSettings) -> bool
     0 < pause && pause < tries.saturating_mul(u64::from(settings.timeout))
 }
 
-/// Prints for how long the filter holds back, where it does, and warns of a pause that is too short.
+/// Prints for how long the filter holds back, where it does, and warns of a pause that is too
+/// short.
 fn tell_spans<R: Print + Eprint>(rt: &R, settings: &FilterSettings) {
     let (pause, hold) = (settings.pause, settings.hold);
     if pause > 0 || hold > 0 {
@@ -142,7 +145,7 @@ fn run_client<R: Input + Print + Eprint + AllocGlobal, D: Dial>(
         return Err(FilterEnd::Process(ProcessFault::Memory));
     };
     let logged = Logged::new(rt, settings.log, Console(rt));
-    let host = Escaped(settings.host.as_slice());
+    let host = EscapedText(settings.host.as_slice());
     let server = settings.server;
     info!(logged; "the filter of host {host} begins its run {run}, with the server {server}");
     let timeout = u64::from(settings.timeout);
@@ -158,10 +161,11 @@ fn answer_lines<R: Input + Print + AllocGlobal, G: Log, K: Link>(
     client: &mut Client,
 ) -> Result<u8, FilterEnd>
     ensures { (before after : Option (List ℕ))
-        × AnswersLines client.old client.new result (K.told link.old) (K.told link.new) before after }
+        × AnswersLines client.old client.new result (K.told link.old)
+        (K.told link.new) before after }
 {
     let mut input = FromRead::new(rt.reader());
-    let mut output = ToWrite::new(io::writer(rt));
+    let mut output = WriterSink::new(io::writer(rt));
     match run_filter(log, rt.alloc(), &mut input, &mut output, link, client) {
         Ok(_) => Ok(0),
         Err(fault) => {

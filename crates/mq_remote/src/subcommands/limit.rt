@@ -54,7 +54,8 @@ pub fn limit<R: Files + Clock + Print + Eprint + AllocGlobal, D: Dial, E: Write>
     errors: &mut E,
 ) -> Result<u8, ProcessFault>
     requires { IsLimitArguments given }
-    ensures refuses { OrderRefuses given.entry.host.now given.entry.login given.entry.servers (λ fault. result ≡ Err fault) }
+    ensures refuses { OrderRefuses given.entry.host.now given.entry.login given.entry.servers
+        (λ fault. result ≡ Err fault) }
     ensures asks { IfOk result (AsksLimit D.leads D.Link.told R.File.remaining given.entry) }
 {
     let words = given.servers.as_slice();
@@ -74,7 +75,8 @@ pub fn limit<R: Files + Clock + Print + Eprint + AllocGlobal, D: Dial, E: Write>
     ))
 }
 
-/// Sets the limit at the server at this address, and prints what comes of it. Where memory runs out it isn't asked.
+/// Sets the limit at the server at this address, and prints what comes of it. Where memory runs out
+/// it isn't asked.
 fn limit_at<R: Print + Eprint + AllocGlobal, D: Dial, E: Write>(
     rt: &R,
     dial: &D,
@@ -97,8 +99,8 @@ fn limit_at<R: Print + Eprint + AllocGlobal, D: Dial, E: Write>(
     )
 }
 
-/// Asks the server at this address for the limit of the words, under the first number of this run, and prints what comes of
-/// it.
+/// Asks the server at this address for the limit of the words, under the first number of this run,
+/// and prints what comes of it.
 fn ask_limit<R: Print + Eprint + AllocGlobal, D: Dial, E: Write>(
     rt: &R,
     dial: &D,
@@ -122,8 +124,8 @@ fn ask_limit<R: Print + Eprint + AllocGlobal, D: Dial, E: Write>(
     Ok(send_limit(rt, dial, address, request, is_given, errors))
 }
 
-/// Asks the server at this address to set a limit, and prints what comes of it. Only a number that the words give is kept
-/// where it is used already.
+/// Asks the server at this address to set a limit, and prints what comes of it. Only a number that
+/// the words give is kept where it is used already.
 fn send_limit<R: Print + Eprint + AllocGlobal, D: Dial, E: Write>(
     rt: &R,
     dial: &D,

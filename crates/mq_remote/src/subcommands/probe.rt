@@ -28,7 +28,8 @@ fn host_of(alloc: Global, given: Option<&str>) -> Result<Option<Host>, AllocErro
     }
 }
 
-/// What each server is asked: whether it answers, and whether it takes the requests of this host now, where one is given.
+/// What each server is asked: whether it answers, and whether it takes the requests of this host
+/// now, where one is given.
 fn question_of<'a>(rt: &impl Clock, host: Option<&'a Host>) -> Result<Question<'a>, ProcessFault>
     requires { IfSome host (λ host. IsHost host.now) }
     ensures about { IfOk result (AsksAbout (option_map (λ host. host.now) host.entry)) }
@@ -40,8 +41,8 @@ fn question_of<'a>(rt: &impl Clock, host: Option<&'a Host>) -> Result<Question<'
     }
 }
 
-/// `status` of addresses: asks the server at each once, and prints that it answers, and that it takes the requests of the host
-/// that is given. The status is 1 where one doesn't.
+/// `status` of addresses: asks the server at each once, and prints that it answers, and that it
+/// takes the requests of the host that is given. The status is 1 where one doesn't.
 pub fn probe_servers<R: Files + Clock + Print + Eprint + AllocGlobal, D: Dial, E: Write>(
     rt: &R,
     dial: &D,
@@ -69,7 +70,8 @@ pub fn probe_servers<R: Files + Clock + Print + Eprint + AllocGlobal, D: Dial, E
     ))
 }
 
-/// Puts the question to the server at this address, and prints what comes of it. Where memory runs out it isn't asked.
+/// Puts the question to the server at this address, and prints what comes of it. Where memory runs
+/// out it isn't asked.
 fn probe_at<R: Print + Eprint + AllocGlobal, D: Dial, E: Write>(
     rt: &R,
     dial: &D,

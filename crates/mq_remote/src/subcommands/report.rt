@@ -4,7 +4,8 @@ ghost use Rattle.mq_request.specs.Range.{IsDay, IsLogin, IsWithin};
 ghost use Rattle.mq_process.specs.Arguments.{IsReportArguments};
 ghost use Rattle.mq_process.specs.Links.{AsksOver};
 ghost use Rattle.mq_process.specs.Refusals.{NamesLogin, ReportRefuses};
-ghost use Rattle.mq_remote.specs.Asked.{AsksAt, AsksReport, IsReported, NamesReported, ReportsRows, ReportsThere};
+ghost use Rattle.mq_remote.specs.Asked.{AsksAt, AsksReport, IsReported, NamesReported, ReportsRows};
+ghost use Rattle.mq_remote.specs.Asked.{ReportsThere};
 
 use log::sink::Console;
 use log::{LevelFilter, Logged};
@@ -24,7 +25,7 @@ use std::rt::{Clock, Files};
 
 /// Which logins are reported.
 #[derive(Drop)]
-pub enum Reported {
+pub enum ReportedLogins {
     /// This one.
     One(Login),
     /// So many of those that used most, 1 to 1,000,000.
@@ -38,20 +39,20 @@ fn reported_of(
     alloc: Global,
     given: Option<LoginArgument<'_>>,
     top: Option<u32>,
-) -> Result<Reported, ProcessFault>
+) -> Result<ReportedLogins, ProcessFault>
     requires { IfSome given NamesLogin }
     ensures named { IfOk result (NamesReported given.entry top) }
     ensures in_range { IfOk result IsReported }
 {
     match (given, top) {
-        (Some(login), _) => Ok(Reported::One(login_of(alloc, login)?)),
-        (None, Some(count)) => Ok(Reported::Top(count)),
-        (None, None) => Ok(Reported::All),
+        (Some(login), _) => Ok(ReportedLogins::One(login_of(alloc, login)?)),
+        (None, Some(count)) => Ok(ReportedLogins::Top(count)),
+        (None, None) => Ok(ReportedLogins::All),
     }
 }
 
-/// `report`: prints what one login, or all, or those that used most, used on a day. With `has_columns` a line above says what the
-/// columns are.
+/// `report`: prints what one login, or all, or those that used most, used on a day. With
+/// `has_columns` a line above says what the columns are.
 pub fn report<R: Files + Clock + Print + Eprint + AllocGlobal, D: Dial, E: Write>(
     rt: &R,
     dial: &D,
@@ -61,7 +62,8 @@ pub fn report<R: Files + Clock + Print + Eprint + AllocGlobal, D: Dial, E: Write
 ) -> Result<u8, ProcessFault>
     requires { IsReportArguments given }
     ensures refuses { ReportRefuses given.entry (λ fault. result ≡ Err fault) }
-    ensures asks { IfOk result (AsksReport D.leads D.Link.told R.File.remaining given.entry has_columns) }
+    ensures asks { IfOk result (AsksReport D.leads D.Link.told R.File.remaining given.entry
+        has_columns) }
 {
     if !given.login.is_none_or(|login| names_login(login)) {
         return Err(ProcessFault::Login);
@@ -81,13 +83,14 @@ pub fn report<R: Files + Clock + Print + Eprint + AllocGlobal, D: Dial, E: Write
     ))
 }
 
-/// Asks the server at this address what these logins used on a day, and prints it. Where memory runs out it isn't asked.
+/// Asks the server at this address what these logins used on a day, and prints it. Where memory
+/// runs out it isn't asked.
 fn report_at<R: Print + Eprint + AllocGlobal, D: Dial, E: Write>(
     rt: &R,
     dial: &D,
     address: SocketAddr,
     day: u32,
-    reported: &Reported,
+    reported: &ReportedLogins,
     has_columns: bool,
     errors: &mut E,
 ) -> u8
@@ -107,7 +110,7 @@ fn ask_report<R: Print + Eprint + AllocGlobal, D: Dial, E: Write>(
     dial: &D,
     address: SocketAddr,
     day: u32,
-    reported: &Reported,
+    reported: &ReportedLogins,
     has_columns: bool,
     errors: &mut E,
 ) -> Result<u8, ProcessFault>
@@ -131,20 +134,21 @@ fn ask_report<R: Print + Eprint + AllocGlobal, D: Dial, E: Write>(
     ))
 }
 
-/// Asks over a link what these logins used on a day, and prints it, below a line that says what the columns are, where that is
-/// wanted.
+/// Asks over a link what these logins used on a day, and prints it, below a line that says what the
+/// columns are, where that is wanted.
 fn report_over<L: Link, W: Write, E: Write>(
     alloc: Global,
     link: &mut L,
     day: u32,
-    reported: &Reported,
+    reported: &ReportedLogins,
     has_columns: bool,
     output: &mut W,
     errors: &mut E,
 ) -> u8
     requires day { IsDay day }
     requires reported { IsReported reported.now }
-    ensures { ReportsThere day reported.now has_columns result (L.told link.old) (L.told link.new) (W.contents output.old)
+    ensures { ReportsThere day reported.now has_columns result (L.told link.old) (L.told link.new)
+        (W.contents output.old)
         (W.contents output.new) }
 {
     if has_columns {
@@ -161,18 +165,19 @@ fn report_rows<L: Link, W: Write, E: Write>(
     alloc: Global,
     link: &mut L,
     day: u32,
-    reported: &Reported,
+    reported: &ReportedLogins,
     output: &mut W,
     errors: &mut E,
 ) -> u8
     requires day { IsDay day }
     requires reported { IsReported reported.now }
-    ensures { ReportsRows day reported.now result (L.told link.old) (L.told link.new) (W.contents output.old)
+    ensures { ReportsRows day reported.now result (L.told link.old) (L.told link.new)
+        (W.contents output.old)
         (W.contents output.new) }
 {
     match reported {
-        Reported::One(login) => run_report(alloc, link, day, Some(login), output, errors),
-        Reported::Top(count) => run_top(alloc, link, day, *count as usize, output, errors),
-        Reported::All => run_report(alloc, link, day, None, output, errors),
+        ReportedLogins::One(login) => run_report(alloc, link, day, Some(login), output, errors),
+        ReportedLogins::Top(count) => run_top(alloc, link, day, *count as usize, output, errors),
+        ReportedLogins::All => run_report(alloc, link, day, None, output, errors),
     }
 }

@@ -4,7 +4,8 @@ ghost use Rattle.mq_request.specs.Range.{IsHost, IsRun};
 ghost use Rattle.mq_command.specs.Orders.{IsRetire};
 ghost use Rattle.mq_process.specs.Links.{AsksOver};
 ghost use Rattle.mq_process.specs.Refusals.{IsNoAddress, RetireRefuses};
-ghost use Rattle.mq_remote.specs.Asked.{AsksRetire, IsAddressBy, IsAddressOr, IsTarget, IsTargetOfFilter, SendsOrder};
+ghost use Rattle.mq_remote.specs.Asked.{AsksRetire, IsAddressBy, IsAddressOr, IsTarget};
+ghost use Rattle.mq_remote.specs.Asked.{IsTargetOfFilter, SendsOrder};
 
 use log::sink::Console;
 use log::{LevelFilter, Logged};
@@ -34,7 +35,8 @@ fn address_of_words<R: Eprint>(
     given: Option<&str>,
 ) -> Result<Option<SocketAddr>, ProcessFault>
     ensures { MatchResult result (IsAddressBy (option_map (λ text. text.now) given.entry))
-        (λ fault. (fault ≡ ProcessFault.Address) × IsSomeAnd given.entry (λ text. IsNoAddress text.now)) }
+        (λ fault. (fault ≡ ProcessFault.Address) × IsSomeAnd given.entry
+        (λ text. IsNoAddress text.now)) }
 {
     match given {
         Some(text) => match address_of(rt, text) {
@@ -59,7 +61,8 @@ fn address_or_found<R: Files + Eprint + AllocGlobal>(
     }
 }
 
-/// The host of the filter's settings in their place, at the address of the words, or else at their server's.
+/// The host of the filter's settings in their place, at the address of the words, or else at their
+/// server's.
 fn target_of_filter<R: Files + Eprint + AllocGlobal>(
     rt: &R,
     server: Option<SocketAddr>,
@@ -77,8 +80,8 @@ fn target_of_filter<R: Files + Eprint + AllocGlobal>(
     }
 }
 
-/// Whose runs are given up, and where: the host of the words at their address or at that of the server's settings, or else the
-/// host of the filter's settings.
+/// Whose runs are given up, and where: the host of the words at their address or at that of the
+/// server's settings, or else the host of the filter's settings.
 fn target_of<R: Files + Eprint + AllocGlobal>(
     rt: &R,
     host: Option<&str>,
@@ -86,7 +89,8 @@ fn target_of<R: Files + Eprint + AllocGlobal>(
     config: Option<&str>,
 ) -> Result<Target, ProcessFault>
     requires { IfSome host (λ host. IsHost host.now) }
-    ensures target { IfOk result (IsTarget R.File.remaining config.entry (option_map (λ host. host.now) host.entry) server) }
+    ensures target { IfOk result (IsTarget R.File.remaining config.entry
+        (option_map (λ host. host.now) host.entry) server) }
     ensures in_range { IfOk result (λ target. IsHost target.host) }
 {
     match host {
@@ -126,8 +130,9 @@ pub fn retire<R: Files + Clock + Print + Eprint + AllocGlobal, D: Dial, E: Write
     Ok(ask_retire(rt, dial, address, request, errors))
 }
 
-/// Asks the server at this address to give up runs, and prints what comes of it. Also a number that is the clock's is kept
-/// where it is used already: a later run would give up the filters that start until then.
+/// Asks the server at this address to give up runs, and prints what comes of it. Also a number that
+/// is the clock's is kept where it is used already: a later run would give up the filters that
+/// start until then.
 fn ask_retire<R: Print + Eprint + AllocGlobal, D: Dial, E: Write>(
     rt: &R,
     dial: &D,

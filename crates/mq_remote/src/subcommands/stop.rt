@@ -5,7 +5,8 @@ ghost use Rattle.mq_command.specs.Allowing.{IsSetter};
 ghost use Rattle.mq_process.specs.Arguments.{IsResumeArguments, IsStopArguments};
 ghost use Rattle.mq_process.specs.Refusals.{HasNoAddress, NamesLogin, OrderRefuses};
 ghost use Rattle.mq_command.specs.Stopping.{RunsStop};
-ghost use Rattle.mq_remote.specs.Asked.{AsksAt, AsksEachOf, AsksResume, AsksStop, IsMeant, IsSetterBy, ResumesThere, UseAt};
+ghost use Rattle.mq_remote.specs.Asked.{AsksAt, AsksEachOf, AsksResume, AsksStop, IsMeant};
+ghost use Rattle.mq_remote.specs.Asked.{IsSetterBy, ResumesThere, UseAt};
 ghost use Rattle.mq_remote.specs.Servers.{AsksToYes};
 
 use log::sink::Console;
@@ -45,8 +46,8 @@ fn setter_of(
     })
 }
 
-/// `stop`: lets a login have nothing more. Where one of several servers knows that it sent something lately, it is meant at
-/// each.
+/// `stop`: lets a login have nothing more. Where one of several servers knows that it sent
+/// something lately, it is meant at each.
 pub fn stop<R: Files + Clock + Print + Eprint + AllocGlobal, D: Dial, E: Write>(
     rt: &R,
     dial: &D,
@@ -54,7 +55,8 @@ pub fn stop<R: Files + Clock + Print + Eprint + AllocGlobal, D: Dial, E: Write>(
     errors: &mut E,
 ) -> Result<u8, ProcessFault>
     requires { IsStopArguments given }
-    ensures refuses { OrderRefuses given.entry.host.now given.entry.login given.entry.servers (λ fault. result ≡ Err fault) }
+    ensures refuses { OrderRefuses given.entry.host.now given.entry.login given.entry.servers
+        (λ fault. result ≡ Err fault) }
     ensures asks { IfOk result (AsksStop D.leads D.Link.told R.File.remaining given.entry) }
 {
     let words = given.servers.as_slice();
@@ -87,7 +89,8 @@ fn stop_at_each<R: Print + Eprint + AllocGlobal, D: Dial, E: Write>(
     requires servers { ¬ HasNoAddress (map (λ s. s.now) servers.now) }
     requires setter { IsSetter setter.now }
     requires day { IsWithin 0 376199 order.day }
-    ensures { AsksEachOf D.leads D.Link.told (RunsStop setter.now order) (map (λ s. s.now) servers.now) result }
+    ensures { AsksEachOf D.leads D.Link.told (RunsStop setter.now order)
+        (map (λ s. s.now) servers.now) result }
 {
     ask_each(
         rt,
@@ -97,8 +100,8 @@ fn stop_at_each<R: Print + Eprint + AllocGlobal, D: Dial, E: Write>(
     )
 }
 
-/// Whether a login is meant: it is said so, or one of several servers answers that it sent something lately. A server that is
-/// asked alone finds that out itself.
+/// Whether a login is meant: it is said so, or one of several servers answers that it sent
+/// something lately. A server that is asked alone finds that out itself.
 fn is_meant_at_one<R: Eprint + AllocGlobal, D: Dial>(
     rt: &R,
     dial: &D,
@@ -110,7 +113,8 @@ fn is_meant_at_one<R: Eprint + AllocGlobal, D: Dial>(
     requires servers { ¬ HasNoAddress (map (λ s. s.now) servers.now) }
     requires setter { IsSetter setter.now }
     requires day { IsWithin 0 376199 day }
-    ensures { IsMeant D.leads D.Link.told setter.now.login day is_forced (map (λ s. s.now) servers.now) result }
+    ensures { IsMeant D.leads D.Link.told setter.now.login day is_forced
+        (map (λ s. s.now) servers.now) result }
 {
     if is_forced {
         return true;
@@ -132,7 +136,8 @@ fn has_sent_at_one<R: Eprint + AllocGlobal, D: Dial>(
     requires servers { ¬ HasNoAddress (map (λ s. s.now) servers.now) }
     requires setter { IsSetter setter.now }
     requires day { IsWithin 0 376199 day }
-    ensures { AsksToYes (UseAt D.leads D.Link.told setter.now.login day) (map (λ s. s.now) servers.now) result }
+    ensures { AsksToYes (UseAt D.leads D.Link.told setter.now.login day)
+        (map (λ s. s.now) servers.now) result }
 {
     ask_until(
         rt,
@@ -141,8 +146,8 @@ fn has_sent_at_one<R: Eprint + AllocGlobal, D: Dial>(
     )
 }
 
-/// Asks the server at this address whether a login sent something lately. One that doesn't answer is logged where it is asked
-/// to stop it.
+/// Asks the server at this address whether a login sent something lately. One that doesn't answer
+/// is logged where it is asked to stop it.
 fn ask_use<R: Eprint + AllocGlobal, D: Dial>(
     rt: &R,
     dial: &D,
@@ -159,8 +164,8 @@ fn ask_use<R: Eprint + AllocGlobal, D: Dial>(
     has_sent(rt.alloc(), &mut link, &setter.login, day)
 }
 
-/// Asks the server at this address to stop a login, and prints what comes of it. Where it is stopped, limits of later days are
-/// looked for.
+/// Asks the server at this address to stop a login, and prints what comes of it. Where it is
+/// stopped, limits of later days are looked for.
 fn ask_stop<R: Print + Eprint + AllocGlobal, D: Dial, E: Write>(
     rt: &R,
     dial: &D,
@@ -187,7 +192,8 @@ pub fn resume<R: Files + Clock + Print + Eprint + AllocGlobal, D: Dial, E: Write
     errors: &mut E,
 ) -> Result<u8, ProcessFault>
     requires { IsResumeArguments given }
-    ensures refuses { OrderRefuses given.entry.host.now given.entry.login given.entry.servers (λ fault. result ≡ Err fault) }
+    ensures refuses { OrderRefuses given.entry.host.now given.entry.login given.entry.servers
+        (λ fault. result ≡ Err fault) }
     ensures asks { IfOk result (AsksResume D.leads D.Link.told R.File.remaining given.entry) }
 {
     let words = given.servers.as_slice();
@@ -216,7 +222,8 @@ fn resume_at_each<R: Print + Eprint + AllocGlobal, D: Dial, E: Write>(
     requires setter { IsSetter setter.now }
     requires day { IsWithin 0 376199 day }
     requires more { IfSome more IsAmount }
-    ensures { AsksEachOf D.leads D.Link.told (ResumesThere setter.now day more) (map (λ s. s.now) servers.now) result }
+    ensures { AsksEachOf D.leads D.Link.told (ResumesThere setter.now day more)
+        (map (λ s. s.now) servers.now) result }
 {
     ask_each(
         rt,
@@ -226,7 +233,8 @@ fn resume_at_each<R: Print + Eprint + AllocGlobal, D: Dial, E: Write>(
     )
 }
 
-/// Asks the server at this address to let a login have more again, or the limit that it had, and prints what comes of it.
+/// Asks the server at this address to let a login have more again, or the limit that it had, and
+/// prints what comes of it.
 fn ask_resume<R: Print + Eprint + AllocGlobal, D: Dial, E: Write>(
     rt: &R,
     dial: &D,

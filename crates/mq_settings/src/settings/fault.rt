@@ -3,7 +3,7 @@
 use crate::settings::address::AddressFlaw;
 use crate::settings::flaw::Flaw;
 use crate::settings::key::Key;
-use mq_request::Escaped;
+use mq_request::EscapedText;
 use std::alloc::AllocError;
 use thiserror::Error;
 
@@ -15,7 +15,7 @@ pub enum SettingsFault {
     #[error("settings are not TOML")]
     Text(Flaw),
     /// The least name, byte for byte, that is no key of this file. It is printed escaped.
-    #[error("setting {name}: unknown", name = Escaped(.0.as_bytes()))]
+    #[error("setting {name}: unknown", name = EscapedText(.0.as_bytes()))]
     Unknown(String),
     #[error("setting {0}: missing")]
     Missing(Key),

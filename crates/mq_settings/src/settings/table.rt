@@ -13,7 +13,8 @@ use toml::{Table, Value};
 
 /// The value at a key.
 pub fn value_at<'a>(table: &'a Table, key: Key) -> Option<&'a Value>
-    ensures { option_map (λ v. view v.now) result ≡ get_member (key_name key) (table_view table.now) }
+    ensures { option_map (λ v. view v.now) result ≡ get_member (key_name key)
+        (table_view table.now) }
 {
     table.get(key.name())
 }
@@ -27,7 +28,8 @@ fn is_known(keys: &[Key], name: &str) -> bool
 
 /// The least name in the table that is none of the keys.
 pub fn least_unknown<'a>(table: &'a Table, keys: &[Key]) -> Option<&'a String>
-    ensures some { IfSome result (λ name. IsLeastUnknown keys.now (table_view table.now) (string_bytes name.now)) }
+    ensures some { IfSome result (λ name. IsLeastUnknown keys.now (table_view table.now)
+        (string_bytes name.now)) }
     ensures none { IfNone result (HasOnly keys.now (table_view table.now)) }
 {
     for name in table.keys() {

@@ -3,7 +3,8 @@ ghost use Rattle.std.specs.Prelude.{◌≡◌, Ok, Err, None, Some, ◌≢◌, I
 ghost use Rattle.mq_ledger.specs.Day.{ByRule, IsRule};
 ghost use Rattle.toml.specs.Data.{as_integer};
 ghost use Rattle.toml.specs.View.{view, table_view};
-ghost use Rattle.mq_settings.specs.Settings.{IsTextAt, IsHostAt, IsAddressAt, count_at, count_in, keep_at, IsZoneByRule, IsZoneAt};
+ghost use Rattle.mq_settings.specs.Settings.{IsTextAt, IsHostAt, IsAddressAt, count_at, count_in};
+ghost use Rattle.mq_settings.specs.Settings.{keep_at, IsZoneByRule, IsZoneAt};
 ghost use Rattle.mq_settings.specs.Settings.{level_named, level_at, zone_by_offset, IsPlaceAt};
 
 use crate::settings::address::address_flaw;
@@ -44,7 +45,8 @@ pub fn read_address(table: &Table, key: Key) -> Result<SocketAddr, SettingsFault
 /// The host's name, which has to be there.
 pub fn read_host(alloc: Global, table: &Table) -> Result<Host, SettingsFault>
     ensures ok { IfOk result (λ host. IsHostAt (table_view table.now) (Ok host)) }
-    ensures fault { IfErr result (λ e. e ≢ SettingsFault.Memory → IsHostAt (table_view table.now) (Err e)) }
+    ensures fault { IfErr result (λ e. e ≢ SettingsFault.Memory
+        → IsHostAt (table_view table.now) (Err e)) }
 {
     let text = read_text(table, Key::Host)?;
     if !is_host(text.as_bytes()) {
@@ -72,7 +74,8 @@ pub fn read_count(
     most: u32,
     absent: Option<u32>,
 ) -> Result<u32, SettingsFault>
-    ensures { result ≡ count_at key least most (ok_or absent (SettingsFault.Missing key)) (table_view table.now) }
+    ensures { result ≡ count_at key least most (ok_or absent (SettingsFault.Missing key))
+        (table_view table.now) }
 {
     match value_at(table, key) {
         None => absent.ok_or(SettingsFault::Missing(key)),
@@ -186,7 +189,8 @@ pub enum Place {
 /// Where the ledger is kept, which has to be said.
 pub fn read_place(alloc: Global, table: &Table) -> Result<Place, SettingsFault>
     ensures ok { IfOk result (λ place. IsPlaceAt (table_view table.now) (Ok place)) }
-    ensures fault { IfErr result (λ e. e ≢ SettingsFault.Memory → IsPlaceAt (table_view table.now) (Err e)) }
+    ensures fault { IfErr result (λ e. e ≢ SettingsFault.Memory
+        → IsPlaceAt (table_view table.now) (Err e)) }
 {
     let text = read_text(table, Key::Store)?;
     if text == "memory" {

@@ -10,7 +10,8 @@ const SETTLED_ONCE: Step = Step::Replies(RESERVED_TWICE_SETTLED_ONCE);
 
 const WRONG_COUNT: Step = Step::Run("UPDATE usage SET reserved = 9");
 
-/// A store is taken apart and opened, as made and otherwise, and once more after a count was changed.
+/// A store is taken apart and opened, as made and otherwise, and once more after a count was
+/// changed.
 const TAKEN_APART: [Step; 9] = [
     SETTLED_ONCE,
     Step::Sound(1, 1),
@@ -36,8 +37,8 @@ const SETTINGS_FIRST: [Step; 9] = [
     Step::Open(0, 3, Outcome::NotOurs),
 ];
 
-/// Texts that make a pair wrong, with the pair that is told: the least that isn't right, by the bytes of the
-/// login, then by the day.
+/// Texts that make a pair wrong, with the pair that is told: the least that isn't right, by the
+/// bytes of the login, then by the day.
 const DAMAGES: &[(&str, &str, i64)] = &[
     // What is settled or reserved isn't what the transactions settled or hold.
     ("UPDATE usage SET settled = -1", "u", 1),
@@ -50,7 +51,8 @@ const DAMAGES: &[(&str, &str, i64)] = &[
     // The moment is out of range, or of another day.
     ("UPDATE trans SET moment = 86399", "u", 1),
     ("UPDATE trans SET moment = 172800", "u", 1),
-    // Of the pair that the tables have and the one that they had, the earlier, and the lesser login.
+    // Of the pair that the tables have and the one that they had, the earlier, and the lesser
+    // login.
     ("UPDATE usage SET day = -1", "u", -1),
     ("UPDATE trans SET day = 2", "u", 1),
     ("UPDATE usage SET login = x'6120625c'", "a b\\", 1),
@@ -66,8 +68,8 @@ const NO_DAMAGES: &[&str] = &[
     "INSERT INTO ceiling VALUES (x'76', 0, 0)",
 ];
 
-/// A closed transaction that someone opened again: each pair is right until the ledger settles it once
-/// more, and then the transaction has what it settled last.
+/// A closed transaction that someone opened again: each pair is right until the ledger settles it
+/// once more, and then the transaction has what it settled last.
 const OPENED_AGAIN: [Step; 6] = [
     SETTLED_ONCE,
     Step::Run("UPDATE trans SET closed = 0"),
@@ -93,7 +95,8 @@ const AUDITS: &[Case] = &[
     ("a ledger that is open goes wrong", &OPENED_AGAIN),
 ];
 
-/// Runs a text over the store of login u, settled with one: it is damaged then at this login and day.
+/// Runs a text over the store of login u, settled with one: it is damaged then at this login and
+/// day.
 fn damage(alloc: Global, text: &'static str, login: &'static str, day: i64) -> Result<(), Fail> {
     let opened = Step::Open(0, 3, Outcome::Damaged(login, day));
     from_ledger_of(alloc, 3, text, &[SETTLED_ONCE, Step::Run(text), opened])

@@ -1,5 +1,5 @@
-//! The index of a ledger: made with it, given to one that an earlier program made, and left out where something has its
-//! name.
+//! The index of a ledger: made with it, given to one that an earlier program made, and left out
+//! where something has its name.
 
 use super::older::FIRST_VERSION;
 use super::steps::{Case, Outcome, Step, from_store};

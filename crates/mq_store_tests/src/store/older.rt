@@ -1,11 +1,12 @@
-//! Stores of earlier versions, as earlier programs wrote them: opened, they are ledgers of today's version, with what they
-//! held.
+//! Stores of earlier versions, as earlier programs wrote them: opened, they are ledgers of today's
+//! version, with what they held.
 
 use super::steps::{Case, Outcome, Step, from_store};
 use super::worked::{GRANTED_ONE, RESERVE_ONE};
 use std::test::*;
 
-/// A ledger of the first version: login u reserved twice on day 1 and was settled with one, and a second settle came too late.
+/// A ledger of the first version: login u reserved twice on day 1 and was settled with one, and a
+/// second settle came too late.
 pub const FIRST_VERSION: &str = "BEGIN;
 CREATE TABLE setting (id INTEGER PRIMARY KEY, version INTEGER NOT NULL, minutes INTEGER NOT NULL, cap INTEGER NOT NULL, \
 arrivals INTEGER NOT NULL) STRICT;

@@ -1,5 +1,5 @@
-//! Pages of days on which many logins reserved, over tables and over the plain ledger: in tables with their index, and in
-//! a store where something else has its name.
+//! Pages of days on which many logins reserved, over tables and over the plain ledger: in tables
+//! with their index, and in a store where something else has its name.
 
 use super::steps::make;
 use crate::asks::{Verdict, ask, plain, tables, told, wanted, zone};
@@ -52,8 +52,8 @@ fn agree<A: Ledger, B: Ledger>(one: &mut A, other: &mut B, request: Option<Reque
     }
 }
 
-/// Has both ledgers take reserves on three days, a third of the logins on none of two of them, and not in the order of the
-/// logins.
+/// Has both ledgers take reserves on three days, a third of the logins on none of two of them, and
+/// not in the order of the logins.
 fn fill<A: Ledger, B: Ledger>(alloc: Global, one: &mut A, other: &mut B) -> Verdict {
     for place in 0..LOGINS {
         let login = place.saturating_mul(37) % LOGINS;

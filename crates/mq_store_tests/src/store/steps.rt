@@ -294,7 +294,8 @@ fn play<S: Alter + Drop>(alloc: Global, before: Held<S>, steps: &[Step]) -> Verd
     verdict_of(&held)
 }
 
-/// Takes requests in turn, where the ledger is taken apart before each, and opened with this default.
+/// Takes requests in turn, where the ledger is taken apart before each, and opened with this
+/// default.
 pub fn play_opened<S: Alter + Drop>(
     alloc: Global,
     new: SqlLedger<S>,

@@ -1,5 +1,6 @@
-//! A ledger by a zone rule, one with a retire, and one that is made of a file of an earlier version: a file of theirs stops
-//! at some call, at each in turn, and they are opened again over what is left of the files.
+//! A ledger by a zone rule, one with a retire, and one that is made of a file of an earlier
+//! version: a file of theirs stops at some call, at each in turn, and they are opened again over
+//! what is left of the files.
 
 use super::older::FIRST_VERSION;
 use super::steps::{Outcome, audit, is_refused, make, open};
@@ -17,9 +18,11 @@ type Fused = Fuse<Memory>;
 
 /// What is played over files that stop.
 struct Played {
-    /// What the ledger goes by: the moment of the requests is of the same day by each. An empty text is no rule, so UTC.
+    /// What the ledger goes by: the moment of the requests is of the same day by each. An empty
+    /// text is no rule, so UTC.
     rule: &'static str,
-    /// What the store holds before, and the ledger is opened over; where there is nothing a new one is made.
+    /// What the store holds before, and the ledger is opened over; where there is nothing a new one
+    /// is made.
     before: &'static str,
     /// What is asked of the ledger.
     asked: Asked,
@@ -322,7 +325,8 @@ fn check_rows<S: Alter>(
     }
 }
 
-/// The first request that is asked after a stop: one that got its reply is asked again where it has the same one still.
+/// The first request that is asked after a stop: one that got its reply is asked again where it has
+/// the same one still.
 fn first_again(played: &Played, stop: Stop) -> usize {
     match stop {
         Stop::At(place) if !played.repeats => place,
@@ -331,8 +335,8 @@ fn first_again(played: &Played, stop: Stop) -> usize {
     }
 }
 
-/// Checks that a ledger replies as ever to the requests, those before the stop among them where they repeat, and has
-/// the rows of them all.
+/// Checks that a ledger replies as ever to the requests, those before the stop among them where
+/// they repeat, and has the rows of them all.
 fn check_again<S: Alter + Drop>(
     alloc: Global,
     played: &Played,
@@ -459,8 +463,8 @@ fn synced(files: Files<Fused>) -> Files<Fused> {
     files
 }
 
-/// Checks what the files hold after a stop: they are opened with all that was written, and with no more
-/// than what was synced.
+/// Checks what the files hold after a stop: they are opened with all that was written, and with no
+/// more than what was synced.
 fn check_both(
     alloc: Global,
     played: &Played,
@@ -491,8 +495,8 @@ fn stop_at(
     }
 }
 
-/// What becomes of the calls at which a file stops in turn: how many calls the first run made that came to
-/// its end, if one did.
+/// What becomes of the calls at which a file stops in turn: how many calls the first run made that
+/// came to its end, if one did.
 type Swept = Result<Option<u64>, &'static str>;
 
 /// Lets a file stop at each of these calls in turn, until a run comes to its end.

@@ -116,7 +116,8 @@ const THE_LIST_PAGE: Asked = &[
     ("06 00000001 0175", "8c 00000001 00"),
 ];
 
-/// A page has the logins of its day alone, in the order of their bytes, though they have other days too.
+/// A page has the logins of its day alone, in the order of their bytes, though they have other days
+/// too.
 const THE_LIST_PAGE_OF_ONE_DAY_AMONG_OTHERS: Asked = &[
     (RESERVE_ONE, GRANTED_ONE),
     (

@@ -1,4 +1,5 @@
-//! A link that loses, repeats, delays and mixes up, and whose address may move, by a pseudo-random generator.
+//! A link that loses, repeats, delays and mixes up, and whose address may move, by a pseudo-random
+//! generator.
 
 use super::scripted::{answer, copied, keep};
 use super::usage::{deliver_frame, taken_of};
@@ -60,7 +61,8 @@ pub const DAYS: [u32; 2] = [1, 2];
 /// How the body of the reply to a request of a retired run begins.
 const OLD: u8 = 0x90;
 
-/// How what was let through of a login on a day is settled or reserved, if no ledger is above its limit.
+/// How what was let through of a login on a day is settled or reserved, if no ledger is above its
+/// limit.
 #[derive(Clone, Copy, PartialEq)]
 enum Cover {
     /// One ledger has all of it.
@@ -71,8 +73,8 @@ enum Cover {
     Missing,
 }
 
-/// A link to the ledger of the server that has an address, with every frame that was ever sent and every reply
-/// body that was ever written.
+/// A link to the ledger of the server that has an address, with every frame that was ever sent and
+/// every reply body that was ever written.
 #[derive(Drop)]
 pub struct Lossy<L> {
     alloc: Global,
@@ -83,7 +85,8 @@ pub struct Lossy<L> {
     pub dice: Dice,
     sent: Vec<Vec<u8>>,
     written: Vec<Vec<u8>>,
-    /// How many recipients of live and committed transactions were let through, for each login and day.
+    /// How many recipients of live and committed transactions were let through, for each login and
+    /// day.
     pub let_through: [u32; 4],
     /// How many frames came to a ledger.
     pub arrivals: u64,
@@ -93,7 +96,8 @@ pub struct Lossy<L> {
     pub moves: u64,
     /// How often what was let through of a login on a day was found in both ledgers together alone.
     pub together: u64,
-    /// At some moment more was let through than was settled and reserved, or this was above a limit.
+    /// At some moment more was let through than was settled and reserved, or this was above a
+    /// limit.
     passed: bool,
     /// A frame had no reply, a request was out of range, or there was no memory.
     failed: bool,
@@ -135,8 +139,8 @@ impl<L: Ledger + Drop> Lossy<L> {
         }
     }
 
-    /// Whether what was let through is settled or reserved, and each ledger is within its limit, for each
-    /// login and day.
+    /// Whether what was let through is settled or reserved, and each ledger is within its limit,
+    /// for each login and day.
     fn is_covered(&mut self) -> bool {
         for place in 0..4usize {
             let let_through = self.let_through.get(place).copied().unwrap_or(0);

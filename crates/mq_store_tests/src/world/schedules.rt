@@ -1,4 +1,5 @@
-//! Random schedules of several hosts over one ledger, or over two between which the address moves, from fixed seeds.
+//! Random schedules of several hosts over one ledger, or over two between which the address moves,
+//! from fixed seeds.
 
 use super::lossy::Lossy;
 use super::senders::{Sender, senders_of, step};
@@ -29,8 +30,8 @@ struct Tally {
     together: u64,
 }
 
-/// Takes the steps of a schedule. After each what was let through is settled or reserved for each login
-/// and day, and no ledger is above its limit.
+/// Takes the steps of a schedule. After each what was let through is settled or reserved for each
+/// login and day, and no ledger is above its limit.
 fn check_steps<L: Ledger + Drop>(
     alloc: Global,
     link: &mut Lossy<L>,
@@ -152,8 +153,8 @@ impl Tally {
         }
     }
 
-    /// Whether runs were retired, recipients let through, and where there are two servers, more of a login
-    /// on a day than either ledger has.
+    /// Whether runs were retired, recipients let through, and where there are two servers, more of
+    /// a login on a day than either ledger has.
     fn check(&self, servers: Servers) -> Verdict {
         wanted(self.retired > 0, "no run was retired")?;
         wanted(self.let_through > 0, "nobody was let through")?;

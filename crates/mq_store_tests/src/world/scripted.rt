@@ -4,16 +4,16 @@ ghost use Rattle.std.specs.Prelude.{◌≡◌, [], OnErr};
 
 use super::usage::deliver_frame;
 use log::sink::Discard;
-use mq_client::{Client, Ended, FilterFault, run_filter};
+use mq_client::{Client, FilterFault, RunEnd, run_filter};
 use mq_ledger::Ledger;
 use mq_link::{Link, LinkFault};
 use mq_request::{Host, is_host, is_run};
-use mq_stream::{FromRead, Sink, Source, ToWrite};
+use mq_stream::{FromRead, Sink, Source, WriterSink};
 use std::alloc::Global;
 
-/// The letters of five exchanges: with `L` the frame is lost, with `B` it is delivered and the reply is
-/// lost, with `H` it is delivered once the runs have ended; with any other letter, and after the last
-/// one, it is delivered and the reply comes.
+/// The letters of five exchanges: with `L` the frame is lost, with `B` it is delivered and the
+/// reply is lost, with `H` it is delivered once the runs have ended; with any other letter, and
+/// after the last one, it is delivered and the reply comes.
 pub type Script = [u8; 5];
 
 /// A link to a ledger whose exchanges go by a script.
@@ -40,8 +40,8 @@ impl<L: Ledger + Drop> Scripted<L> {
         }
     }
 
-    /// Keeps the body of a reply that wasn't written before. One that isn't kept where memory runs out is
-    /// missed by who looks at the replies.
+    /// Keeps the body of a reply that wasn't written before. One that isn't kept where memory runs
+    /// out is missed by who looks at the replies.
     fn note(&mut self, body: &[u8]) {
         if !has(self.replies.as_slice(), body) {
             let _ = keep(self.alloc, &mut self.replies, body);
@@ -153,7 +153,7 @@ fn filter<S: Source, W: Sink, K: Link>(
     output: &mut W,
     link: &mut K,
     client: &mut Client,
-) -> Result<Ended, FilterFault> {
+) -> Result<RunEnd, FilterFault> {
     run_filter(&Discard, alloc, input, output, link, client)
 }
 
@@ -165,7 +165,7 @@ fn written_for<K: Link>(
     lines: &[u8],
 ) -> Option<Vec<u8>> {
     let mut input = FromRead::new(lines);
-    let mut output = ToWrite::new(Vec::new(alloc));
+    let mut output = WriterSink::new(Vec::new(alloc));
     match filter(alloc, &mut input, &mut output, link, client) {
         Ok(_) => Some(output.into_inner()),
         Err(_) => None,

@@ -1,9 +1,10 @@
-//! What several hosts with a filter, and others without one, do over a link, by a pseudo-random generator.
+//! What several hosts with a filter, and others without one, do over a link, by a pseudo-random
+//! generator.
 
 use super::lossy::{Dice, LOGINS, Lossy};
 use super::scripted::client_of;
 use log::sink::Discard;
-use mq_client::{Asked, Client};
+use mq_client::{Client, RecipientAnswer};
 use mq_ledger::Ledger;
 use mq_request::{Host, Id, Login, Request, is_login, is_moment};
 use mq_track::{CloseEnd, Closing};
@@ -15,8 +16,8 @@ const HOSTS: [&[u8]; 4] = [b"mx1", b"mx2", b"mx3", b"mx4"];
 /// The first and the last second of two days.
 const MOMENTS: [u64; 4] = [86_400, 172_799, 172_800, 259_199];
 
-/// The runs that the hosts begin at: an early one, one that a clock gives, and the last ones. The runs of a host are odd, so that an
-/// even one is that of someone else.
+/// The runs that the hosts begin at: an early one, one that a clock gives, and the last ones. The
+/// runs of a host are odd, so that an even one is that of someone else.
 const RUNS: [u64; 4] = [3, 1_795_674_158_001, LAST_RUN - 2, LAST_RUN];
 
 /// The last run.
@@ -62,8 +63,8 @@ fn subtract(sums: &mut [u32; 4], place: usize, dropped: u32) {
     }
 }
 
-/// Whether a recipient of the transaction is let through, where it is in range; nothing where there is no
-/// memory.
+/// Whether a recipient of the transaction is let through, where it is in range; nothing where there
+/// is no memory.
 fn reserve<L: Ledger + Drop>(
     link: &mut Lossy<L>,
     client: &mut Client,
@@ -75,7 +76,7 @@ fn reserve<L: Ledger + Drop>(
         return Some(false);
     }
     match client.reserve(&Discard, link, open.txn, moment, login) {
-        Ok(asking) => Some(asking.asked == Asked::Granted),
+        Ok(asking) => Some(asking.asked == RecipientAnswer::Granted),
         Err(_) => None,
     }
 }

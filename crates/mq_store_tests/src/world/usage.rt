@@ -64,8 +64,8 @@ pub fn usage_of<L: Ledger>(alloc: Global, ledger: &mut L, login: &[u8], day: u32
     }
 }
 
-/// How many recipients of a login a ledger says to have settled or reserved on a day; nothing where these
-/// are above its limit, or there is a fault.
+/// How many recipients of a login a ledger says to have settled or reserved on a day; nothing where
+/// these are above its limit, or there is a fault.
 pub fn taken_of<L: Ledger>(alloc: Global, ledger: &mut L, login: &[u8], day: u32) -> Option<u64> {
     match usage_of(alloc, ledger, login, day) {
         Some(used) => used.within_limit(),
@@ -73,8 +73,8 @@ pub fn taken_of<L: Ledger>(alloc: Global, ledger: &mut L, login: &[u8], day: u32
     }
 }
 
-/// Whether a ledger says that what was let through of a login on a day is settled or reserved, and that this
-/// is within the limit.
+/// Whether a ledger says that what was let through of a login on a day is settled or reserved, and
+/// that this is within the limit.
 pub fn is_covered<L: Ledger>(
     alloc: Global,
     ledger: &mut L,

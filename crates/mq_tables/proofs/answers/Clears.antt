@@ -1,26 +1,24 @@
 -- The UPDATE that clears the reply of an answer, over any schema that has the table at some place.
-use Rattle.std.proofs.Common.{append-nil, ◌≡◌, ℕ, ℤ, ◌+◌, ◌<◌, ◌<ℤ◌, pos, List, [], ◌∷◌, ◌==◌, drop, map, filter, Bool, true, false, Ordering, Less, Equal, Greater, inl, inr, Ok, Err, codes, arith, refl, sym, ap, ap₂, subst, ◌∙◌}
-use Rattle.mq_tables.proofs.Words.{AllByRecursion, AnswerRecord, Given, Has, Int, IsPermutation, MatchOrdering, Null, Row, Table, and-true, are_fresh, ascending-filter, col, edit_of, everything, holds, ids_of, int_cmp, int_ranks, list_all, lit, put_all, put_row, rowid, same_name, value_cmp-Int, without_all, without_rowid}
-use Rattle.sqlite.specs.Cast.{cast_row}
+use Rattle.std.proofs.Common.{append-nil, ◌≡◌, ◌⊎◌, inl, inr, ℕ, suc, ◌+◌, ◌<◌, ◌≤◌, pos, List, [], ◌∷◌, ◌==◌, length, map, filter, Bool, true, false, Greater, Equal, Ok, Err, codes, arith, refl, sym, ap, ap₂, subst, ◌∙◌}
+use Rattle.mq_tables.proofs.Words.{AnswerRecord, Given, Int, IsPermutation, Null, Row, Table, Trees, and-true, col, edit_of, edited, everything, holds, ids_of, length_permutation, list_all, lit, one_permutation, ordering_reverse, put_row, same_name, value_cmp, value_cmp_total, without_rowid}
+use Rattle.std.specs.Prelude.{if◌then◌else◌}
+use Rattle.std.proofs.lemmas.Bool.Decides.{eqb_tells}
+use Rattle.std.proofs.lemmas.Cmp.{tied_itself}
 use Rattle.sqlite.specs.State as state
-use Rattle.sqlite_rules.proofs.ProbeLemmas.{has_mapped}
-use Rattle.sqlite_rules.proofs.PlaceLemmas.{given}
-use Rattle.sqlite_trees.specs.Tree.{IsTable}
-use Rattle.sqlite_trees.proofs.TreeLemmas.{IsTable-put_row}
-use Rattle.sqlite_value.specs.Order.{value_cmp}
 use Rattle.mq_tables.specs.Places.{IsAnswerIn}
 use Rattle.mq_tables.specs.Records.{answer_fields, AreNumbered, HoldsAnswers}
 use Rattle.mq_tables.specs.Retiring.{clear_params, without_reply, cleared_where, ClearsAt}
 use Rattle.mq_tables.specs.Tables.{answer_table}
 use Rattle.mq_tables.specs.Written.{chosen as chosen_rows, Updated}
 use Rattle.mq_tables.proofs.Changes.{answers_changed}
-use Rattle.mq_tables.proofs.answers.Cleared.{shown, set_many, still_numbered, has_permuted}
 use Rattle.mq_tables.proofs.Casts.{cast_int, cast_null}
 use Rattle.mq_tables.proofs.Parts.{Executing}
+use Rattle.mq_tables.proofs.Selected.{chosen_of}
 use Rattle.mq_tables.proofs.TermShape.{field, against}
 use Rattle.mq_tables.proofs.TermShape.Relation.{Same}
 use Rattle.mq_tables.proofs.Tests.{day_test}
 use Rattle.mq_tables.proofs.UpdateShape.{UpdateShape, IsUpdateOf, in_tree, tests_in, made}
+use Rattle.mq_tables.proofs.answers.Numbered.{ascends}
 
 abbrev pub clear_text : List ℕ
 clear_text = codes "UPDATE answer SET reply = ?1 WHERE n = ?2"
@@ -38,83 +36,113 @@ is_update : IsUpdateOf clear_text shape
 unfolding everything same_name
 is_update = record { parsed = refl; statement = refl; formats = refl; placed = λ t. refl; laid = λ t. refl; known = λ t. refl; short = refl; uncounted = refl; timeless = λ params. append-nil params; accepted = λ s t low found. rw (low, found) }
 
--- ---- rows that are numbered rise
+-- what the query of the UPDATE shows: the rowid, and then the new row
+abbrev shown : AnswerRecord → Row
+shown a = Int (pos a.n) ∷ answer_fields (without_reply a)
 
-int_low : (m n : ℕ) → m < n → int_cmp (pos m) (pos n) ≡ Less
-int_low m n low = go (int_cmp (pos m) (pos n)) (int_ranks (pos m) (pos n))
-  where
-    go : (o : Ordering) → MatchOrdering o (pos m <ℤ pos n) (pos m ≡ pos n) (pos n <ℤ pos m) → o ≡ Less
-    go Less h = refl
-    go Equal h = absurd (let e : m ≡ n = cc in omega (arith, e, low))
-    go Greater h = absurd (let e : n < m = grind arith in omega (arith, e, low))
+-- ---- the answer of that number among answers that are numbered on
 
-above : (m n : ℕ) → m < n → (answers : List AnswerRecord) → AreNumbered n answers → AllByRecursion (λ r. value_cmp (Int (pos m)) (rowid r) ≡ Less) (map answer_fields answers)
-above m n low [] h = tt
-above m n low (a ∷ more) h = (value_cmp-Int (pos m) (pos a.n) ∙ int_low m a.n (rw h.0 low), above m (n + 1) (omega (arith, low)) more h.1)
+descends : (a b : ℕ) → a < b → value_cmp (Int (pos b)) (Int (pos a)) ≡ Greater
+descends a b low = value_cmp_total.antisymm (Int (pos b)) (Int (pos a)) ∙ ap ordering_reverse (ascends a b low)
 
-numbered_table : (n : ℕ) (answers : List AnswerRecord) → AreNumbered n answers → IsTable (map answer_fields answers)
-numbered_table n [] h = tt
-numbered_table n (a ∷ more) h = (above a.n (n + 1) (let e = h.0 in omega (arith, e)) more h.1, numbered_table (n + 1) more h.1)
-
-left_table : (ids : List ℤ) (rows : List Row) → IsTable rows → IsTable (without_all rows ids)
-left_table [] rows up = up
-left_table (id ∷ ids) rows up = left_table ids (without_rowid id rows) (ascending-filter (λ a b. value_cmp (rowid a) (rowid b) ≡ Less) _ rows up)
-
-put_table : (news rows : List Row) → IsTable rows → IsTable (put_all rows news)
-put_table [] rows up = up
-put_table (new ∷ news) rows up = put_table news (put_row new rows) (IsTable-put_row new rows up)
-
--- ---- what it leaves
-
-map_same : {X Y : Type 0} (f g : X → Y) (xs : List X) → ((x : X) → Has xs x → f x ≡ g x) → map f xs ≡ map g xs
-map_same f g [] each = refl
-map_same f g (x ∷ xs) each = ap₂ ◌∷◌ (each x (inl refl)) (map_same f g xs (λ y h. each y (inr h)))
+put_first : (a : AnswerRecord) (k : ℕ) (more : List AnswerRecord) → a.n < k → AreNumbered k more → put_row (answer_fields a) (map answer_fields more) ≡ answer_fields a ∷ map answer_fields more
+put_first a k [] low h = refl
+put_first a k (b ∷ more) low h = rw (descends a.n b.n (omega (arith, low, h.0))) refl
 
 module _ (n : ℕ) where
   abbrev passes : AnswerRecord → Bool
   passes a = a.n == n
 
-  abbrev params : Row
-  params = clear_params n
+  abbrev cleared : List AnswerRecord → List AnswerRecord
+  cleared = cleared_where passes
 
-  decides : (a : AnswerRecord) → list_all (holds (params ∷ answer_fields a ∷ [])) (tests_in shape) ≡ passes a
-  decides a = rw (day_test a.n n) (and-true (a.n == n))
+  still_numbered : (k : ℕ) (answers : List AnswerRecord) → AreNumbered k answers → AreNumbered k (cleared answers)
+  still_numbered k [] h = tt
+  still_numbered k (a ∷ more) h = ((elim (passes a) as (λ b. (if b then without_reply a else a).n ≡ a.n) [ true ↦ refl | false ↦ refl ]) ∙ h.0, still_numbered (k + 1) more h.1)
 
-  chosen_are : (answers : List AnswerRecord) → chosen_rows (tests_in shape) shape.row params (map answer_fields answers) ≡ map shown (filter passes answers)
-  chosen_are [] = refl
-  chosen_are (a ∷ more) = go (list_all (holds (params ∷ answer_fields a ∷ [])) (tests_in shape)) (passes a) refl refl (decides a) (chosen_are more)
-    where
-      go : (x y : Bool) → list_all (holds (params ∷ answer_fields a ∷ [])) (tests_in shape) ≡ x → passes a ≡ y → x ≡ y → chosen_rows (tests_in shape) shape.row params (map answer_fields more) ≡ map shown (filter passes more)
-          → chosen_rows (tests_in shape) shape.row params (map answer_fields (a ∷ more)) ≡ map shown (filter passes (a ∷ more))
-      go true true p q e later = rw (p, q) (ap (λ xs. shown a ∷ xs) later)
-      go false false p q e later = rw (p, q) later
-      go true false p q e later = absurd cc
-      go false true p q e later = absurd cc
+  -- those after it stay as they are
+  record AreLater (answers : List AnswerRecord) : Type 0 where
+    none : filter passes answers ≡ []
+    same : cleared answers ≡ answers
+    left : without_rowid (pos n) (map answer_fields answers) ≡ map answer_fields answers
+
+  later : (k : ℕ) (answers : List AnswerRecord) → n < k → AreNumbered k answers → AreLater answers
+  later k [] low h = record { none = refl; same = refl; left = refl }
+  later k (a ∷ more) low h =
+      let it = later (k + 1) more (omega (arith, low)) h.1 in
+      let other : (a.n == n) ≡ false = elim (eqb_tells a.n n) [ inl same ↦ absurd (omega (arith, same.1, low, h.0)) | inr differ ↦ differ.0 ] in
+      record { none = rw (other, it.none); same = rw (other, it.same); left = rw (descends n a.n (omega (arith, low, h.0)), it.left) }
+
+  -- this one has the number, and is set where it stands
+  record IsAt (k : ℕ) (answers : List AnswerRecord) (a : AnswerRecord) : Type 0 where
+    low : k ≤ a.n
+    is : a.n ≡ n
+    one : filter passes answers ≡ a ∷ []
+    set : put_row (answer_fields (without_reply a)) (without_rowid (pos n) (map answer_fields answers)) ≡ map answer_fields (cleared answers)
+
+  stands : (k : ℕ) (answers : List AnswerRecord) → AreNumbered k answers → ((filter passes answers ≡ []) × (cleared answers ≡ answers)) ⊎ ((a : AnswerRecord) × IsAt k answers a)
+  stands k [] h = inl (refl, refl)
+  stands k (a ∷ more) h = elim (eqb_tells a.n n) [
+    | inl same ↦ (let it = later (k + 1) more (omega (arith, same.1, h.0)) h.1 in
+        let tie : value_cmp (Int (pos a.n)) (Int (pos n)) ≡ Equal = ap (λ (m : ℕ). value_cmp (Int (pos m)) (Int (pos n))) same.1 ∙ tied_itself value_cmp_total (Int (pos n)) in
+        inr (
+          a,
+          record {
+            low = omega (arith, h.0);
+            is = same.1;
+            one = rw (same.0, it.none);
+            set = rw (tie, it.left, same.0, it.same) (put_first (without_reply a) (k + 1) more (omega (arith, h.0)) h.1);
+          },
+        ))
+    | inr other ↦ elim (stands (k + 1) more h.1) [
+      | inl none ↦ inl (rw (other.0, none.0), rw (other.0, none.1))
+      | inr found ↦ (let c = found.0 in
+          let it = found.1 in
+          inr (
+            c,
+            record {
+              low = omega (arith, it.low);
+              is = it.is;
+              one = rw (other.0, it.one);
+              set = rw (ascends a.n n (omega (arith, h.0, it.low, it.is)), ascends a.n c.n (omega (arith, h.0, it.low)), other.0) (ap (λ (rows : List Row). answer_fields a ∷ rows) it.set);
+            },
+          ))
+    ]
+  ]
+
+-- ---- what it leaves
+
+none_shown : (rows : List Row) → IsPermutation [] rows → rows ≡ []
+none_shown [] h = refl
+none_shown (r ∷ rows) h = absurd (let e : suc (length rows) ≡ 0 = length_permutation _ _ h in omega (arith, e))
 
 module _ (old new : state.State) (n : ℕ) (t : ℕ) (place' : IsAnswerIn old.now.schema t) where
   abbrev table : Table
   table = in_tree shape t
 
-  cast_is : (a : AnswerRecord) → cast_row table (answer_fields (without_reply a)) ≡ answer_fields (without_reply a)
-  cast_is a = rw (cast_int (pos a.n), cast_null, cast_int (pos a.id.run), cast_int (pos a.id.number)) refl
+  abbrev db : Trees
+  db = old.now.trees
 
-  clears : Updated old.now.schema table (tests_in shape) shape.row (clear_params n) old new → (answers : List AnswerRecord) → HoldsAnswers (old.now.trees t) answers
-      → HoldsAnswers (new.now.trees t) (cleared_where (passes n) answers)
+  decides : (a : AnswerRecord) → list_all (holds (clear_params n ∷ answer_fields a ∷ [])) (tests_in shape) ≡ passes n a
+  decides a = rw (day_test a.n n) (and-true (a.n == n))
+
+  one_edit : (a : AnswerRecord) (hits : List Row) → hits ≡ shown a ∷ [] → edit_of db table (ids_of hits) Given 1 hits ≡ record { table = table; gone = pos a.n ∷ []; news = answer_fields (without_reply a) ∷ [] }
+  one_edit a hits one = rw one (rw (cast_null, cast_int (pos a.n), cast_int (pos a.id.run), cast_int (pos a.id.number)) refl)
+
+  clears : Updated old.now.schema table (tests_in shape) shape.row (clear_params n) old new → (answers : List AnswerRecord) → HoldsAnswers (db t) answers → HoldsAnswers (new.now.trees t) (cleared n answers)
   clears done answers held =
-      let db = old.now.trees in
-      let hits = done.hits in
-      let found : IsPermutation (map shown (filter (passes n) answers)) hits =
-      subst (λ xs. IsPermutation xs hits) (ap (chosen_rows (tests_in shape) shape.row (clear_params n)) held.rows ∙ chosen_are n answers) done.found in
-      let cast_so : map (λ s. cast_row table (drop 1 s)) hits ≡ map (drop 1) hits =
-      map_same (λ s. cast_row table (drop 1 s)) (drop 1) hits (λ h k. let from = has_mapped shown (filter (passes n) answers) h (has_permuted (map shown (filter (passes n) answers)) hits h found k) in
-      ap (λ s. cast_row table (drop 1 s)) from.2 ∙ cast_is from.0 ∙ ap (drop 1) (sym from.2)) in
-      let news : (edit_of db table (ids_of hits) Given 1 hits).news ≡ map (drop 1) hits = given (without_all (db t) (ids_of hits)) (map (λ s. cast_row table (drop 1 s)) hits) ∙ cast_so in
-      let up : IsTable (db t) = subst IsTable (sym held.rows) (numbered_table 1 answers held.numbered) in
-      let fresh' : are_fresh (without_all (db t) (ids_of hits)) (map (drop 1) hits) ≡ true = subst (λ xs. are_fresh (without_all (db t) (ids_of hits)) xs ≡ true) news done.fresh in
-      let put : new.now.trees t ≡ put_all (without_all (db t) (ids_of hits)) (map (drop 1) hits) = done.rows ∙ ap (put_all (without_all (db t) (ids_of hits))) news in
+      let shows : IsPermutation (map shown (filter (passes n) answers)) done.hits =
+      subst (λ xs. IsPermutation xs done.hits) (ap (chosen_rows (tests_in shape) shape.row (clear_params n)) held.rows ∙ chosen_of (tests_in shape) shape.row (clear_params n) answers ∙ ap (λ (p : AnswerRecord → Bool). map shown (filter p answers)) (λ i a. decides a i)) done.found in
       record {
-        rows = put ∙ set_many (db t) answers (passes n) hits held.rows found up (put_table (map (drop 1) hits) (without_all (db t) (ids_of hits)) (left_table (ids_of hits) (db t) up)) fresh';
-        numbered = still_numbered (passes n) 1 answers held.numbered;
+        rows = done.rows ∙ elim (stands n 1 answers held.numbered) [
+          | inl none ↦ (let hits = none_shown done.hits (subst (λ xs. IsPermutation (map shown xs) done.hits) none.0 shows) in
+              ap (λ hits. edited db (edit_of db table (ids_of hits) Given 1 hits)) hits ∙ held.rows ∙ ap (map answer_fields) (sym none.1))
+          | inr found ↦ (let a = found.0 in
+              let it = found.1 in
+              let hits = one_permutation (shown a) done.hits (subst (λ xs. IsPermutation (map shown xs) done.hits) it.one shows) in
+              ap (edited db) (one_edit a done.hits hits) ∙ ap₂ (λ (m : ℕ) (rows : List Row). put_row (answer_fields (without_reply a)) (without_rowid (pos m) rows)) it.is held.rows ∙ it.set)
+        ];
+        numbered = still_numbered n 1 answers held.numbered;
       }
 
 pub clears_reply : Executing clear_text clear_params ClearsAt
@@ -122,6 +150,6 @@ clears_reply n (Err e) old new h = (tt, tt)
 clears_reply n (Ok count) old new h = (
   h.1.mode,
   λ t l.
-      let done = made clear_text shape is_update (clear_params n) old new l.at.answer l.tables.answer l.tables.answer_alone count h.0 in
-      answers_changed old.now new.now t l done.schema_is done.sound done.tables (cleared_where (passes n) t.answers) (clears old new n l.at.answer l.tables.answer done t.answers l.holds.answers),
+      let done = made is_update (clear_params n) old new l.at.answer l.tables.answer l.tables.answer_alone count h.0 in
+      answers_changed old.now new.now t l done.schema_is done.sound done.tables (cleared n t.answers) (clears old new n l.at.answer l.tables.answer done t.answers l.holds.answers),
 )

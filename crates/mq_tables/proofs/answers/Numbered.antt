@@ -1,11 +1,9 @@
 -- One more answer after those that are there.
-use Rattle.std.proofs.Common.{◌≡◌, ℕ, ◌+◌, ◌<◌, pos, List, [], ◌∷◌, ◌++◌, map, length, arith, refl, ap, ◌∙◌}
-use Rattle.std.proofs.Common.{Less}
-use Rattle.mq_tables.proofs.Words.{AnswerRecord, Int, lt-ltb, put_row, value_cmp-Int}
-use Rattle.sqlite_value.specs.Order.{value_cmp}
+use Rattle.std.proofs.Common.{◌≡◌, ℕ, ◌+◌, ◌<◌, pos, List, [], ◌∷◌, ◌++◌, map, length, Less, arith, refl, ap, ◌∙◌}
+use Rattle.mq_tables.proofs.Words.{AnswerRecord, Int, lt-ltb, put_row, value_cmp, value_cmp-Int}
 use Rattle.mq_tables.specs.Records.{answer_fields, AreNumbered}
 
-ascends : (a b : ℕ) → a < b → value_cmp (Int (pos a)) (Int (pos b)) ≡ Less
+pub ascends : (a b : ℕ) → a < b → value_cmp (Int (pos a)) (Int (pos b)) ≡ Less
 ascends a b low = value_cmp-Int (pos a) (pos b) ∙ rw (lt-ltb a b low)
 
 pub appended : (n : ℕ) (all : List AnswerRecord) (a : AnswerRecord) → AreNumbered n all → a.n ≡ n + length all → put_row (answer_fields a) (map answer_fields all) ≡ map answer_fields (all ++ a ∷ [])

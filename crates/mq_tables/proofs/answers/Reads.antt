@@ -10,10 +10,11 @@ use Rattle.mq_tables.specs.Entries.{IsFirstBodies, IsAnswerAt}
 use Rattle.mq_tables.specs.Ledger.{HasLedger}
 use Rattle.mq_tables.specs.Lent.{id_key, bodies_row, IsAnswerShown}
 use Rattle.mq_tables.specs.Retiring.{runs_params, place_row}
+use Rattle.mq_tables.specs.Tables.{answer_table}
 use Rattle.mq_tables.proofs.Finds.{Following, follows, int_same, blob_same, none_of, empty_mapped, shown_of}
-use Rattle.mq_tables.proofs.SelectShape.{SelectShape, IsSelect}
-use Rattle.mq_tables.proofs.Selected.{Finding, of_answers, whole_pass, finds_answers}
-use Rattle.mq_tables.proofs.TermShape.{Field, Test, field, against}
+use Rattle.mq_tables.proofs.SelectShape.{IsSelect, unordered}
+use Rattle.mq_tables.proofs.Selected.{Finding, finds_answers}
+use Rattle.mq_tables.proofs.TermShape.{field, against}
 use Rattle.mq_tables.proofs.TermShape.Relation.{Same, AtMost, AtLeast}
 use Rattle.mq_tables.proofs.Tests.{text_test, nat_test, from_test, until_test}
 
@@ -22,16 +23,9 @@ use Rattle.mq_tables.proofs.Tests.{text_test, nat_test, from_test, until_test}
 abbrev pub answer_text : List ℕ
 answer_text = codes "SELECT n, request, reply FROM answer WHERE host = ?1 AND run = ?2 AND seq = ?3"
 
-abbrev answer_shown : List Field
-answer_shown = field (codes "n") 0 ∷ field (codes "request") 4 ∷ field (codes "reply") 5 ∷ []
-
-abbrev answer_tests : List Test
-answer_tests = against (field (codes "host") 1) Same 1 ∷ against (field (codes "run") 2) Same 2 ∷ against (field (codes "seq") 3) Same 3 ∷ []
-
-abbrev pub answer_shape : SelectShape
-answer_shape = of_answers answer_shown answer_tests
-
-pub answer_select : IsSelect answer_text answer_shape
+pub answer_select : IsSelect answer_text (unordered answer_table
+    (field (codes "n") 0 ∷ field (codes "request") 4 ∷ field (codes "reply") 5 ∷ [])
+    (against (field (codes "host") 1) Same 1 ∷ against (field (codes "run") 2) Same 2 ∷ against (field (codes "seq") 3) Same 3 ∷ []))
 unfolding everything listing_schema same_name
 answer_select = record { parsed = refl; statement = refl; timeless = refl; unlisted = refl; known = λ t. refl; short = refl; accepted = λ s t low found. rw (low, found) }
 
@@ -39,11 +33,10 @@ module _ (id : Id) where
   abbrev is_of : AnswerRecord → Bool
   is_of a = same_id id a.id
 
-  answer_decides : (r : AnswerRecord) → whole_pass answer_shape (id_key id) r ≡ is_of r
-  answer_decides r = rw (text_test r.id.host id.host, nat_test r.id.run id.run, nat_test r.id.number id.number) (ap (λ b. same_text id.host r.id.host && b) (ap (λ b. (id.run == r.id.run) && b) (and-true (id.number == r.id.number))))
-
   pub answer_found : Finding answer_text (id_key id) HasLedger (λ t rows. IsPermutation (map bodies_row (filter is_of t.answers)) rows)
-  answer_found = finds_answers answer_text answer_shown answer_tests answer_select (id_key id) is_of answer_decides
+  answer_found =
+      finds_answers answer_select (id_key id) is_of
+      (λ r. rw (text_test r.id.host id.host, nat_test r.id.run id.run, nat_test r.id.number id.number) (ap (λ b. same_text id.host r.id.host && b) (ap (λ b. (id.run == r.id.run) && b) (and-true (id.number == r.id.number)))))
 
   keyed_so : (a : AnswerRecord) → is_of a ≡ true → (id.host ≡ a.id.host) × (id.run ≡ a.id.run) × (id.number ≡ a.id.number)
   keyed_so a hit =
@@ -65,16 +58,9 @@ module _ (id : Id) where
 abbrev pub places_text : List ℕ
 places_text = codes "SELECT n FROM answer WHERE host = ?1 AND run >= ?2 AND run <= ?3"
 
-abbrev places_shown : List Field
-places_shown = field (codes "n") 0 ∷ []
-
-abbrev places_tests : List Test
-places_tests = against (field (codes "host") 1) Same 1 ∷ against (field (codes "run") 2) AtLeast 2 ∷ against (field (codes "run") 2) AtMost 3 ∷ []
-
-abbrev pub places_shape : SelectShape
-places_shape = of_answers places_shown places_tests
-
-pub places_select : IsSelect places_text places_shape
+pub places_select : IsSelect places_text (unordered answer_table
+    (field (codes "n") 0 ∷ [])
+    (against (field (codes "host") 1) Same 1 ∷ against (field (codes "run") 2) AtLeast 2 ∷ against (field (codes "run") 2) AtMost 3 ∷ []))
 unfolding everything listing_schema same_name
 places_select = record { parsed = refl; statement = refl; timeless = refl; unlisted = refl; known = λ t. refl; short = refl; accepted = λ s t low found. rw (low, found) }
 
@@ -82,27 +68,19 @@ module _ (runs : Runs) where
   abbrev among : AnswerRecord → Bool
   among a = is_among runs a.id.host a.id.run
 
-  places_decides : (r : AnswerRecord) → whole_pass places_shape (runs_params runs) r ≡ among r
-  places_decides r = rw (text_test r.id.host runs.host, from_test r.id.run runs.from, until_test r.id.run runs.to) (ap (λ b. same_text runs.host r.id.host && b) (ap (λ b. nat_le runs.from r.id.run && b) (and-true (nat_le r.id.run runs.to))))
-
   pub places_found : Finding places_text (runs_params runs) HasLedger (λ t rows. IsPermutation (map place_row (filter among t.answers)) rows)
-  places_found = finds_answers places_text places_shown places_tests places_select (runs_params runs) among places_decides
+  places_found =
+      finds_answers places_select (runs_params runs) among
+      (λ r. rw (text_test r.id.host runs.host, from_test r.id.run runs.from, until_test r.id.run runs.to) (ap (λ b. same_text runs.host r.id.host && b) (ap (λ b. nat_le runs.from r.id.run && b) (and-true (nat_le r.id.run runs.to)))))
 
 -- ---- by its place
 
 abbrev pub entry_text : List ℕ
 entry_text = codes "SELECT n, request, reply FROM answer WHERE n = ?1"
 
-abbrev entry_shown : List Field
-entry_shown = field (codes "n") 0 ∷ field (codes "request") 4 ∷ field (codes "reply") 5 ∷ []
-
-abbrev entry_tests : List Test
-entry_tests = against (field (codes "n") 0) Same 1 ∷ []
-
-abbrev pub entry_shape : SelectShape
-entry_shape = of_answers entry_shown entry_tests
-
-pub entry_select : IsSelect entry_text entry_shape
+pub entry_select : IsSelect entry_text (unordered answer_table
+    (field (codes "n") 0 ∷ field (codes "request") 4 ∷ field (codes "reply") 5 ∷ [])
+    (against (field (codes "n") 0) Same 1 ∷ []))
 unfolding everything listing_schema same_name
 entry_select = record { parsed = refl; statement = refl; timeless = refl; unlisted = refl; known = λ t. refl; short = refl; accepted = λ s t low found. rw (low, found) }
 
@@ -110,11 +88,10 @@ module _ (n : ℕ) where
   abbrev pub key : Row
   key = Int (pos n) ∷ []
 
-  entry_decides : (r : AnswerRecord) → whole_pass entry_shape key r ≡ (n == r.n)
-  entry_decides r = rw (nat_test r.n n) (and-true (n == r.n))
-
   pub entry_found : Finding entry_text key HasLedger (λ t rows. IsPermutation (map bodies_row (filter (λ a. n == a.n) t.answers)) rows)
-  entry_found = finds_answers entry_text entry_shown entry_tests entry_select key (λ a. n == a.n) entry_decides
+  entry_found =
+      finds_answers entry_select key (λ a. n == a.n)
+      (λ r. rw (nat_test r.n n) (and-true (n == r.n)))
 
   entry_first : (all : List AnswerRecord) (rows : List Row) (found : Option Bodies) → IsPermutation (map bodies_row (filter (λ a. n == a.n) all)) rows → IsFirstBodies rows found → IsAnswerAt n all found
   entry_first all rows None same none = none_of (λ a. n == a.n) all (empty_mapped bodies_row _ (sym (length_permutation _ _ same) ∙ ap length none))

@@ -1,5 +1,5 @@
 -- What the queries for an audit answer of the figures.
-use Rattle.std.proofs.Common.{◌≡◌, pos, ℕ, List, [], ◌∷◌, codes, map, None, Ok, Err, Result, refl, sym, ap, subst, ◌∙◌}
+use Rattle.std.proofs.Common.{◌≡◌, pos, ℕ, List, [], ◌∷◌, codes, map, Ok, Err, Result, refl, sym, ap, subst, ◌∙◌}
 use Rattle.mq_tables.proofs.Words.{Blob, Error, Global, IfOk, Int, IsPermutation, Row, Shown, State, Vec, everything, listing_schema, map-map, same_name}
 use Rattle.mq_rows.specs.declared.audited.LimitFigures.{LimitFigures}
 use Rattle.mq_rows.specs.declared.audited.TransactionFigures.{TransactionFigures}
@@ -8,7 +8,7 @@ use Rattle.mq_rows.specs.Audit.{Figures}
 use Rattle.mq_tables.specs.Figures.{HasFigures, WholeTransaction, whole_cells, usage_cells, transaction_cells, limit_cells, IsUsageRead, IsTransactionRead, IsLimitRead, usage_columns, transaction_columns, limit_columns}
 use Rattle.mq_tables.specs.Tables.{trans_table, usage_table, ceiling_table}
 use Rattle.mq_tables.proofs.Finds.{all_pass, all_read}
-use Rattle.mq_tables.proofs.SelectShape.{SelectShape, IsSelect}
+use Rattle.mq_tables.proofs.SelectShape.{IsSelect, unordered}
 use Rattle.mq_tables.proofs.Selected.{shows_all}
 use Rattle.mq_tables.proofs.TermShape.{field}
 
@@ -17,21 +17,15 @@ use Rattle.mq_tables.proofs.TermShape.{field}
 abbrev pub usage_text : List ℕ
 usage_text = codes "SELECT login, day, settled, reserved FROM usage"
 
-abbrev pub usage_shape : SelectShape
-usage_shape = record {
-  table = usage_table;
-  shown = field (codes "login") 0 ∷ field (codes "day") 1 ∷ field (codes "settled") 2 ∷ field (codes "reserved") 3 ∷ [];
-  tests = [];
-  order = None;
-}
-
-pub usage_select : IsSelect usage_text usage_shape
+pub usage_select : IsSelect usage_text (unordered usage_table
+    (field (codes "login") 0 ∷ field (codes "day") 1 ∷ field (codes "settled") 2 ∷ field (codes "reserved") 3 ∷ [])
+    [])
 unfolding everything listing_schema same_name
 usage_select = record { parsed = refl; statement = refl; timeless = refl; unlisted = refl; known = λ t. refl; short = refl; accepted = λ s t low found. rw (low, found) }
 
 pub usage_shown : (old new : State) (rows : List Row) → Shown usage_text [] old new rows → (f : Figures) → HasFigures old.now f → IsPermutation (map usage_cells f.usage) rows
 usage_shown old new rows h f l =
-    let all = shows_all usage_cells usage_text usage_shape usage_select refl [] old new l.tables.usage_tree l.tables.usage rows h f.usage refl l.holds_usage in
+    let all = shows_all usage_cells usage_select refl [] old new l.tables.usage_tree l.tables.usage rows h f.usage refl l.holds_usage in
     subst (λ xs. IsPermutation (map usage_cells xs) rows) (all_pass f.usage) all
 
 abbrev usage_back : Row → UsageFigures
@@ -49,21 +43,15 @@ usage_more row x is = λ i. is.login i ∷ is.day i ∷ is.settled i ∷ is.rese
 abbrev pub transactions_text : List ℕ
 transactions_text = codes "SELECT login, day, moment, held, settled FROM trans"
 
-abbrev pub transactions_shape : SelectShape
-transactions_shape = record {
-  table = trans_table;
-  shown = field (codes "login") 3 ∷ field (codes "day") 5 ∷ field (codes "moment") 4 ∷ field (codes "held") 6 ∷ field (codes "settled") 7 ∷ [];
-  tests = [];
-  order = None;
-}
-
-pub transactions_select : IsSelect transactions_text transactions_shape
+pub transactions_select : IsSelect transactions_text (unordered trans_table
+    (field (codes "login") 3 ∷ field (codes "day") 5 ∷ field (codes "moment") 4 ∷ field (codes "held") 6 ∷ field (codes "settled") 7 ∷ [])
+    [])
 unfolding everything listing_schema same_name
 transactions_select = record { parsed = refl; statement = refl; timeless = refl; unlisted = refl; known = λ t. refl; short = refl; accepted = λ s t low found. rw (low, found) }
 
 pub transactions_shown : (old new : State) (rows : List Row) → Shown transactions_text [] old new rows → (f : Figures) → HasFigures old.now f → IsPermutation (map transaction_cells f.transactions) rows
 transactions_shown old new rows h f l =
-    let all = shows_all whole_cells transactions_text transactions_shape transactions_select refl [] old new l.tables.trans_tree l.tables.trans rows h l.whole refl l.holds_trans in
+    let all = shows_all whole_cells transactions_select refl [] old new l.tables.trans_tree l.tables.trans rows h l.whole refl l.holds_trans in
     let kept : IsPermutation (map (λ (w : WholeTransaction). transaction_cells w.figures) l.whole) rows = subst (λ ws. IsPermutation (map (λ (w : WholeTransaction). transaction_cells w.figures) ws) rows) (all_pass l.whole) all in
     let same : map (λ (w : WholeTransaction). transaction_cells w.figures) l.whole ≡ map transaction_cells f.transactions = sym (map-map transaction_cells (λ (w : WholeTransaction). w.figures) l.whole) ∙ ap (map transaction_cells) (sym l.transactions) in
     subst (λ xs. IsPermutation xs rows) same kept
@@ -83,21 +71,15 @@ transactions_more row x is = λ i. is.login i ∷ is.day i ∷ is.moment i ∷ i
 abbrev pub limits_text : List ℕ
 limits_text = codes "SELECT login, day, cap FROM ceiling"
 
-abbrev pub limits_shape : SelectShape
-limits_shape = record {
-  table = ceiling_table;
-  shown = field (codes "login") 0 ∷ field (codes "day") 1 ∷ field (codes "cap") 2 ∷ [];
-  tests = [];
-  order = None;
-}
-
-pub limits_select : IsSelect limits_text limits_shape
+pub limits_select : IsSelect limits_text (unordered ceiling_table
+    (field (codes "login") 0 ∷ field (codes "day") 1 ∷ field (codes "cap") 2 ∷ [])
+    [])
 unfolding everything listing_schema same_name
 limits_select = record { parsed = refl; statement = refl; timeless = refl; unlisted = refl; known = λ t. refl; short = refl; accepted = λ s t low found. rw (low, found) }
 
 pub limits_shown : (old new : State) (rows : List Row) → Shown limits_text [] old new rows → (f : Figures) → HasFigures old.now f → IsPermutation (map limit_cells f.limits) rows
 limits_shown old new rows h f l =
-    let all = shows_all limit_cells limits_text limits_shape limits_select refl [] old new l.tables.ceiling_tree l.tables.ceiling rows h f.limits refl l.holds_ceiling in
+    let all = shows_all limit_cells limits_select refl [] old new l.tables.ceiling_tree l.tables.ceiling rows h f.limits refl l.holds_ceiling in
     subst (λ xs. IsPermutation (map limit_cells xs) rows) (all_pass f.limits) all
 
 abbrev limits_back : Row → LimitFigures

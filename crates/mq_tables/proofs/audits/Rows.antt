@@ -1,9 +1,10 @@
 -- Rows that are given to the books, one after another.
-use Rattle.std.proofs.Common.{◌≡◌, ◌⊎◌, inl, inr, List, [], ◌∷◌, ◌++◌, append-nil, append_assoc, IsSome, true≢false, Ok, Err, Result, refl, sym, ap₂, subst, ◌∙◌}
-use Rattle.mq_tables.proofs.Words.{CommitsShowing, Compiled, Database, Error, FailsToQuery, HasCleanDisk, Held, IsPermutation, IsRolledBack, IsSourceOf, IsUnchanged, Row, Schema, Shown, ShowsRows, State, Survives, reads_listing, state, unchanged_then, understood}
+use Rattle.std.proofs.Common.{◌≡◌, ◌⊎◌, inl, inr, List, [], ◌∷◌, ◌++◌, map, append-nil, append_assoc, IsSome, true≢false, Ok, Err, Result, refl, sym, ap₂, subst, ◌∙◌}
+use Rattle.mq_tables.proofs.Words.{CommitsShowing, Compiled, Database, Error, FailsToQuery, HasCleanDisk, Held, IsRolledBack, IsSourceOf, IsUnchanged, Row, Schema, Shown, ShowsRows, State, Survives, reads_listing, state, unchanged_then, understood}
 use Rattle.sqlite.specs.Given.{Returns, HasGiven, HasBegun}
 use Rattle.sqlite.specs.Clock.{timed}
 use Rattle.std.specs.Prelude.{OnOk, OnErr, IsTrue}
+use Rattle.std.proofs.lemmas.List.{map-append}
 use Rattle.sqlite.proofs.StateLemmas.{survives_weaker}
 use Rattle.sqlite_resolve.specs.declared.error.CompileError.{CompileError}
 use Rattle.sqlite_trees.specs.declared.store.Store as store
@@ -11,22 +12,20 @@ use Rattle.mq_rows.specs.declared.audited.LimitFigures.{LimitFigures}
 use Rattle.mq_rows.specs.declared.audited.TransactionFigures.{TransactionFigures}
 use Rattle.mq_rows.specs.declared.audited.UsageFigures.{UsageFigures}
 use Rattle.mq_rows.specs.declared.auditing.Books.{Books}
-use Rattle.mq_rows.specs.Audit.{Figures}
 use Rattle.mq_rows.specs.Books.{AreBooksOf, no_rows, with_usage, with_transaction, with_limit}
 use Rattle.mq_tables.specs.declared.figures.Table.{Table}
 use Rattle.mq_tables.specs.declared.figures.Table.TheVariants.{Usage, Transactions, Limits}
 use Rattle.mq_tables.specs.Figures.{HasFigures, IsUsageRead, IsTransactionRead, IsLimitRead, usage_cells, transaction_cells, limit_cells, usage_columns, transaction_columns, limit_columns, Adds, Took, AreGiven, text_of}
 use Rattle.mq_tables.proofs.Chain.{survives_both}
-use Rattle.mq_tables.proofs.audits.Reads.{usage_text, usage_shape, usage_select, usage_shown, usage_read, usage_more, transactions_text, transactions_shape, transactions_select, transactions_shown, transactions_read, transactions_more, limits_text, limits_shape, limits_select, limits_shown, limits_read, limits_more}
-use Rattle.mq_tables.proofs.Finds.{mapped_more}
+use Rattle.mq_tables.proofs.audits.Reads.{usage_text, usage_select, usage_shown, usage_read, usage_more, transactions_text, transactions_select, transactions_shown, transactions_read, transactions_more, limits_text, limits_select, limits_shown, limits_read, limits_more}
 use Rattle.mq_tables.specs.Reading.{Spares}
 use Rattle.mq_tables.proofs.SelectShape.{bare}
 use Rattle.mq_tables.proofs.Spared.{AlwaysBare, commits_none, not_shown, shown_same, spared}
 
 pub always_bare : (t : Table) → AlwaysBare (text_of t)
-always_bare Usage = bare usage_text usage_shape usage_select
-always_bare Transactions = bare transactions_text transactions_shape transactions_select
-always_bare Limits = bare limits_text limits_shape limits_select
+always_bare Usage = bare usage_select
+always_bare Transactions = bare transactions_select
+always_bare Limits = bare limits_select
 
 -- a query begins
 
@@ -54,10 +53,6 @@ shown_before t a b c rows same h =
       record { is = subst (λ (d : Database). understood d.schema (text_of t) ≡ Ok h.0) now h.1.is; whole = h.1.whole; given = h.1.given; now = h.1.now },
       subst (ShowsRows a c (text_of t) h.0 full rows) (sym none) (it.0, subst (λ (d : Database). IsSourceOf (reads_listing d.schema (text_of t)) d it.0) now it.1, it.2, unchanged_then a b c same it.3),
     )
-
-pub on_err : {X E : Type 0} (r : Result X E) {P : Type 0} → P → OnErr r P
-on_err (Ok x) p = tt
-on_err (Err e) p = p
 
 pub not_asked : (t : Table) (old new : State) (e : Error) → FailsToQuery (text_of t) [] old new e → IsUnchanged old new ⊎ IsRolledBack old new
 not_asked t old new = not_shown (text_of t) (always_bare t) old new
@@ -87,10 +82,14 @@ took_none Usage b = ([], refl, λ zone default f are. subst (λ us. AreBooksOf z
 took_none Transactions b = ([], refl, λ zone default f are. subst (λ ts. AreBooksOf zone default (record f { transactions = ts }) b) (sym (append-nil f.transactions)) are)
 took_none Limits b = ([], refl, λ zone default f are. subst (λ cs. AreBooksOf zone default (record f { limits = cs }) b) (sym (append-nil f.limits)) are)
 
+-- one row more was read of the columns
+read_more : {X : Type 0} (columns : Row → Row) (cells : X → Row) (rows : List Row) (row : Row) (read : List X) (x : X) → map columns rows ≡ map cells read → columns row ≡ cells x → map columns (rows ++ row ∷ []) ≡ map cells (read ++ x ∷ [])
+read_more columns cells rows row read x same is = map-append columns rows (row ∷ []) ∙ ap₂ (λ xs y. xs ++ y ∷ []) same is ∙ sym (map-append cells read (x ∷ []))
+
 pub took_usage : (row : Row) (u : UsageFigures) → IsUsageRead row u → (old new : Books) → Adds (λ f. with_usage f u) old new → (rows : List Row) (first : Books) → Took Usage rows first old → Took Usage (rows ++ row ∷ []) first new
 took_usage row u is old new adds rows first took = (
   took.0 ++ u ∷ [],
-  mapped_more usage_columns rows row ∙ ap₂ (λ xs x. xs ++ x ∷ []) took.1 (usage_more row u is) ∙ sym (mapped_more usage_cells took.0 u),
+  read_more usage_columns usage_cells rows row took.0 u took.1 (usage_more row u is),
   λ zone default f are. subst (λ us. AreBooksOf zone default (record f { usage = us }) new) (append_assoc f.usage took.0 (u ∷ [])) (adds zone default (record f { usage = f.usage ++ took.0 }) (took.2 zone default f are)),
 )
 
@@ -98,30 +97,16 @@ pub took_transaction : (row : Row) (t : TransactionFigures) → IsTransactionRea
     → Took Transactions (rows ++ row ∷ []) first new
 took_transaction row t is old new adds rows first took = (
   took.0 ++ t ∷ [],
-  mapped_more transaction_columns rows row ∙ ap₂ (λ xs x. xs ++ x ∷ []) took.1 (transactions_more row t is) ∙ sym (mapped_more transaction_cells took.0 t),
+  read_more transaction_columns transaction_cells rows row took.0 t took.1 (transactions_more row t is),
   λ zone default f are. subst (λ ts. AreBooksOf zone default (record f { transactions = ts }) new) (append_assoc f.transactions took.0 (t ∷ [])) (adds zone default (record f { transactions = f.transactions ++ took.0 }) (took.2 zone default f are)),
 )
 
 pub took_limit : (row : Row) (c : LimitFigures) → IsLimitRead row c → (old new : Books) → Adds (λ f. with_limit f c) old new → (rows : List Row) (first : Books) → Took Limits rows first old → Took Limits (rows ++ row ∷ []) first new
 took_limit row c is old new adds rows first took = (
   took.0 ++ c ∷ [],
-  mapped_more limit_columns rows row ∙ ap₂ (λ xs x. xs ++ x ∷ []) took.1 (limits_more row c is) ∙ sym (mapped_more limit_cells took.0 c),
+  read_more limit_columns limit_cells rows row took.0 c took.1 (limits_more row c is),
   λ zone default f are. subst (λ cs. AreBooksOf zone default (record f { limits = cs }) new) (append_assoc f.limits took.0 (c ∷ [])) (adds zone default (record f { limits = f.limits ++ took.0 }) (took.2 zone default f are)),
 )
-
--- what the books were given are the rows of the store
-
-pub usage_took : (old new : State) (rows : List Row) (a b : Books) → Shown usage_text [] old new rows → Took Usage rows a b → (f : Figures) → HasFigures old.now f
-    → (read : List UsageFigures) × IsPermutation f.usage read × Adds (λ g. record g { usage = g.usage ++ read }) a b
-usage_took old new rows a b h took f has = (took.0, usage_read rows f took.0 (usage_shown old new rows h f has) took.1, took.2)
-
-pub transactions_took : (old new : State) (rows : List Row) (a b : Books) → Shown transactions_text [] old new rows → Took Transactions rows a b → (f : Figures) → HasFigures old.now f
-    → (read : List TransactionFigures) × IsPermutation f.transactions read × Adds (λ g. record g { transactions = g.transactions ++ read }) a b
-transactions_took old new rows a b h took f has = (took.0, transactions_read rows f took.0 (transactions_shown old new rows h f has) took.1, took.2)
-
-pub limits_took : (old new : State) (rows : List Row) (a b : Books) → Shown limits_text [] old new rows → Took Limits rows a b → (f : Figures) → HasFigures old.now f
-    → (read : List LimitFigures) × IsPermutation f.limits read × Adds (λ g. record g { limits = g.limits ++ read }) a b
-limits_took old new rows a b h took f has = (took.0, limits_read rows f took.0 (limits_shown old new rows h f has) took.1, took.2)
 
 -- all three, in turn
 pub all_given : (s t u v : State) (a b c d : Books) (xs ys zs : List Row) → Shown usage_text [] s t xs → Took Usage xs a b → Shown transactions_text [] t u ys → Took Transactions ys b c → Shown limits_text [] u v zs → Took Limits zs c d
@@ -131,25 +116,20 @@ all_given s t u v a b c d xs ys zs one xs' two ys' three zs' =
     let both = unchanged_then s t u first (unchanged Transactions t u ys two) in (
       unchanged_then s u v both (unchanged Limits u v zs three),
       λ f has zone default are.
-          let used = usage_took s t xs a b one xs' f has in
-          let begun = transactions_took t u ys b c two ys' f (subst (λ db. HasFigures db f) (sym first.0.now_is) has) in
-          let limited = limits_took u v zs c d three zs' f (subst (λ db. HasFigures db f) (sym both.0.now_is) has) in (
-            record { usage = used.0; transactions = begun.0; limits = limited.0 },
-            record { usage = used.1; transactions = begun.1; limits = limited.1 },
-            limited.2 zone default (record { usage = used.0; transactions = begun.0; limits = [] }) (begun.2 zone default (record { usage = used.0; transactions = []; limits = [] }) (used.2 zone default no_rows are)),
+          let later = subst (λ db. HasFigures db f) (sym first.0.now_is) has in
+          let last = subst (λ db. HasFigures db f) (sym both.0.now_is) has in (
+            record { usage = xs'.0; transactions = ys'.0; limits = zs'.0 },
+            record {
+              usage = usage_read xs f xs'.0 (usage_shown s t xs one f has) xs'.1;
+              transactions = transactions_read ys f ys'.0 (transactions_shown t u ys two f later) ys'.1;
+              limits = limits_read zs f zs'.0 (limits_shown u v zs three f last) zs'.1;
+            },
+            zs'.2 zone default (record { usage = xs'.0; transactions = ys'.0; limits = [] }) (ys'.2 zone default (record { usage = xs'.0; transactions = []; limits = [] }) (xs'.2 zone default no_rows are)),
           ),
     )
 
 pub after_either : {X E : Type 0} {U R : Type 0} (r : Result X E) → OnOk r U → OnErr r (U ⊎ R) → U ⊎ R
 after_either (Ok x) ok err = inl ok
 after_either (Err e) ok err = err
-
-pub first_of : {X E : Type 0} (U V : Type 0) (r : Result X E) → OnOk r (U × V) → OnOk r U
-first_of U V (Ok x) ok = ok.0
-first_of U V (Err e) ok = tt
-
-pub second_of : {X E : Type 0} (U V : Type 0) (r : Result X E) → OnOk r (U × V) → OnOk r V
-second_of U V (Ok x) ok = ok.1
-second_of U V (Err e) ok = tt
 
 pub ruleset calls = (survives_both, left_after, unchanged)

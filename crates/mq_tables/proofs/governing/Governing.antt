@@ -1,25 +1,18 @@
 -- What the query for the latest limit answers of the records.
-use Rattle.std.proofs.Common.{◌≡◌, inl, inr, ℕ, pos, ◌<◌, ◌≤◌, ◌<ℤ◌, ◌&&◌, nat_le, suc, List, [], ◌∷◌, codes, true, false, Some, None, Contains, arith, Ordering, Less, Equal, Greater, refl, sym, ap, ◌∙◌}
-use Rattle.mq_tables.proofs.Words.{Has, LimitRecord, MatchOrdering, Row, all_weaker, and-true, and_parts, column, everything, int_cmp, int_ranks, is_lt, listing_schema, ordering_then, same_name, same_text, slice_eq-Decides, unsigned_Decides, value_cmp-Int}
+use Rattle.std.proofs.Common.{◌≡◌, ℕ, pos, ◌<◌, ◌≤◌, ◌<ℤ◌, ◌&&◌, nat_le, List, [], ◌∷◌, codes, true, false, arith, Ordering, Less, Equal, Greater, refl, sym, ap, ◌∙◌}
+use Rattle.mq_tables.proofs.Words.{LimitRecord, MatchOrdering, Row, and-true, and_parts, column, everything, int_cmp, int_ranks, is_lt, listing_schema, ordering_then, same_name, same_text, slice_eq-Decides, unsigned_Decides, value_cmp-Int}
 use Rattle.mq_rows.specs.Found.{is_due, IsGoverning}
 use Rattle.mq_tables.specs.Governing.{limit_row, IsGoverningShown, IsLimitShown, IsFirstLimit}
 use Rattle.mq_tables.specs.Ledger.{HasLedger}
 use Rattle.mq_tables.specs.Lent.{key_params}
-use Rattle.mq_tables.specs.Records.{limit_fields}
 use Rattle.mq_tables.specs.Tables.{ceiling_table}
 use Rattle.mq_tables.proofs.Finds.{Following, int_same, one_after}
-use Rattle.mq_tables.proofs.Firsts as firsts
-use Rattle.mq_tables.proofs.SelectShape.{SelectShape, Sorting, IsSelect, filter_in, shown_in, order_by}
+use Rattle.mq_tables.proofs.SelectShape.{Sorting, IsSelect, first_by}
 use Rattle.mq_tables.proofs.Parts.{limits_part}
-use Rattle.mq_tables.proofs.Selected.{Finding, pass, finds_first}
+use Rattle.mq_tables.proofs.Selected.{Finding, finds_first}
 use Rattle.mq_tables.proofs.TermShape.{field, against}
 use Rattle.mq_tables.proofs.TermShape.Relation.{Same, AtMost}
 use Rattle.mq_tables.proofs.Tests.{text_test, until_test}
-
-pub has_contains : {X : Type 0} (xs : List X) (x : X) → Has xs x → Contains xs x
-has_contains [] x h = absurd h
-has_contains (y ∷ ys) x (inl same) = (0, omega arith, sym same)
-has_contains (y ∷ ys) x (inr more) = let it = has_contains ys x more in (suc it.0, omega (arith, it.1), it.2)
 
 abbrev pub latest_text : List ℕ
 latest_text = codes "SELECT day, cap FROM ceiling WHERE login = ?1 AND day <= ?2 ORDER BY day DESC LIMIT 1"
@@ -27,15 +20,9 @@ latest_text = codes "SELECT day, cap FROM ceiling WHERE login = ?1 AND day <= ?2
 abbrev pub latest : Sorting
 latest = record { column = field (codes "day") 1; descending = true }
 
-abbrev pub latest_shape : SelectShape
-latest_shape = record {
-  table = ceiling_table;
-  shown = field (codes "day") 1 ∷ field (codes "cap") 2 ∷ [];
-  tests = against (field (codes "login") 0) Same 1 ∷ against (field (codes "day") 1) AtMost 2 ∷ [];
-  order = Some latest;
-}
-
-pub latest_select : IsSelect latest_text latest_shape
+pub latest_select : IsSelect latest_text (first_by latest ceiling_table
+    (field (codes "day") 1 ∷ field (codes "cap") 2 ∷ [])
+    (against (field (codes "login") 0) Same 1 ∷ against (field (codes "day") 1) AtMost 2 ∷ []))
 unfolding everything listing_schema same_name
 latest_select = record { parsed = refl; statement = refl; timeless = refl; unlisted = refl; known = λ t. refl; short = refl; accepted = λ s t low found. rw (low, found) }
 
@@ -54,35 +41,13 @@ then_nothing Equal = refl
 then_nothing Greater = refl
 
 module _ (login : List ℕ) (day : ℕ) where
-  abbrev params : Row
-  params = key_params login day
-
-  decides : (c : LimitRecord) → pass limit_fields latest_shape params c ≡ is_due login day c
-  decides c = rw (text_test c.login login, until_test c.day day) (ap (λ b. same_text login c.login && b) (and-true (nat_le c.day day)))
-
-  abbrev IsFirst : ℕ → List LimitRecord → List Row → Type 0
-  IsFirst = firsts.IsFirstRow limit_fields (filter_in latest_shape) (shown_in latest_shape) params (order_by None latest)
-
-  abbrev out : LimitRecord → Row × Row
-  out c = firsts.out limit_fields (filter_in latest_shape) (shown_in latest_shape) params (order_by None latest) c
-
-  ordered : (t : ℕ) (c other : LimitRecord) → firsts.before limit_fields (filter_in latest_shape) (shown_in latest_shape) params (order_by None latest) t (out other) (out c) ≡ is_lt (int_cmp (pos c.day) (pos other.day))
-  ordered t c other = rw (value_cmp-Int (pos c.day) (pos other.day)) (then_nothing (int_cmp (pos c.day) (pos other.day)))
-
-  governing : (t : ℕ) (all : List LimitRecord) (rows : List Row) → IsFirst t all rows → IsGoverningShown login day all rows
-  governing t all [] none = all_weaker _ (λ c. is_due login day c ≡ false) (λ c free. sym (decides c) ∙ free) all none
-  governing t all (row ∷ more) (c, it, is) = (
-    c,
-    (
-      has_contains all c it.there,
-      sym (decides c) ∙ it.passing,
-      all_weaker _ (λ other. is_due login day other ≡ true → other.day ≤ c.day) (λ other low hit. not_later c.day other.day (sym (ordered t c other) ∙ low (decides other ∙ hit))) all it.first,
-    ),
-    is,
-  )
-
-  pub found_governing : Finding latest_text params HasLedger (λ t. IsGoverningShown login day t.limits)
-  found_governing = finds_first latest_text latest_shape latest_select limits_part params latest refl (IsGoverningShown login day) governing
+  pub found_governing : Finding latest_text (key_params login day) HasLedger (λ t. IsGoverningShown login day t.limits)
+  found_governing =
+      finds_first latest_select limits_part (key_params login day) (is_due login day)
+      (λ c. rw (text_test c.login login, until_test c.day day) (ap (λ b. same_text login c.login && b) (and-true (nat_le c.day day))))
+      latest refl (IsGoverning login day) (λ c. c) limit_row (λ other c. other.day ≤ c.day)
+      (λ t other c low. not_later c.day other.day (rw (value_cmp-Int (pos c.day) (pos other.day), then_nothing (int_cmp (pos c.day) (pos other.day))) at low))
+      (λ all none. none) (λ all c there due last. (there, due, last)) (λ c. refl)
 
   -- the row shows that limit, whose login is known
   pub limit_is : (row : Row) (u v : LimitRecord) → IsLimitShown login row u → login ≡ v.login → row ≡ limit_row v → v ≡ u

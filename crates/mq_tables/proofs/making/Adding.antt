@@ -1,7 +1,9 @@
 -- One more table leaves a ledger where it is; so the tables of later versions come to one of an older version.
-use Rattle.std.proofs.Common.{◌≡◌, ◌≢◌, ℕ, ◌<◌, ◌==◌, find, List, [], ◌∷◌, ◌++◌, Bool, true, false, Some, None, Ok, Err, Result, OnOk, arith, refl, sym, ap, subst, ◌∙◌}
-use Rattle.std.proofs.Common.{IsTrue, nat_le, true≢false}
-use Rattle.mq_tables.proofs.Words.{AllByRecursion, Error, Schema, State, Table, Tables, all-slice_get, all_weaker, created, lacks_sequence, next_tree, same_name}
+use Rattle.std.proofs.Common.{◌≡◌, ◌≢◌, ℕ, ◌<◌, ◌==◌, find, List, [], ◌∷◌, ◌++◌, Bool, true, false, Some, None, arith, refl, sym, ap, subst, ◌∙◌}
+use Rattle.std.proofs.Common.{inl, inr, nat_le, true≢false}
+use Rattle.std.proofs.lemmas.Bool.{ne_eqb}
+use Rattle.mq_lemmas.proofs.Numbers.{other_number}
+use Rattle.mq_tables.proofs.Words.{AllByRecursion, Schema, State, Table, Tables, all-append, all-slice_get, all_both, all_weaker, cases_Bool, created, lacks_sequence, next_tree, same_name}
 use Rattle.std.specs.Prelude.{if◌then◌else◌}
 use Rattle.sqlite_schema.specs.declared.schema.Reference.{Reference}
 use Rattle.mq_tables.specs.Tables.{rule_table, retired_table}
@@ -13,8 +15,8 @@ use Rattle.mq_tables.specs.Written.{Created}
 use Rattle.mq_tables.specs.Making.{Makes, chain, later_tables}
 use Rattle.mq_tables.specs.Indexing.{with_day_index, IndexesIf}
 use Rattle.mq_tables.specs.Updates.{KeepsOthers}
-use Rattle.mq_tables.proofs.Chains.{all_joined, all_split, all_both, of_chain}
-use Rattle.mq_tables.proofs.making.Found.{IsFound, apart, begun, still_all, in_database}
+use Rattle.mq_tables.proofs.Chains.{all_split, of_chain}
+use Rattle.mq_tables.proofs.making.Found.{IsFound, begun, still_all, in_database}
 use Rattle.mq_tables.proofs.making.Places.{all_below}
 use Rattle.mq_tables.proofs.making.Indexed as indexed
 use Rattle.mq_tables.specs.Migrating.{AddsRule, SetsVersion, HasMigrated, IsMigratedBy, migrated}
@@ -24,35 +26,20 @@ use Rattle.mq_tables.proofs.making.NewLedger.{names_selves, find_apart, holds_no
 -- ---- one more table leaves a ledger where it is
 
 find_more : (p : Table → Bool) (tree : ℕ) (xs : List Table) (t : Table) → is_tree tree (find p xs) ≡ false → (t.tree == tree) ≡ false → is_tree tree (find p (xs ++ t ∷ [])) ≡ false
-find_more p tree [] t none new = go (p t)
-  where
-    go : (b : Bool) → is_tree tree (if b then Some t else None) ≡ false
-    go true = new
-    go false = refl
-find_more p tree (x ∷ xs) t none new = go (p x) (find_more p tree xs t) none
-  where
-    go : (b : Bool) → (is_tree tree (find p xs) ≡ false → (t.tree == tree) ≡ false → is_tree tree (find p (xs ++ t ∷ [])) ≡ false)
-        → is_tree tree (if b then Some x else find p xs) ≡ false → is_tree tree (if b then Some x else find p (xs ++ t ∷ [])) ≡ false
-    go true more e = e
-    go false more e = more e new
+find_more p tree [] t none new = elim (p t) as (λ b. is_tree tree (if b then Some t else None) ≡ false) [ true ↦ new | false ↦ refl ]
+find_more p tree (x ∷ xs) t none new = elim (cases_Bool (p x)) [ inl hit ↦ rw hit (rw hit at none) | inr other ↦ rw other (find_more p tree xs t (rw other at none) new) ]
 
 -- a tree that is there is below the next one
 there_below : (s : Schema) (made : Table) (tree : ℕ) → IsTableIn s made tree → tree < next_tree s
 there_below s made tree p = all-slice_get (λ (t : Table). t.tree < next_tree s) s.tables p.at (record made { tree = tree }) p.there (all_below s)
 
-apart_from : (a b : ℕ) → a < b → (b == a) ≡ false
-apart_from a b low = swapped (apart a b low)
-  where
-    swapped : (a == b) ≡ false → (b == a) ≡ false
-    swapped h = grind (arith, h)
-
 module _ (s : Schema) (t : Table) (none : t.references ≡ []) (made : Table) (tree : ℕ) (place : IsTableIn s made tree) where
   still_apart : (ref : Reference) → refers s tree ref ≡ false → refers (created s t) tree ref ≡ false
-  still_apart ref h = find_more (λ x. same_name x.name ref.parent) tree s.tables (record t { tree = next_tree s }) h (apart_from tree (next_tree s) (there_below s made tree place))
+  still_apart ref h = find_more (λ x. same_name x.name ref.parent) tree s.tables (record t { tree = next_tree s }) h (ne_eqb (next_tree s) tree (λ same. let low = there_below s made tree place in omega (arith, same, low)))
 
   pub still_alone : IsUnreferred s tree → IsUnreferred (created s t) tree
   still_alone h =
-      all_joined (λ (x : Table). AllByRecursion (λ ref. refers (created s t) tree ref ≡ false) x.references) s.tables (record t { tree = next_tree s } ∷ [])
+      all-append (λ (x : Table). AllByRecursion (λ ref. refers (created s t) tree ref ≡ false) x.references) s.tables (record t { tree = next_tree s } ∷ [])
       (all_weaker (λ (x : Table). AllByRecursion (λ ref. refers s tree ref ≡ false) x.references) (λ (x : Table). AllByRecursion (λ ref. refers (created s t) tree ref ≡ false) x.references)
       (λ x refs. all_weaker (λ ref. refers s tree ref ≡ false) (λ ref. refers (created s t) tree ref ≡ false) still_apart x.references refs) s.tables h)
       (subst (AllByRecursion (λ ref. refers (created s t) tree ref ≡ false)) (sym none) tt, tt)
@@ -75,7 +62,7 @@ module _ (old new : State) (t : Table) (none : t.references ≡ []) (it : Create
     still = still_in;
     alone = alone_in;
     unnamed = λ h. subst (λ x. IsUnnamed x retired_table.name) (sym it.schema_is)
-        (all_joined (λ (x : Table). AllByRecursion (λ ref. same_name retired_table.name ref.parent ≡ false) x.references) old.now.schema.tables (record t { tree = next_tree old.now.schema } ∷ []) h
+        (all-append (λ (x : Table). AllByRecursion (λ ref. same_name retired_table.name ref.parent ≡ false) x.references) old.now.schema.tables (record t { tree = next_tree old.now.schema } ∷ []) h
         (subst (AllByRecursion (λ ref. same_name retired_table.name ref.parent ≡ false)) (sym none) tt, tt));
     rows = λ made tree there k. same_rows made tree there;
   }
@@ -94,10 +81,10 @@ new_alone s unnamed =
     let tree : ℕ = next_tree s in
     let apart_ref : (ref : Reference) → same_name retired_table.name ref.parent ≡ false → refers (created s retired_table) tree ref ≡ false = λ ref other.
     find_apart (λ x. same_name x.name ref.parent) tree (created s retired_table).tables
-    (all_joined (λ (x : Table). same_name x.name ref.parent ≡ true → (x.tree == tree) ≡ false) s.tables (record retired_table { tree = tree } ∷ [])
-    (all_weaker (λ (x : Table). x.tree < tree) (λ (x : Table). same_name x.name ref.parent ≡ true → (x.tree == tree) ≡ false) (λ x low hit. apart x.tree tree low) s.tables (all_below s))
+    (all-append (λ (x : Table). same_name x.name ref.parent ≡ true → (x.tree == tree) ≡ false) s.tables (record retired_table { tree = tree } ∷ [])
+    (all_weaker (λ (x : Table). x.tree < tree) (λ (x : Table). same_name x.name ref.parent ≡ true → (x.tree == tree) ≡ false) (λ x low hit. other_number x.tree tree low) s.tables (all_below s))
     ((λ hit. absurd (true≢false (sym hit ∙ other))), tt)) in
-    all_joined (λ (x : Table). AllByRecursion (λ ref. refers (created s retired_table) tree ref ≡ false) x.references) s.tables (record retired_table { tree = tree } ∷ [])
+    all-append (λ (x : Table). AllByRecursion (λ ref. refers (created s retired_table) tree ref ≡ false) x.references) s.tables (record retired_table { tree = tree } ∷ [])
     (all_weaker (λ (x : Table). AllByRecursion (λ ref. same_name retired_table.name ref.parent ≡ false) x.references) (λ (x : Table). AllByRecursion (λ ref. refers (created s retired_table) tree ref ≡ false) x.references)
     (λ x refs. all_weaker (λ ref. same_name retired_table.name ref.parent ≡ false) (λ ref. refers (created s retired_table) tree ref ≡ false) apart_ref x.references refs) s.tables unnamed)
     (tt, tt)
@@ -129,7 +116,7 @@ module _ (b c d : State) (t : Tables) (old : nat_le 3 t.setting.version ≡ fals
       let kept = before_made (λ (x : Table). x.tree ≢ l.at.setting → d.now.trees x.tree ≡ c.now.trees x.tree) b.now.schema c.now.schema retired_table two.schema_is set.2 in
       (set.0, set.1 ∙ two.schema_is, all_both _ _ _ (λ x same was apart. same apart ∙ was) b.now.schema.tables kept two.tables)
 
-migrates_from : (has_rule : Bool) (a b c d : State) → AddsRule has_rule a b → Makes retired_table b c → SetsVersion c.now d.now → IsMigratedBy false has_rule a.now d.now
+pub migrates_from : (has_rule : Bool) (a b c d : State) → AddsRule has_rule a b → Makes retired_table b c → SetsVersion c.now d.now → IsMigratedBy false has_rule a.now d.now
 unfolding ledger_stays with_rows
 migrates_from true a b c d p q s = record {
   made = λ counters t l is old.
@@ -149,13 +136,9 @@ migrates_from false a b c d p q s = record {
       record { ledger = added.0; schema = added.1 ∙ ap (λ x. created x retired_table) one.0.schema_is; others = all_both _ _ _ (λ x same was apart. same apart ∙ was) a.now.schema.tables kept one.0.tables };
 }
 
-pub migrates : (has_rule : Bool) (a b c d : State) (r : Result ℕ Error) → AddsRule has_rule a b → Makes retired_table b c → OnOk r (SetsVersion c.now d.now) → OnOk r (IsMigratedBy false has_rule a.now d.now)
-migrates has_rule a b c d (Err e) p q s = tt
-migrates has_rule a b c d (Ok count) p q s = migrates_from has_rule a b c d p q s
-
 -- ---- and the index
 
-migrated_indexed : (indexed has_rule : Bool) (a d e : State) → IsMigratedBy false has_rule a.now d.now → IndexesIf indexed d e → IsMigratedBy indexed has_rule a.now e.now
+pub migrated_indexed : (indexed has_rule : Bool) (a d e : State) → IsMigratedBy false has_rule a.now d.now → IndexesIf indexed d e → IsMigratedBy indexed has_rule a.now e.now
 unfolding ledger_stays with_rows
 migrated_indexed true has_rule a d e p q = record {
   made = λ counters t l is old.
@@ -171,16 +154,3 @@ migrated_indexed true has_rule a d e p q = record {
       };
 }
 migrated_indexed false has_rule a d e p q = subst (IsMigratedBy false has_rule a.now) (sym q.1) p
-
-pub migrates_indexed : (indexed has_rule : Bool) (a d e : State) (r : Result ℕ Error) → IsMigratedBy false has_rule a.now d.now → OnOk r (IndexesIf indexed d e) → OnOk r (IsMigratedBy indexed has_rule a.now e.now)
-migrates_indexed indexed has_rule a d e (Err x) p q = tt
-migrates_indexed indexed has_rule a d e (Ok count) p q = migrated_indexed indexed has_rule a d e p q
-
--- the transaction goes on after either
-pub adds_inside : (has_rule : Bool) (a b : State) → AddsRule has_rule a b → IsTrue b.in_transaction
-adds_inside true a b h = h.0
-adds_inside false a b h = h.0
-
-pub opened : {E : Type 0} {X : Type 0} (r : Result X E) {Before Now : Type 0} → (Now → Before) → Now → OnOk r Before
-opened (Ok x) back now = back now
-opened (Err e) back now = tt

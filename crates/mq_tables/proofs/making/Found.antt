@@ -1,8 +1,7 @@
 -- A table that was made is found in each schema that was made from there.
-use Rattle.std.proofs.Common.{◌≡◌, inl, inr, ℕ, suc, zero, ◌+◌, ◌<◌, ◌^◌, ◌==◌, nat_le, find, List, [], ◌∷◌, ◌++◌, Bool, true, false, Option, Some, true≢false, arith, slice_get, refl, ap, subst, ◌∙◌}
-use Rattle.mq_tables.proofs.Words.{AllByRecursion, AllZip, Database, IsDatabase, Row, Schema, Table, created, eq-eqb, is_used, lt-leb, next_tree, position_from, same_name}
-use Rattle.std.proofs.lemmas.Bool.Decides.{eqb_tells}
-use Rattle.std.specs.Prelude.{if◌then◌else◌}
+use Rattle.std.proofs.Common.{◌≡◌, inl, inr, ℕ, suc, zero, ◌+◌, ◌<◌, ◌^◌, ◌==◌, nat_le, find, List, [], ◌∷◌, ◌++◌, Bool, true, false, Some, arith, slice_get, refl, ap, subst, ◌∙◌}
+use Rattle.mq_tables.proofs.Words.{AllByRecursion, AllZip, Database, IsDatabase, Row, Schema, Table, cases_Bool, created, eq-eqb, is_used, lt-leb, next_tree, position_from, same_name}
+use Rattle.mq_lemmas.proofs.Numbers.{other_number}
 use Rattle.sqlite_catalog.specs.Listing.{IsTableRow}
 use Rattle.mq_tables.specs.Places.{IsTableIn}
 use Rattle.mq_tables.specs.Making.{chain}
@@ -18,22 +17,11 @@ pub record IsFound (tables : List Table) (t : Table) : Type 0 where
 
 find_kept : (p : Table → Bool) (xs ys : List Table) (t : Table) → find p xs ≡ Some t → find p (xs ++ ys) ≡ Some t
 find_kept p [] ys t h = absurd (cc)
-find_kept p (x ∷ xs) ys t h = go (p x) (find_kept p xs ys t) h
-  where
-    go : (b : Bool) → (find p xs ≡ Some t → find p (xs ++ ys) ≡ Some t) → (if b then Some x else find p xs) ≡ Some t → (if b then Some x else find p (xs ++ ys)) ≡ Some t
-    go true more e = e
-    go false more e = more e
-
-pub apart : (a b : ℕ) → a < b → (a == b) ≡ false
-apart a b low = elim (eqb_tells a b) [ inl same ↦ absurd (omega (arith, same.1, low)) | inr differ ↦ differ.0 ]
+find_kept p (x ∷ xs) ys t h = elim (cases_Bool (p x)) [ inl hit ↦ rw hit (rw hit at h) | inr other ↦ rw other (find_kept p xs ys t (rw other at h)) ]
 
 find_last : (xs : List Table) (t : Table) → AllByRecursion (λ x. x.tree < t.tree) xs → find (λ (x : Table). x.tree == t.tree) (xs ++ t ∷ []) ≡ Some t
 find_last [] t low = rw (eq-eqb t.tree t.tree refl)
-find_last (x ∷ xs) t low = go (x.tree == t.tree) (apart x.tree t.tree low.0) (find_last xs t low.1)
-  where
-    go : {rest : Option Table} (b : Bool) → b ≡ false → rest ≡ Some t → (if b then Some x else rest) ≡ Some t
-    go true e is = absurd (true≢false e)
-    go false e is = is
+find_last (x ∷ xs) t low = rw (other_number x.tree t.tree low.0) (find_last xs t low.1)
 
 still : (t u : Table) (s : Schema) → IsFound s.tables t → IsFound (created s u).tables t
 still t u s h = record { at = h.at; named = place_kept _ 0 h.at s.tables _ h.named; there = get_kept s.tables _ h.at t h.there; found = find_kept _ s.tables _ t h.found }

@@ -1,7 +1,7 @@
 -- CREATE INDEX over any schema that has our table at some place.
-use Rattle.std.proofs.Common.{◌≡◌, ℕ, List, [], Bool, true, false, not, Some, None, is_some, Ok, Err, Result, OnOk, IsTrue, true≢false, codes, refl, sym, ap, subst, ◌∙◌}
-use Rattle.mq_tables.proofs.Words.{Checked, Compiled, CreateIndex, Database, Error, IsPlain, Nothing, Parsed, Schema, Table, Tally, and_then, command, command_of, compiled, create_index, creates, everything, first, if_select, index_named, is_reserved, listing_schema, meaning, planned, reads_listing, returning, runs_as, statement_of, table_named, timed, understood, view_named, with_command}
-use Rattle.std.specs.Prelude.{if◌then◌else◌, slice_range, slice_get}
+use Rattle.std.proofs.Common.{◌≡◌, ℕ, List, [], false, not, Some, None, is_some, Ok, Err, Result, OnOk, codes, refl, sym, ap, subst, ◌∙◌}
+use Rattle.mq_tables.proofs.Words.{Checked, Compiled, CreateIndex, Database, Error, IsPlain, Parsed, Schema, Table, Tally, and_then, command, command_of, compiled, create_index, creates, everything, first, if_select, index_named, is_reserved, listing_schema, meaning, planned, returning, runs_as, statement_of, table_named, timed, understood, view_named, with_command}
+use Rattle.std.specs.Prelude.{slice_range, slice_get}
 use Rattle.std.specs.Option.{option_or}
 use Rattle.sqlite_ast.specs.declared.Statement.TheVariants as written
 use Rattle.sqlite_ast.specs.declared.CreateIndex.{CreateIndex as Definition}
@@ -10,14 +10,14 @@ use Rattle.sqlite.specs.State.{State, Executes, ExecutesIn, ExecutesInside, Writ
 use Rattle.sqlite.specs.Compile.{index_defined_by}
 use Rattle.sqlite_catalog.specs.Change.{is_used, indexed as indexed_in, KeepsRows}
 use Rattle.sqlite_schema.specs.declared.schema.Index.{Index}
-use Rattle.sqlite_resolve.specs.declared.error.CompileError.TheVariants.{NoSuchTable, Misuse, Exists}
+use Rattle.sqlite_resolve.specs.declared.error.CompileError.TheVariants.{NoSuchTable, Misuse}
 use Rattle.sqlite_resolve.specs.Define as define
 use Rattle.mq_tables.specs.Tables.{usage_table}
 use Rattle.mq_tables.specs.Places.{IsUsageIn}
 use Rattle.mq_tables.specs.Indexing.{day_index, Indexes, HasIndexed, IsIndexed}
-use Rattle.mq_tables.proofs.Plain.{parsed_in}
+use Rattle.mq_tables.proofs.Plain.{parsed_in, as_compiled}
 use Rattle.mq_tables.proofs.Statements.{went, same_value}
-use Rattle.mq_tables.proofs.making.Creating.{one_plan}
+use Rattle.mq_tables.proofs.making.Creating.{made_anew, one_plan}
 use Rattle.mq_tables.proofs.Changes.{ledger_stays}
 use Rattle.mq_tables.proofs.making.Indexed.{stays}
 use Rattle.mq_tables.proofs.making.Naming.{taken_by}
@@ -32,20 +32,11 @@ module _ (k : Command) (at : ℕ) where
   last_test (Err e) h = absurd (cc)
   last_test (Ok i) h = cc
 
-  shaped : (a r o s m : Bool) (d : Checked Index) → m ≡ false
-      → (if a then Err Misuse else and_then (if r then Err Misuse else (if o then Err Exists else (if s then (if m then Ok false else Err Exists) else Ok true)))
-      (λ is_new. if is_new then and_then d (λ _. Ok (CreateIndex at)) else Ok Nothing)) ≡ Ok k → k ≡ CreateIndex at
-  shaped true r o s m d off h = absurd (cc)
-  shaped false true o s m d off h = absurd (cc)
-  shaped false false true s m d off h = absurd (cc)
-  shaped false false false true true d off h = absurd (true≢false off)
-  shaped false false false true false d off h = absurd (cc)
-  shaped false false false false m d off h = last_test d h
-
   index_by : (s : Schema) (def : Definition) (table : Table) → def.if_missing ≡ false → table_named s def.table ≡ Some at → slice_get s.tables at ≡ Some table → create_index s def ≡ Ok k → k ≡ CreateIndex at
   unfolding create_index creates
   index_by s def table asks named there h =
-      shaped (is_reserved def.table) (is_reserved def.name) (is_some (option_or (table_named s def.name) (view_named s def.name))) (is_some (index_named s def.name)) def.if_missing (define.index table def) asks (rw (named, there) at h)
+      made_anew k (CreateIndex at) (is_reserved def.table) (is_reserved def.name) (is_some (option_or (table_named s def.name) (view_named s def.name))) (is_some (index_named s def.name)) def.if_missing Misuse _ (last_test (define.index table def)) asks
+      (rw (named, there) at h)
 
 pub record IsIndexing (p : Parsed) : Type 0 where
   pub definition : Definition
@@ -84,17 +75,9 @@ module _ (s : Schema) (tree : ℕ) (place : IsUsageIn s tree) where
       one_plan p c (CreateIndex place.at) (create_index s it.definition)
       (λ k e. index_by k place.at s it.definition (record usage_table { tree = tree }) it.asks (ap (table_named s) it.on ∙ place.named) place.there e) (rw (it.statement, it.timeless) at h)
 
-  compiled_indexed : (c : Compiled) → compiled s index_text ≡ Ok c → c ≡ as_index
-  unfolding compiled
-  compiled_indexed c h = plan_indexed (parsed_in (first index_text)) c indexing (rw parses at h)
-
   indexed : (c : Compiled) → understood s index_text ≡ Ok c → c ≡ as_index
-  unfolding understood
-  indexed c h = go (reads_listing s index_text) h
-    where
-      go : (b : Bool) → (if b then if_select (compiled listing_schema index_text) else compiled s index_text) ≡ Ok c → c ≡ as_index
-      go true e = absurd (let none = sym unlisted ∙ e in cc)
-      go false e = compiled_indexed c e
+  unfolding compiled
+  indexed c h = plan_indexed (parsed_in (first index_text)) c indexing (rw parses at (as_compiled index_text unlisted s c h).1)
 
 -- ---- the statement as a whole
 
@@ -121,10 +104,5 @@ indexes old new (Err e) h = tt
 indexes old new (Ok count) h = (h.1.mode, λ tree place. index_made old new tree place count h.0)
 
 -- so a ledger has it
-pub has_indexed : (old new : State) (r : Result ℕ Error) → OnOk r (Indexes old new) → OnOk r (IsIndexed old.now new.now)
-has_indexed old new (Err e) h = tt
-has_indexed old new (Ok count) h = record { made = λ t l. let it = h.1 l.at.usage l.tables.usage in (it, ledger_stays (stays l.at.usage old.now new.now it) t l) }
-
-pub index_inside : (old new : State) (r : Result ℕ Error) → OnOk r (Indexes old new) → OnOk r (IsTrue new.in_transaction)
-index_inside old new (Err e) h = tt
-index_inside old new (Ok count) h = h.0
+pub has_indexed : (old new : State) → Indexes old new → IsIndexed old.now new.now
+has_indexed old new h = record { made = λ t l. let it = h.1 l.at.usage l.tables.usage in (it, ledger_stays (stays l.at.usage old.now new.now it) t l) }

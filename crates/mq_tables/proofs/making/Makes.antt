@@ -1,21 +1,22 @@
 -- What the statements of `create` leave, over any schema.
 use Rattle.std.proofs.Common.{IsTrue, ◌≡◌, ◌≢◌, ℕ, ◌+◌, List, [], ◌∷◌, true, false, Some, Ok, Err, Result, arith, OnOk, slice_get, sym, ap, subst, ◌∙◌}
-use Rattle.mq_tables.proofs.Words.{AllByRecursion, Error, ExecutesInside, Row, Schema, State, Table, created, lacks_sequence, next_tree, same_name, table_named}
+use Rattle.mq_tables.proofs.Words.{AllByRecursion, Error, ExecutesInside, Row, Schema, State, Table, all_both, created, lacks_sequence, next_tree, same_name, table_named}
 use Rattle.mq_tables.specs.Tables.{answer_table, trans_table, usage_table, ceiling_table, rule_table, retired_table}
 use Rattle.mq_tables.specs.Written.{Created}
 use Rattle.mq_tables.specs.Making.{Makes, Puts, HasCounters, HasAdded, HasStarted, four_tables, later_tables, other_tables}
 use Rattle.mq_tables.proofs.making.Creating.{MakesTable, creates_any, counters_kept}
 use Rattle.mq_tables.proofs.making.Places.{placed, unnamed, all_below}
-use Rattle.mq_tables.proofs.Chains.{adds_both, all_split, all_both}
+use Rattle.mq_tables.proofs.Chains.{adds_both, all_split}
 
-pub makes : (text : List ℕ) (table : Table) (it : MakesTable text table) (old new : State) (r : Result ℕ Error) → ExecutesInside 0 text [] old new r → OnOk r (Makes table old new)
-makes text table it old new (Err e) h = tt
-makes text table it old new (Ok count) h = (
-  h.1.mode,
-  λ counters.
-      let done = creates_any text table it old new count counters h.0 in
-      (done, subst (λ s. lacks_sequence s ≡ false) (sym done.schema_is) (counters_kept old.now.schema table it.uncounted counters)),
-)
+module _ {text : List ℕ} {table : Table} (it : MakesTable text table) (old new : State) where
+  pub makes : (r : Result ℕ Error) → ExecutesInside 0 text [] old new r → OnOk r (Makes table old new)
+  makes (Err e) h = tt
+  makes (Ok count) h = (
+    h.1.mode,
+    λ counters.
+        let done = creates_any it old new count counters h.0 in
+        (done, subst (λ s. lacks_sequence s ≡ false) (sym done.schema_is) (counters_kept old.now.schema table it.uncounted counters)),
+  )
 
 -- what succeeds was asked of a store that was open
 pub was_open : (text : List ℕ) (params : Row) (old new : State) (r : Result ℕ Error) → ExecutesInside 0 text params old new r → OnOk r (IsTrue old.is_open)
@@ -53,20 +54,13 @@ starts table row self a b c p q counters =
       counters = ap lacks_sequence put.schema ∙ one.1;
     }
 
--- ---- as the functions say it
+-- ---- one table after another
 
-pub starts_ok : (table : Table) (row : Row) → same_name table.name table.name ≡ true → (a b c : State) (r : Result ℕ Error) → Makes table a b → OnOk r (Puts table row b c) → OnOk r (HasCounters a → HasStarted table row a c)
-starts_ok table row self a b c (Ok count) p q = starts table row self a b c p q
-starts_ok table row self a b c (Err e) p q = tt
+pub adds_four : (a b c d e : State) → Makes answer_table a b → Makes trans_table b c → Makes usage_table c d → Makes ceiling_table d e → HasCounters a → HasAdded four_tables a e
+adds_four a b c d e p q r s = adds_next answer_table _ a b e p (adds_next trans_table _ b c e q (adds_next usage_table _ c d e r (adds_last ceiling_table d e s)))
 
-pub adds_four : (a b c d e : State) (r : Result ℕ Error) → Makes answer_table a b → Makes trans_table b c → Makes usage_table c d → OnOk r (Makes ceiling_table d e) → OnOk r (HasCounters a → HasAdded four_tables a e)
-adds_four a b c d e (Ok count) p q r s = adds_next answer_table _ a b e p (adds_next trans_table _ b c e q (adds_next usage_table _ c d e r (adds_last ceiling_table d e s)))
-adds_four a b c d e (Err _) p q r s = tt
+pub adds_later : (a b c : State) → Makes rule_table a b → Makes retired_table b c → HasCounters a → HasAdded (later_tables false) a c
+adds_later a b c p q = adds_next rule_table _ a b c p (adds_last retired_table b c q)
 
-pub adds_later : (a b c : State) (r : Result ℕ Error) → Makes rule_table a b → OnOk r (Makes retired_table b c) → OnOk r (HasCounters a → HasAdded (later_tables false) a c)
-adds_later a b c (Ok count) p q = adds_next rule_table _ a b c p (adds_last retired_table b c q)
-adds_later a b c (Err _) p q = tt
-
-pub adds_others : (a b c : State) (r : Result ℕ Error) → (HasCounters a → HasAdded four_tables a b) → OnOk r (HasCounters b → HasAdded (later_tables false) b c) → OnOk r (HasCounters a → HasAdded other_tables a c)
-adds_others a b c (Ok count) p q = λ counters. let one = p counters in adds_both four_tables (later_tables false) a b c one (q one.counters)
-adds_others a b c (Err _) p q = tt
+pub adds_others : (a b c : State) → (HasCounters a → HasAdded four_tables a b) → (HasCounters b → HasAdded (later_tables false) b c) → HasCounters a → HasAdded other_tables a c
+adds_others a b c p q counters = let one = p counters in adds_both four_tables (later_tables false) a b c one (q one.counters)

@@ -1,8 +1,9 @@
 -- The five tables of a new ledger are found, and hold the rows of the empty history.
-use Rattle.std.proofs.Common.{◌≡◌, ℕ, pos, ◌<◌, ◌==◌, find, List, [], ◌∷◌, Bool, true, false, Some, None, true≢false, refl, sym, ap, subst, ◌∙◌}
-use Rattle.mq_tables.proofs.Words.{AllByRecursion, Database, IsDatabase, IsPermutation-refl, Row, Schema, State, Table, Tables, all_weaker, created, next_tree, or_parts, same_name}
-use Rattle.std.specs.Prelude.{if◌then◌else◌, ⊤}
+use Rattle.std.proofs.Common.{◌≡◌, inl, inr, ℕ, pos, ◌<◌, ◌==◌, find, List, [], ◌∷◌, Bool, true, false, None, true≢false, refl, sym, ap, subst, ◌∙◌}
+use Rattle.mq_tables.proofs.Words.{AllByRecursion, Database, IsDatabase, IsPermutation-refl, Row, Schema, State, Table, Tables, all-append, all_both, all_weaker, cases_Bool, created, is_used, next_tree, or_parts, same_name}
+use Rattle.std.specs.Prelude.{⊤}
 use Rattle.sqlite_schema.specs.declared.schema.Reference.{Reference}
+use Rattle.mq_lemmas.proofs.Numbers.{other_number}
 use Rattle.mq_tables.specs.Tables.{setting_table, answer_table, trans_table, usage_table, ceiling_table, rule_table, retired_table}
 use Rattle.mq_tables.specs.declared.setting.NewSetting.{NewSetting}
 use Rattle.mq_tables.specs.Places.{IsTableIn, IsUnreferred, is_tree, refers}
@@ -10,17 +11,14 @@ use Rattle.mq_tables.specs.Records.{Holds}
 use Rattle.mq_tables.specs.Ledger.{HasLedger, IsLedgerIn}
 use Rattle.mq_tables.specs.Settings.{HasSetting, setting_after}
 use Rattle.mq_tables.specs.Making.{chain, trees_for, is_ours, AllFree, AreUnnamed, other_tables, three_tables, five_tables, ledger_over, setting_row, new_rows, HasStarted, HasAdded}
-use Rattle.mq_tables.proofs.Chains.{all_joined, all_both, of_chain}
-use Rattle.mq_tables.proofs.making.Found.{IsFound, apart, begun, still_all, in_database}
+use Rattle.mq_tables.proofs.Chains.{of_chain}
+use Rattle.mq_tables.proofs.making.Found.{IsFound, begun, still_all, in_database}
 use Rattle.mq_tables.proofs.making.Places.{all_below}
 
 pub names_selves : (same_name setting_table.name setting_table.name ≡ true) × (same_name answer_table.name answer_table.name ≡ true) × (same_name trans_table.name trans_table.name ≡ true)
     × (same_name usage_table.name usage_table.name ≡ true) × (same_name ceiling_table.name ceiling_table.name ≡ true) × (same_name rule_table.name rule_table.name ≡ true) × (same_name retired_table.name retired_table.name ≡ true)
 unfolding same_name
 names_selves = (refl, refl, refl, refl, refl, refl, refl)
-
-pub setting_named : same_name setting_table.name setting_table.name ≡ true
-setting_named = names_selves.0
 
 -- the rows of a new ledger before its rule is put in
 abbrev pub without_rule : NewSetting → Tables
@@ -34,15 +32,11 @@ AllMade P s (t ∷ more) = P (record t { tree = next_tree s }) × AllMade P (cre
 
 all_chain : (P : Table → Type 0) (made : List Table) (s : Schema) → AllByRecursion P s.tables → AllMade P s made → AllByRecursion P (chain s made).tables
 all_chain P [] s h k = h
-all_chain P (t ∷ more) s h k = all_chain P more (created s t) (all_joined P s.tables _ h (k.0, tt)) k.1
+all_chain P (t ∷ more) s h k = all_chain P more (created s t) (all-append P s.tables _ h (k.0, tt)) k.1
 
 pub find_apart : (p : Table → Bool) (tree : ℕ) (xs : List Table) → AllByRecursion (λ (t : Table). p t ≡ true → (t.tree == tree) ≡ false) xs → is_tree tree (find p xs) ≡ false
 find_apart p tree [] h = refl
-find_apart p tree (x ∷ xs) h = go (p x) refl (find_apart p tree xs h.1)
-  where
-    go : (b : Bool) → p x ≡ b → is_tree tree (find p xs) ≡ false → is_tree tree (if b then Some x else find p xs) ≡ false
-    go true e more = h.0 e
-    go false e more = more
+find_apart p tree (x ∷ xs) h = elim (cases_Bool (p x)) [ inl hit ↦ rw hit (h.0 hit) | inr other ↦ rw other (find_apart p tree xs h.1) ]
 
 unlike : {P : Type 0} (b : Bool) → b ≡ false → b ≡ true → P
 unlike b not_so is = absurd (true≢false (sym is ∙ not_so))
@@ -64,7 +58,7 @@ module _ (s : Schema) (before : List Table) where
       let e = or_parts _ _ d.1 in
       let f = or_parts _ _ e.1 in
       find_apart p tree (ledger_over s).tables
-      (all_chain (λ (t : Table). p t ≡ true → (t.tree == tree) ≡ false) (setting_table ∷ other_tables) s (all_weaker (λ (t : Table). t.tree < tree) (λ (t : Table). p t ≡ true → (t.tree == tree) ≡ false) (λ t low hit. apart t.tree tree low) s.tables older)
+      (all_chain (λ (t : Table). p t ≡ true → (t.tree == tree) ≡ false) (setting_table ∷ other_tables) s (all_weaker (λ (t : Table). t.tree < tree) (λ (t : Table). p t ≡ true → (t.tree == tree) ≡ false) (λ t low hit. other_number t.tree tree low) s.tables older)
       (unlike _ a.0, (unlike _ b.0, (unlike _ c.0, (unlike _ d.0, (unlike _ e.0, (unlike _ f.0, (unlike _ f.1, tt))))))))
 
   pub alone : AreUnnamed s → IsUnreferred (ledger_over s) tree
@@ -82,65 +76,64 @@ module _ (made_with : NewSetting) (old new : Database) (sound : IsDatabase new) 
   abbrev s : Schema
   s = old.schema
 
-  abbrev s1 : Schema
-  s1 = created s setting_table
+  abbrev after : List Table → ℕ
+  after before = next_tree (chain s before)
 
-  abbrev s2 : Schema
-  s2 = created s1 answer_table
+  -- where each stands that is made after some and before others
+  placed_in : (before : List Table) (made : Table) (more : List Table) → same_name made.name made.name ≡ true → is_used (chain s before) made.name ≡ false → ledger_over s ≡ chain (created (chain s before) made) more → IsTableIn new.schema made (after before)
+  placed_in before made more self unused whole =
+      in_database made (after before) new sound (subst (λ (x : Schema). IsFound x.tables (record made { tree = after before })) (sym (schema ∙ whole)) (still_all (record made { tree = after before }) more (created (chain s before) made) (begun made self (chain s before) unused)))
 
-  abbrev s3 : Schema
-  s3 = created s2 trans_table
+  setting_place : IsTableIn new.schema setting_table (after [])
+  setting_place = placed_in [] setting_table other_tables names_selves.0 free.0 refl
 
-  abbrev s4 : Schema
-  s4 = created s3 usage_table
+  left_alone : AreUnnamed s → (before : List Table) → IsUnreferred new.schema (after before)
+  left_alone unnamed before = subst (λ x. IsUnreferred x (after before)) (sym schema) (alone s before unnamed)
 
-  abbrev s5 : Schema
-  s5 = created s4 ceiling_table
+  usage_place : IsTableIn new.schema usage_table (after three_tables)
+  usage_place = placed_in three_tables usage_table (ceiling_table ∷ rule_table ∷ retired_table ∷ []) names_selves.3 free.1.1.1.0 refl
 
-  abbrev s6 : Schema
-  s6 = created s5 rule_table
+  abbrev one_table : List Table
+  one_table = setting_table ∷ []
 
-  at_place : (made : Table) (tree : ℕ) → IsFound (ledger_over s).tables (record made { tree = tree }) → IsTableIn new.schema made tree
-  at_place made tree found = in_database made tree new sound (subst (λ (x : Schema). IsFound x.tables (record made { tree = tree })) (sym schema) found)
+  abbrev two_tables : List Table
+  two_tables = setting_table ∷ answer_table ∷ []
 
-  setting_place : IsTableIn new.schema setting_table (next_tree s)
-  setting_place = at_place setting_table (next_tree s) (still_all _ other_tables s1 (begun setting_table names_selves.0 s free.0))
+  abbrev four : List Table
+  four = setting_table ∷ answer_table ∷ trans_table ∷ usage_table ∷ []
 
-  left_alone : AreUnnamed s → (before : List Table) → IsUnreferred new.schema (next_tree (chain s before))
-  left_alone unnamed before = subst (λ x. IsUnreferred x (next_tree (chain s before))) (sym schema) (alone s before unnamed)
+  abbrev six_tables : List Table
+  six_tables = setting_table ∷ answer_table ∷ trans_table ∷ usage_table ∷ ceiling_table ∷ rule_table ∷ []
 
-  usage_place : IsTableIn new.schema usage_table (next_tree s3)
-  usage_place = at_place usage_table (next_tree s3) (still_all _ (ceiling_table ∷ rule_table ∷ retired_table ∷ []) s4 (begun usage_table names_selves.3 s3 free.1.1.1.0))
-
-  ledger_in : AreUnnamed s → IsLedgerIn new.schema (record { setting = next_tree s; answer = next_tree s1; trans = next_tree s2; usage = next_tree s3; ceiling = next_tree s4 })
+  ledger_in : AreUnnamed s → IsLedgerIn new.schema (record { setting = after []; answer = after one_table; trans = after two_tables; usage = after three_tables; ceiling = after four })
   ledger_in unnamed = record {
     setting = setting_place;
-    answer = at_place answer_table (next_tree s1) (still_all _ (trans_table ∷ usage_table ∷ ceiling_table ∷ rule_table ∷ retired_table ∷ []) s2 (begun answer_table names_selves.1 s1 free.1.0));
-    trans = at_place trans_table (next_tree s2) (still_all _ (usage_table ∷ ceiling_table ∷ rule_table ∷ retired_table ∷ []) s3 (begun trans_table names_selves.2 s2 free.1.1.0));
+    answer = placed_in one_table answer_table (trans_table ∷ usage_table ∷ ceiling_table ∷ rule_table ∷ retired_table ∷ []) names_selves.1 free.1.0 refl;
+    trans = placed_in two_tables trans_table (usage_table ∷ ceiling_table ∷ rule_table ∷ retired_table ∷ []) names_selves.2 free.1.1.0 refl;
     usage = usage_place;
-    ceiling = at_place ceiling_table (next_tree s4) (still_all _ (rule_table ∷ retired_table ∷ []) s5 (begun ceiling_table names_selves.4 s4 free.1.1.1.1.0));
+    ceiling = placed_in four ceiling_table (rule_table ∷ retired_table ∷ []) names_selves.4 free.1.1.1.1.0 refl;
     setting_alone = left_alone unnamed [];
-    answer_alone = left_alone unnamed (setting_table ∷ []);
-    trans_alone = left_alone unnamed (setting_table ∷ answer_table ∷ []);
-    usage_alone = left_alone unnamed (setting_table ∷ answer_table ∷ trans_table ∷ []);
-    ceiling_alone = left_alone unnamed (setting_table ∷ answer_table ∷ trans_table ∷ usage_table ∷ []);
+    answer_alone = left_alone unnamed one_table;
+    trans_alone = left_alone unnamed two_tables;
+    usage_alone = left_alone unnamed three_tables;
+    ceiling_alone = left_alone unnamed four;
   }
 
-  rule_place : IsTableIn new.schema rule_table (next_tree s5)
-  rule_place = at_place rule_table (next_tree s5) (still_all _ (retired_table ∷ []) s6 (begun rule_table names_selves.5 s5 free.1.1.1.1.1.0))
+  rule_place : IsTableIn new.schema rule_table (after five_tables)
+  rule_place = placed_in five_tables rule_table (retired_table ∷ []) names_selves.5 free.1.1.1.1.1.0 refl
 
-  ledger_held : new.trees (next_tree s) ≡ setting_row made_with ∷ [] → AllByRecursion (λ n. new.trees n ≡ []) (trees_for s1 other_tables) → AreUnnamed s → HasLedger new (without_rule made_with)
+  ledger_held : new.trees (next_tree s) ≡ setting_row made_with ∷ [] → AllByRecursion (λ n. new.trees n ≡ []) (trees_for (created s setting_table) other_tables) → AreUnnamed s → HasLedger new (without_rule made_with)
   ledger_held row empty unnamed = record {
     sound = sound;
     at = _;
     tables = ledger_in unnamed;
     holds = record { setting = row; answers = record { rows = empty.0; numbered = tt }; transactions = holds_none _ _ empty.1.0; usage = holds_none _ _ empty.1.1.0; limits = holds_none _ _ empty.1.1.1.0 };
     later = record {
-      rule = record { tree = next_tree s5; table = rule_place; holds = empty.1.1.1.1.0 };
+      rule = record { tree = after five_tables; table = rule_place; holds = empty.1.1.1.1.0 };
       retired = record {
-        tree = next_tree s6;
-        table = at_place retired_table (next_tree s6) (begun retired_table names_selves.6 s6 free.1.1.1.1.1.1.0);
-        alone = left_alone unnamed (setting_table ∷ answer_table ∷ trans_table ∷ usage_table ∷ ceiling_table ∷ rule_table ∷ []);
+        tree = after six_tables;
+        table = placed_in six_tables retired_table [] names_selves.6 free.1.1.1.1.1.1.0 refl;
+        alone = left_alone unnamed six_tables;
         holds = holds_none _ _ empty.1.1.1.1.1.0;
       };
     };

@@ -1,13 +1,13 @@
 -- A new ledger with the rule of its zone, where it has one.
-use Rattle.std.proofs.Common.{◌≡◌, ◌≢◌, ◌<◌, ℕ, ℤ, Bool, true, false, List, [], ◌∷◌, Option, Some, None, Ok, Err, Result, OnOk, IsTrue, refl, sym, ap, subst, ◌∙◌, arith}
-use Rattle.mq_tables.proofs.Words.{AllByRecursion, Database, Error, Schema, State, Table, all_weaker, created, next_tree}
+use Rattle.std.proofs.Common.{◌≡◌, ◌≢◌, ◌<◌, ℕ, ℤ, Bool, true, false, List, [], ◌∷◌, Option, Some, None, IsTrue, refl, sym, ap, subst, ◌∙◌, arith}
+use Rattle.mq_tables.proofs.Words.{AllByRecursion, Database, Schema, State, Table, all_both, all_weaker, created, next_tree}
 use Rattle.mq_ledger.specs.Day.{ByOffset, ByRule, rule_in}
 use Rattle.mq_ledger.specs.declared.zone.Zone.{Zone}
 use Rattle.mq_tables.specs.declared.setting.NewSetting.{NewSetting}
 use Rattle.mq_tables.specs.Tables.{setting_table, rule_table}
 use Rattle.mq_tables.specs.Settings.{rule_fields}
 use Rattle.mq_tables.specs.Making.{chain, trees_for, other_tables, five_tables, setting_row, IsMadeOverBy, three_tables, HasCounters, HasStarted, HasAdded, HasPut, PutsAny, IsMadeBy, AreMadeFor}
-use Rattle.mq_tables.proofs.Chains.{all_both, of_chain}
+use Rattle.mq_tables.proofs.Chains.{of_chain}
 use Rattle.mq_tables.proofs.Changes.{kept_of, rule_changed, ledger_stays}
 use Rattle.mq_tables.specs.Places.{IsSettingIn, IsUsageIn}
 use Rattle.mq_tables.proofs.making.NewLedger.{AreSeven, seven_made, without_rule}
@@ -83,25 +83,17 @@ made_whole (ByRule text) cap a b c d p q r =
     let put = r.1 it.rule.at (tree text cap a c d) it.rule.named it.rule.there it.empty.1.1.1.1.0 in
     (with_rule text cap a c d it put, subst (λ s. IsUsageIn s (usage_tree a.now.schema)) (sym put.schema) it.usage)
 
--- ---- as the functions say it
-
-pub made_ok : (made_with : NewSetting) (a b c d : State) (r : Result ℕ Error) → (HasCounters a → HasStarted setting_table (setting_row made_with) a b) → (HasCounters b → HasAdded other_tables b c)
-    → OnOk r (PutsAny (rule_in made_with.zone) c d) → OnOk r (AreMadeFor made_with a.now d.now)
-made_ok made_with a b c d (Ok count) p q r =
+pub made_all : (made_with : NewSetting) (a b c d : State) → (HasCounters a → HasStarted setting_table (setting_row made_with) a b) → (HasCounters b → HasAdded other_tables b c) → PutsAny (rule_in made_with.zone) c d → AreMadeFor made_with a.now d.now
+made_all made_with a b c d p q r =
     let whole : HasCounters a → IsMadeBy false made_with a.now d.now × IsUsageIn d.now.schema (usage_tree a.now.schema) = λ counters.
     let started = p counters in
     made_whole made_with.zone made_with.cap a b c d started (q started.counters) r
     in
     record { made = record { made = λ counters. (whole counters).0 }; usage = λ counters. (whole counters).1 }
-made_ok made_with a b c d (Err e) p q r = tt
 
-inside_by : (rule : Option (List ℕ)) (c d : State) → PutsAny rule c d → IsTrue d.in_transaction
+pub inside_by : (rule : Option (List ℕ)) (c d : State) → PutsAny rule c d → IsTrue d.in_transaction
 inside_by None c d h = h.0
 inside_by (Some text) c d h = h.0
-
-pub inside_ok : (rule : Option (List ℕ)) (c d : State) (r : Result ℕ Error) → OnOk r (PutsAny rule c d) → OnOk r (IsTrue d.in_transaction)
-inside_ok rule c d (Ok count) h = inside_by rule c d h
-inside_ok rule c d (Err e) h = tt
 
 -- ---- with the index
 
@@ -122,18 +114,10 @@ module _ (made_with : NewSetting) (old mid new : Database) (it : IsMadeBy false 
         others = all_both _ _ _ (λ t later before. later ∙ before) old.schema.tables parts.0 it.others;
       }
 
-indexed_made : (indexed : Bool) (made_with : NewSetting) (a b c : State) → AreMadeFor made_with a.now b.now → IndexesIf indexed b c → IsMadeOverBy indexed made_with a.now c.now
+pub indexed_made : (indexed : Bool) (made_with : NewSetting) (a b c : State) → AreMadeFor made_with a.now b.now → IndexesIf indexed b c → IsMadeOverBy indexed made_with a.now c.now
 indexed_made true made_with a b c p q = record { made = λ counters. with_index made_with a.now b.now c.now (p.made.made counters) (q.1 _ (p.usage counters)) }
 indexed_made false made_with a b c p q = subst (IsMadeOverBy false made_with a.now) (sym q.1) p.made
 
-pub indexed_ok : (indexed : Bool) (made_with : NewSetting) (a b c : State) (r : Result ℕ Error) → AreMadeFor made_with a.now b.now → OnOk r (IndexesIf indexed b c) → OnOk r (IsMadeOverBy indexed made_with a.now c.now)
-indexed_ok indexed made_with a b c (Ok count) p q = indexed_made indexed made_with a b c p q
-indexed_ok indexed made_with a b c (Err e) p q = tt
-
-index_inside : (indexed : Bool) (b c : State) → IndexesIf indexed b c → IsTrue c.in_transaction
+pub index_inside : (indexed : Bool) (b c : State) → IndexesIf indexed b c → IsTrue c.in_transaction
 index_inside true b c h = h.0
 index_inside false b c h = h.0
-
-pub index_inside_ok : (indexed : Bool) (b c : State) (r : Result ℕ Error) → OnOk r (IndexesIf indexed b c) → OnOk r (IsTrue c.in_transaction)
-index_inside_ok indexed b c (Ok count) h = index_inside indexed b c h
-index_inside_ok indexed b c (Err e) h = tt

@@ -7,18 +7,11 @@ use Rattle.mq_tables.specs.Settings.{IsRuleOf, rule_rows}
 use Rattle.mq_tables.specs.Tables.{rule_table}
 use Rattle.mq_tables.specs.Written.{chosen}
 use Rattle.mq_tables.proofs.Asked.{IsAlone, IsAnswered, answers}
-use Rattle.mq_tables.proofs.SelectShape.{SelectShape, IsSelect, filter_in, shown_in}
-use Rattle.mq_tables.proofs.TermShape.{field}
-use Rattle.mq_tables.proofs.TermShape.Operand.{One}
-use Rattle.mq_tables.proofs.TermShape.Relation.{Same}
+use Rattle.mq_tables.proofs.SelectShape.{SelectShape, IsSelect, unordered, filter_in, shown_in}
+use Rattle.mq_tables.proofs.TermShape.{field, is_one}
 
 abbrev pub rule_shape : SelectShape
-rule_shape = record {
-  table = rule_table;
-  shown = field (codes "bytes") 1 ∷ [];
-  tests = record { column = field (codes "id") 0; by = Same; operand = One } ∷ [];
-  order = None;
-}
+rule_shape = unordered rule_table (field (codes "bytes") 1 ∷ []) (is_one (field (codes "id") 0) ∷ [])
 
 pub rule_select : IsSelect rule_text rule_shape
 unfolding everything listing_schema same_name
@@ -50,4 +43,4 @@ read_so (Some text) (Err e) (inr h) = let same : 0 ≡ 1 = length_permutation _ 
 pub rule_answered : (old new : State) (rule : Option (List ℕ)) → HasRule old.now rule → (answer : Result Row Error) → QueriesRow rule_text [] (unlimited old) new answer → IsRuleOf rule answer
 rule_answered old new rule has answer h =
     read_so rule answer (subst (λ shown. IsAnswered shown answer) (ap (chosen (filter_in rule_shape) (shown_in rule_shape) []) has.holds ∙ chosen_is rule)
-    (answers rule_text rule_shape rule_select refl rule_alone old new has.tree has.table answer h))
+    (answers rule_select refl rule_alone old new has.tree has.table answer h))

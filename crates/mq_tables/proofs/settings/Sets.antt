@@ -11,9 +11,7 @@ use Rattle.mq_tables.specs.Written.{chosen as chosen_rows}
 use Rattle.mq_tables.proofs.Changes.{arrivals_changed, version_changed}
 use Rattle.mq_tables.proofs.Casts.{cast_int, cast_null}
 use Rattle.mq_tables.proofs.Parts.{Executed, Executing}
-use Rattle.mq_tables.proofs.TermShape.{field}
-use Rattle.mq_tables.proofs.TermShape.Operand.{One}
-use Rattle.mq_tables.proofs.TermShape.Relation.{Same}
+use Rattle.mq_tables.proofs.TermShape.{field, is_one}
 use Rattle.mq_tables.proofs.UpdateShape.{UpdateShape, IsUpdateOf, in_tree, tests_in, made}
 
 -- this column of the row is set to the first parameter
@@ -22,7 +20,7 @@ sets_one column place row = record {
   table = setting_table;
   sets = column ∷ [];
   places = place ∷ [];
-  tests = record { column = field (codes "id") 0; by = Same; operand = One } ∷ [];
+  tests = is_one (field (codes "id") 0) ∷ [];
   row = row;
 }
 
@@ -47,7 +45,7 @@ module _ (text column : List ℕ) (place : ℕ) (row : List Term) (it : IsUpdate
 
   set_so : (old new : State) (t : ℕ) (there : IsSettingIn old.now.schema t) → IsUnreferred old.now.schema t → (count : ℕ) → Executes text params old new (Ok count) → HasSetRow set t old.now new.now
   set_so old new t there apart count h =
-      let done = made text shape it params old new t there apart count h in
+      let done = made it params old new t there apart count h in
       record {
         sound = done.sound;
         schema = done.schema_is;

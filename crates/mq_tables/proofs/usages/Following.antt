@@ -1,23 +1,21 @@
 -- What the query for the next row of a day answers of the records.
-use Rattle.std.proofs.Common.{◌≡◌, ◌==◌, ◌&&◌, ℕ, zero, suc, Ordering, Less, Equal, Greater, List, [], ◌∷◌, codes, true, false, Some, None, arith, refl, sym, ap, ◌∙◌}
-use Rattle.mq_tables.proofs.Words.{Row, UsageRecord, all_weaker, and-true, and_parts, column, everything, is_ge, is_lt, listing_schema, nat_cmp, nat_cmp_is, ordering_reverse, ordering_then, same_name, unsigned_Decides, value_cmp-Blob}
+use Rattle.std.proofs.Common.{◌≡◌, ◌==◌, ◌&&◌, ℕ, zero, suc, Ordering, Less, Equal, Greater, List, [], ◌∷◌, codes, true, false, arith, refl, sym, ap, ◌∙◌}
+use Rattle.mq_tables.proofs.Words.{Row, UsageRecord, and-true, and_parts, column, everything, is_ge, is_lt, listing_schema, nat_cmp, nat_cmp_is, ordering_reverse, ordering_then, same_name, unsigned_Decides, value_cmp-Blob}
 use Rattle.std.specs.Cmp.Lexicographic.{slice_cmp}
 use Rattle.std.proofs.lemmas.Cmp.{nat_cmp_total}
 use Rattle.mq_ledger.specs.Page.{below}
 use Rattle.mq_rows.specs.Listing.{is_above, IsNext}
 use Rattle.mq_tables.specs.Ledger.{HasLedger}
 use Rattle.mq_tables.specs.Paging.{just_above, from_params, next_row, IsNextShown, IsOfDayShown, IsFirstOfDay}
-use Rattle.mq_tables.specs.Records.{usage_fields}
 use Rattle.mq_tables.specs.Tables.{usage_table}
 use Rattle.mq_tables.proofs.Finds.{Following, int_same, blob_same, one_after}
-use Rattle.mq_tables.proofs.Firsts as firsts
-use Rattle.mq_tables.proofs.SelectShape.{SelectShape, Sorting, IsSelect, filter_in, shown_in, order_by}
+use Rattle.mq_tables.proofs.SelectShape.{Sorting, IsSelect, first_by}
 use Rattle.mq_tables.proofs.Parts.{usage_part}
-use Rattle.mq_tables.proofs.Selected.{Finding, pass, finds_first}
+use Rattle.mq_tables.proofs.Selected.{Finding, finds_first}
 use Rattle.mq_tables.proofs.TermShape.{field, against}
 use Rattle.mq_tables.proofs.TermShape.Relation.{Same, AtLeast}
 use Rattle.mq_tables.proofs.Tests.{nat_test, at_least_test}
-use Rattle.mq_tables.proofs.governing.Governing.{has_contains, then_nothing}
+use Rattle.mq_tables.proofs.governing.Governing.{then_nothing}
 
 abbrev pub next_text : List ℕ
 next_text = codes "SELECT login, settled, reserved FROM usage WHERE day = ?1 AND login >= ?2 ORDER BY login LIMIT 1"
@@ -25,15 +23,9 @@ next_text = codes "SELECT login, settled, reserved FROM usage WHERE day = ?1 AND
 abbrev by_login : Sorting
 by_login = record { column = field (codes "login") 0; descending = false }
 
-abbrev pub next_shape : SelectShape
-next_shape = record {
-  table = usage_table;
-  shown = field (codes "login") 0 ∷ field (codes "settled") 2 ∷ field (codes "reserved") 3 ∷ [];
-  tests = against (field (codes "day") 1) Same 1 ∷ against (field (codes "login") 0) AtLeast 2 ∷ [];
-  order = Some by_login;
-}
-
-pub next_select : IsSelect next_text next_shape
+pub next_select : IsSelect next_text (first_by by_login usage_table
+    (field (codes "login") 0 ∷ field (codes "settled") 2 ∷ field (codes "reserved") 3 ∷ [])
+    (against (field (codes "day") 1) Same 1 ∷ against (field (codes "login") 0) AtLeast 2 ∷ []))
 unfolding everything listing_schema same_name
 next_select = record { parsed = refl; statement = refl; timeless = refl; unlisted = refl; known = λ t. refl; short = refl; accepted = λ s t low found. rw (low, found) }
 
@@ -56,35 +48,13 @@ from_just_above (x ∷ a) (y ∷ after) =
     first_differs (nat_cmp x y) _ _ (from_just_above a after) ∙ ap (λ o. is_lt (ordering_then o (slice_cmp nat_cmp after a))) (sym (nat_cmp_total.antisymm y x))
 
 module _ (day : ℕ) (after : List ℕ) where
-  abbrev params : Row
-  params = from_params day (just_above after)
-
-  decides : (u : UsageRecord) → pass usage_fields next_shape params u ≡ is_above day after u
-  decides u = rw (nat_test u.day day, at_least_test u.login (just_above after), from_just_above u.login after) (ap (λ b. (day == u.day) && b) (and-true (below after u.login)))
-
-  abbrev IsFirst : ℕ → List UsageRecord → List Row → Type 0
-  IsFirst = firsts.IsFirstRow usage_fields (filter_in next_shape) (shown_in next_shape) params (order_by None by_login)
-
-  abbrev out : UsageRecord → Row × Row
-  out u = firsts.out usage_fields (filter_in next_shape) (shown_in next_shape) params (order_by None by_login) u
-
-  ordered : (t : ℕ) (u other : UsageRecord) → firsts.before usage_fields (filter_in next_shape) (shown_in next_shape) params (order_by None by_login) t (out other) (out u) ≡ below other.login u.login
-  ordered t u other = rw (value_cmp-Blob other.login u.login) (then_nothing (slice_cmp nat_cmp other.login u.login))
-
-  next : (t : ℕ) (all : List UsageRecord) (rows : List Row) → IsFirst t all rows → IsNextShown day after all rows
-  next t all [] none = all_weaker _ (λ u. is_above day after u ≡ false) (λ u free. sym (decides u) ∙ free) all none
-  next t all (row ∷ more) (u, it, is) = (
-    u,
-    (
-      has_contains all u it.there,
-      sym (decides u) ∙ it.passing,
-      all_weaker _ (λ other. is_above day after other ≡ true → below other.login u.login ≡ false) (λ other low hit. sym (ordered t u other) ∙ low (decides other ∙ hit)) all it.first,
-    ),
-    is,
-  )
-
-  pub found_next : Finding next_text params HasLedger (λ t. IsNextShown day after t.usage)
-  found_next = finds_first next_text next_shape next_select usage_part params by_login refl (IsNextShown day after) next
+  pub found_next : Finding next_text (from_params day (just_above after)) HasLedger (λ t. IsNextShown day after t.usage)
+  found_next =
+      finds_first next_select usage_part (from_params day (just_above after)) (is_above day after)
+      (λ u. rw (nat_test u.day day, at_least_test u.login (just_above after), from_just_above u.login after) (ap (λ b. (day == u.day) && b) (and-true (below after u.login))))
+      by_login refl (IsNext day after) (λ u. u) next_row (λ other u. below other.login u.login ≡ false)
+      (λ t other u low. rw (value_cmp-Blob other.login u.login, then_nothing (slice_cmp nat_cmp other.login u.login)) at low)
+      (λ all none. none) (λ all u there above first. (there, above, first)) (λ u. refl)
 
   -- the row shows that record, whose day is known
   shown_is : (row : Row) (u v : UsageRecord) → IsOfDayShown day row u → day ≡ v.day → row ≡ next_row v → v ≡ u

@@ -1,5 +1,5 @@
 use Rattle.std.proofs.Common.{◌≡◌, [], ◌∷◌, length, ◌∙◌, subst, arith, None}
-use Rattle.mq_client.proofs.Words.{told_all, told_of, IsVerdict, Tried, verdict_of}
+use Rattle.mq_client.proofs.Words.{told_all, told_of, IsVerdict, TriesOutcome, verdict_of}
 use Rattle.mq_client.proofs.Telling.{Tells-trans, undecided, decided_by_last, no_verdict, late_more, comes_decided, comes_undecided}
 use Rattle.mq_client.proofs.tries.try_all.Goals as goal
 
@@ -22,7 +22,7 @@ returns-in-Decided g c =
     let i = c.loop-attempt.invariant in
     let (x, decided, told, is_try, comes) = c.try_once-tried.ensures in
     let v = c.in-Decided.verdict in
-    let says = subst (λ (t : Tried). IsVerdict decided (verdict_of t)) c.in-Decided.is comes.verdict in (
+    let says = subst (λ (t : TriesOutcome). IsVerdict decided (verdict_of t)) c.in-Decided.is comes.verdict in (
       x ∷ i.done,
       decided,
       Tells-trans _ _ _ (told_all i.done) (told_of x ∷ []) i.told told,

@@ -1,5 +1,4 @@
-use Rattle.std.proofs.Common.{◌≡◌, ◌<◌, inr, refl, arith}
-use Rattle.std.proofs.lemmas.Bool.Decides.{nat_tests}
+use Rattle.mq_command.proofs.Words.{arith, inr, nat_tests, refl, ◌<◌, ◌≡◌}
 use Rattle.mq_command.proofs.allow.former.Goals as goal
 
 pub returns-then-before-eq0-clause-former : goal.returns-then-before-eq0-clause-former

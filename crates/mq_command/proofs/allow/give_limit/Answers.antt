@@ -1,4 +1,4 @@
-use Rattle.std.proofs.Common.{ap, min, ◌∙◌}
+use Rattle.mq_command.proofs.Words.{ap, min, ◌∙◌}
 use Rattle.mq_command.proofs.AllowSteps.{limit_given}
 use Rattle.mq_command.proofs.allow.give_limit.Goals as goal
 

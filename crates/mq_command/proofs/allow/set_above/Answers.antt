@@ -1,5 +1,4 @@
-use Rattle.std.proofs.Common.{◌∙◌, refl, arith}
-use Rattle.mq_command.specs.Allowing.{no_limit, limit}
+use Rattle.mq_command.proofs.Words.{arith, limit, no_limit, refl, ◌∙◌}
 use Rattle.mq_command.proofs.AllowSteps.{room_more}
 use Rattle.mq_command.proofs.allow.set_above.Goals as goal
 

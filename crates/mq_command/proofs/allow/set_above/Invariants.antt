@@ -1,5 +1,4 @@
-use Rattle.std.proofs.Common.{◌≡◌, ◌≤◌}
-use Rattle.mq_command.specs.Allowing.{AreRefused, room}
+use Rattle.mq_command.proofs.Words.{AreRefused, room, ◌≡◌, ◌≤◌}
 use Rattle.mq_command.proofs.allow.set_above.Given as goal
 
 -- so many limits were refused, and the room has grown with each

@@ -1,4 +1,4 @@
-use Rattle.std.proofs.Common.{inl, inr}
+use Rattle.mq_command.proofs.Words.{inl, inr}
 use Rattle.mq_command.proofs.allow.set_both.Goals as goal
 
 pub returns-in-Err : goal.returns-in-Err

@@ -1,4 +1,4 @@
-use Rattle.mq_command.specs.Asking.{IsUnanswered}
+use Rattle.mq_command.proofs.Words.{IsUnanswered}
 use Rattle.mq_command.proofs.ask.ask.Given as goal
 
 -- the request was sent in each turn so far, and nothing that came answers it

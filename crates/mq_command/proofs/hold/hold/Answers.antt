@@ -1,5 +1,4 @@
-use Rattle.std.proofs.Common.{refl, sym, arith}
-use Rattle.mq_command.specs.Holding.{none_sent, one_refused}
+use Rattle.mq_command.proofs.Words.{arith, none_sent, one_refused, refl, sym}
 use Rattle.mq_command.proofs.hold.hold.Goals as goal
 
 pub loop-refused-init : goal.loop-refused-init

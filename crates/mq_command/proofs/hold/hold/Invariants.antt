@@ -1,5 +1,4 @@
-use Rattle.std.proofs.Common.{◌≤◌}
-use Rattle.mq_command.specs.Holding.{AreRefusedAgain}
+use Rattle.mq_command.proofs.Words.{AreRefusedAgain, ◌≤◌}
 use Rattle.mq_command.proofs.hold.hold.Given as goal
 
 -- so many limits were refused, and the room has grown with each

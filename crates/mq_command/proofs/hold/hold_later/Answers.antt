@@ -1,7 +1,4 @@
-use Rattle.std.proofs.Common.{◌≤◌, ◌<◌, ◌+◌, inl, refl, arith}
-use Rattle.std.proofs.lemmas.Bool.Decides.{nat_tests}
-use Rattle.mq_request.specs.declared.bounds.TheConstants.{LAST_DAY}
-use Rattle.mq_command.specs.Holding.{later_day, no_later_day}
+use Rattle.mq_command.proofs.Words.{LAST_DAY, arith, inl, later_day, nat_tests, no_later_day, refl, ◌+◌, ◌<◌, ◌≤◌}
 use Rattle.mq_command.proofs.hold.hold_later.Goals as goal
 
 pub loop-place-init : goal.loop-place-init

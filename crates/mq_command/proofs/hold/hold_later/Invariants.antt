@@ -1,7 +1,4 @@
-use Rattle.std.proofs.Common.{◌<◌}
-use Rattle.mq_request.specs.Range.{IsAmount}
-use Rattle.mq_request.specs.declared.bounds.TheConstants.{LAST_DAY}
-use Rattle.mq_command.specs.Holding.{AreHeld}
+use Rattle.mq_command.proofs.Words.{AreHeld, IsAmount, LAST_DAY, ◌<◌}
 use Rattle.mq_command.proofs.hold.hold_later.Given as goal
 
 -- so many later days were dealt with, and there are more

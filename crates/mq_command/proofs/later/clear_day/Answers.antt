@@ -1,4 +1,4 @@
-use Rattle.std.proofs.Common.{inr, refl, rules}
+use Rattle.mq_command.proofs.Words.{inr, refl, rules}
 use Rattle.mq_command.proofs.later.clear_day.Goals as goal
 
 pub returns-in-Ok-set_limit : goal.returns-in-Ok-set_limit

@@ -1,4 +1,5 @@
-use Rattle.mq_command.specs.Later.{cleared, no_day}
+use Rattle.mq_command.proofs.Words.{cleared}
+use Rattle.mq_command.specs.Later.{no_day}
 use Rattle.mq_command.proofs.later.clear_later.Goals as goal
 
 pub loop-count-init : goal.loop-count-init

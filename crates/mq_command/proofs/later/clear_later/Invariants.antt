@@ -1,5 +1,4 @@
-use Rattle.std.proofs.Common.{◌+◌}
-use Rattle.mq_command.specs.Later.{AreCleared}
+use Rattle.mq_command.proofs.Words.{AreCleared, ◌+◌}
 use Rattle.mq_command.proofs.later.clear_later.Given as goal
 
 -- so many days were looked at, and no limit stays above what the login may have

@@ -1,5 +1,5 @@
-use Rattle.std.proofs.Common.{◌≡◌, false, rules}
-use Rattle.mq_command.specs.Usage.{is_sought, no_day, other_day}
+use Rattle.mq_command.proofs.Words.{false, is_sought, other_day, rules, ◌≡◌}
+use Rattle.mq_command.specs.Usage.{no_day}
 use Rattle.mq_command.proofs.look_back.look_back.Goals as goal
 
 pub loop-count-init : goal.loop-count-init

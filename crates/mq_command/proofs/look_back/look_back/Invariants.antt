@@ -1,4 +1,4 @@
-use Rattle.mq_command.specs.Usage.{AreOthers}
+use Rattle.mq_command.proofs.Words.{AreOthers}
 use Rattle.mq_command.proofs.look_back.look_back.Given as goal
 
 -- so many days were asked for, and none is sought

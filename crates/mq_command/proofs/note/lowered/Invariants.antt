@@ -1,5 +1,4 @@
-use Rattle.std.proofs.Common.{◌≡◌, take, map}
-use Rattle.mq_command.specs.Vis.{lower}
+use Rattle.mq_command.proofs.Words.{lower, map, take, ◌≡◌}
 use Rattle.mq_command.proofs.note.lowered.Given as goal
 
 -- the bytes so far are appended in lower case

@@ -1,5 +1,4 @@
-use Rattle.std.proofs.Common.{◌≡◌, take}
-use Rattle.mq_command.specs.Vis.{vis}
+use Rattle.mq_command.proofs.Words.{take, vis, ◌≡◌}
 use Rattle.mq_command.proofs.note.vis.Given as goal
 
 -- the bytes so far are appended as they are reported

@@ -1,5 +1,4 @@
-use Rattle.std.proofs.Common.{◌+◌, ◌*◌, sym, ap, subst, refl, ◌∙◌, arith}
-use Rattle.mq_command.specs.Orders.{IsLimit, later, no_number, number}
+use Rattle.mq_command.proofs.Words.{IsLimit, ap, arith, later, no_number, number, refl, subst, sym, ◌*◌, ◌+◌, ◌∙◌}
 use Rattle.mq_command.proofs.OrderSteps.{ahead_more, ahead_small, later_none, later_more}
 use Rattle.mq_command.proofs.order.order_fresh.Goals as goal
 

@@ -1,6 +1,4 @@
-use Rattle.std.proofs.Common.{◌≡◌, ◌≤◌}
-use Rattle.mq_request.specs.declared.bounds.TheConstants.{LAST_RUN}
-use Rattle.mq_command.specs.Orders.{IsLimit, AreTaken, ahead, later}
+use Rattle.mq_command.proofs.Words.{AreTaken, IsLimit, LAST_RUN, ahead, later, ◌≡◌, ◌≤◌}
 use Rattle.mq_command.proofs.order.order_fresh.Given as goal
 
 -- the limit is under the number of the run that many later, and those before it are taken

@@ -1,6 +1,4 @@
-use Rattle.std.proofs.Common.{◌++◌, take}
-use Rattle.std.proofs.KnownBytes.{Appends-trans}
-use Rattle.mq_stream.proofs.Fronts.{moves_front}
+use Rattle.mq_command.proofs.Words.{Appends-trans, moves_front, take, ◌++◌}
 use Rattle.mq_command.proofs.output.write_whole.Goals as goal
 
 pub loop-rest-preserved : goal.loop-rest-preserved

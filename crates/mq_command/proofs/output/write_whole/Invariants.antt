@@ -1,5 +1,4 @@
-use Rattle.std.proofs.Common.{◌≡◌, List, ℕ, ◌++◌, length}
-use Rattle.std.specs.Io.KnownBytes.{Appends}
+use Rattle.mq_command.proofs.Words.{Appends, List, length, ℕ, ◌++◌, ◌≡◌}
 use Rattle.mq_command.proofs.output.write_whole.Given as goal
 
 -- the bytes done are written

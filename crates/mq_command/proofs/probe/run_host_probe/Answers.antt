@@ -1,4 +1,4 @@
-use Rattle.std.proofs.Common.{Ok, string_bytes}
+use Rattle.mq_command.proofs.Words.{Ok, string_bytes}
 use Rattle.mq_command.proofs.AllowSteps.{line_told}
 use Rattle.mq_command.proofs.probe.run_host_probe.Goals as goal
 

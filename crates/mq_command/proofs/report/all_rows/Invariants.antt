@@ -1,4 +1,4 @@
-use Rattle.mq_command.proofs.CollectSteps.{AreHeld}
+use Rattle.mq_command.proofs.PageSteps.{AreHeld}
 use Rattle.mq_command.proofs.report.all_rows.Given as goal
 
 -- the pages so far were full and accepted, and their rows are held

@@ -1,5 +1,4 @@
-use Rattle.std.proofs.Common.{rules}
-use Rattle.std.proofs.lemmas.Iterator.Adapters.{YieldsList-from_vec, items_from_extend}
+use Rattle.mq_command.proofs.Words.{YieldsList-from_vec, items_from_extend, rules}
 use Rattle.mq_command.proofs.report.append.Goals as goal
 
 pub returns : goal.returns

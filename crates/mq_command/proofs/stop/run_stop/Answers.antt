@@ -1,4 +1,4 @@
-use Rattle.std.proofs.Common.{Ok, string_bytes}
+use Rattle.mq_command.proofs.Words.{Ok, string_bytes}
 use Rattle.mq_command.proofs.AllowSteps.{line_told, looked_later, not_later}
 use Rattle.mq_command.proofs.stop.run_stop.Goals as goal
 

@@ -4,7 +4,7 @@ use Rattle.mq_lemmas.proofs.Options.{ok_not}
 use Rattle.mq_ledger.proofs.Leaving.{left_alone, left_both}
 use Rattle.mq_connections.specs.declared.fault.RoomFault.TheVariants as faults
 use Rattle.mq_connections.specs.Sessions.{Outside, held}
-use Rattle.mq_connections.specs.declared.serving.Ended.TheVariants as ends
+use Rattle.mq_connections.specs.declared.serving.ServingEnd.TheVariants as ends
 use Rattle.mq_connections.proofs.Choring.{fitted_now, fitted_on, goes_alongside, goes_at}
 use Rattle.mq_connections.proofs.Standing.{goes_as, goes_last, goes_on, goes_so, not_store, rewired}
 use Rattle.mq_connections.proofs.serving.serve_rounds.Goals as goal

@@ -1,6 +1,6 @@
 //! The calls of a client.
 use super::*;
-use mq_client::Asked;
+use mq_client::RecipientAnswer;
 use mq_request::{is_login, is_moment};
 use mq_track::{CloseEnd, Closing};
 
@@ -11,7 +11,7 @@ const ROOM: u32 = 4096;
 #[derive(Clone, Copy)]
 enum Step<'a> {
     /// Asks for a recipient of a transaction, at its moment and for its login.
-    Reserve(u32, u64, &'a [u8], Asked),
+    Reserve(u32, u64, &'a [u8], RecipientAnswer),
     /// Asks for a recipient of each transaction from 1 to this one, which is granted.
     Begin(u32),
     Close(u32, CloseEnd),
@@ -43,7 +43,7 @@ fn take(rt: &impl Abort, rig: &mut Rig, step: Step<'_>) {
     }
 }
 
-fn reserve(rt: &impl Abort, rig: &mut Rig, txn: u32, moment: u64, login: &[u8]) -> Asked {
+fn reserve(rt: &impl Abort, rig: &mut Rig, txn: u32, moment: u64, login: &[u8]) -> RecipientAnswer {
     if txn == 0 || !is_moment(moment) || !is_login(login) {
         panic!(rt; "no such transaction");
     }
@@ -60,7 +60,7 @@ fn assert_asked(
     txn: u32,
     moment: u64,
     login: &[u8],
-    wanted: Asked,
+    wanted: RecipientAnswer,
 ) {
     assert_eq!(rt;
         reserve(rt, rig, txn, moment, login),
@@ -71,7 +71,7 @@ fn assert_asked(
 
 fn begin(rt: &impl Abort, rig: &mut Rig, last: u32) {
     for txn in 1..=last {
-        assert_asked(rt, rig, txn, 86_400, b"u", Asked::Granted);
+        assert_asked(rt, rig, txn, 86_400, b"u", RecipientAnswer::Granted);
     }
 }
 
@@ -84,13 +84,13 @@ fn close(rt: &impl Abort, rig: &mut Rig, txn: u32, end: CloseEnd) {
 
 fn assert_refused(rt: &impl Abort, rig: &mut Rig, session: &[u8], txn: u32) {
     rig.client.set_session(session);
-    assert_asked(rt, rig, txn, 86_400, b"u", Asked::Unavailable);
+    assert_asked(rt, rig, txn, 86_400, b"u", RecipientAnswer::Unavailable);
 }
 
 fn assert_granted(rt: &impl Abort, rig: &mut Rig, count: u32) {
     rig.client.set_session(b"s");
     for _ in 0..count {
-        assert_asked(rt, rig, 1, 86_400, b"u", Asked::Granted);
+        assert_asked(rt, rig, 1, 86_400, b"u", RecipientAnswer::Granted);
     }
 }
 
@@ -140,7 +140,7 @@ const FULL: Case<'static> = Case {
     steps: &[
         Step::Begin(ROOM),
         Step::Exchanges(4096),
-        Step::Reserve(4097, 86_400, b"u", Asked::Unavailable),
+        Step::Reserve(4097, 86_400, b"u", RecipientAnswer::Unavailable),
         Step::Exchanges(4096),
         Step::Held(4096),
         // a closing that waits takes its place
@@ -148,16 +148,16 @@ const FULL: Case<'static> = Case {
         Step::Waiting(1),
         Step::Held(4095),
         Step::Exchanges(4099),
-        Step::Reserve(4097, 86_400, b"u", Asked::Unavailable),
+        Step::Reserve(4097, 86_400, b"u", RecipientAnswer::Unavailable),
         Step::Exchanges(4099),
         // and gives it free
         Step::Drain(0),
         Step::Waiting(0),
         Step::Exchanges(4100),
-        Step::Reserve(4097, 86_400, b"u", Asked::Granted),
+        Step::Reserve(4097, 86_400, b"u", RecipientAnswer::Granted),
         // another login and another moment
-        Step::Reserve(2, 86_400, b"v", Asked::Unavailable),
-        Step::Reserve(2, 86_401, b"u", Asked::Unavailable),
+        Step::Reserve(2, 86_400, b"v", RecipientAnswer::Unavailable),
+        Step::Reserve(2, 86_401, b"u", RecipientAnswer::Unavailable),
         Step::Held(4096),
         Step::Exchanges(4101),
     ],
@@ -249,7 +249,7 @@ const UNANSWERED: Case<'static> = Case {
     tries: 1,
     replies: &[],
     steps: &[
-        Step::Reserve(7, 86_400, b"u", Asked::Unavailable),
+        Step::Reserve(7, 86_400, b"u", RecipientAnswer::Unavailable),
         Step::Close(7, CloseEnd::Rollback),
     ],
     sent: Sent::Frames(&[
@@ -267,7 +267,7 @@ const DECIDED: Case<'static> = Case {
     tries: 3,
     replies: &[],
     steps: &[
-        Step::Reserve(7, 86_400, b"u", Asked::Granted),
+        Step::Reserve(7, 86_400, b"u", RecipientAnswer::Granted),
         Step::Close(7, CloseEnd::Commit),
         Step::Waiting(0),
     ],
@@ -405,8 +405,8 @@ struct Waiting {
     end: CloseEnd,
 }
 
-/// The closings of 4,096 transactions, numbered from 4,097 on, the newest transaction first: this is the one at a
-/// place from 1 on. Every third transaction is dropped.
+/// The closings of 4,096 transactions, numbered from 4,097 on, the newest transaction first: this
+/// is the one at a place from 1 on. Every third transaction is dropped.
 fn closing_at(place: u32) -> Waiting {
     let txn = (ROOM + 1).wrapping_sub(place);
     Waiting {
@@ -458,7 +458,7 @@ fn close_all(rt: &impl Abort, rig: &mut Rig) {
 }
 
 /// Asserts that the exchanges sent these closings.
-fn assert_closings(rt: &impl Abort, alloc: Global, kept: &[Told]) {
+fn assert_closings(rt: &impl Abort, alloc: Global, kept: &[ReportedExchange]) {
     for (place, told) in (1..=ROOM).zip(kept) {
         let frame = frame_of(rt, alloc, closing_at(place));
         assert_bytes(rt, told.frame.as_slice(), &frame);

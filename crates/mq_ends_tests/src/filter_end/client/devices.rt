@@ -1,5 +1,5 @@
 //! Devices of a run that fail in its middle, or that know what comes.
-use mq_stream::{Failed, Sink, Source};
+use mq_stream::{DeviceFault, Sink, Source};
 use std::cell::Cell;
 
 /// A source that gives a byte at a time and fails at its so many-th read.
@@ -23,10 +23,10 @@ impl<'a> Dropper<'a> {
 impl Source for Dropper<'_> {
     ghost has_failed = { λ s. s.failed };
 
-    fn read(&mut self, piece: &mut [u8]) -> Result<usize, Failed> {
+    fn read(&mut self, piece: &mut [u8]) -> Result<usize, DeviceFault> {
         if self.failed || self.reads == 0 {
             self.failed = true;
-            return Err(Failed);
+            return Err(DeviceFault);
         }
         self.reads -= 1;
         match (self.rest.split_first(), piece.split_first_mut()) {
@@ -40,7 +40,8 @@ impl Source for Dropper<'_> {
     }
 }
 
-/// A sink that knows what is to be written, and that fails once it took so many bytes, or at a flush.
+/// A sink that knows what is to be written, and that fails once it took so many bytes, or at a
+/// flush.
 #[derive(Drop)]
 pub struct Taker<'a> {
     /// What is still to be written.
@@ -109,7 +110,7 @@ impl Sink for Taker<'_> {
 
     ghost has_failed = { λ sink. sink.failed };
 
-    fn write(&mut self, piece: &[u8]) -> Result<usize, Failed> {
+    fn write(&mut self, piece: &[u8]) -> Result<usize, DeviceFault> {
         let count = if self.is_narrow {
             piece.len().min(1)
         } else {
@@ -117,7 +118,7 @@ impl Sink for Taker<'_> {
         };
         if self.failed || count > self.room {
             self.failed = true;
-            return Err(Failed);
+            return Err(DeviceFault);
         }
         self.room -= count;
         if !pass(&mut self.wanted, &piece[..count]) {
@@ -128,10 +129,10 @@ impl Sink for Taker<'_> {
         Ok(count)
     }
 
-    fn flush(&mut self) -> Result<(), Failed> {
+    fn flush(&mut self) -> Result<(), DeviceFault> {
         if self.failed || self.is_stuck {
             self.failed = true;
-            return Err(Failed);
+            return Err(DeviceFault);
         }
         self.flushed.set(self.taken);
         self.clean = true;

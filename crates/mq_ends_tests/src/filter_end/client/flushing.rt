@@ -3,11 +3,11 @@ ghost use Rattle.std.specs.Prelude.{◌≡◌, ◌∷◌, ◌++◌, [], true, fa
 
 use super::devices::Taker;
 use super::*;
-use mq_stream::Failed;
+use mq_stream::DeviceFault;
 use std::cell::Cell;
 
-/// Gives its bytes in pieces, reports what each read gave, and notes whether what those before ask for was
-/// flushed at each read, no more and no less, and the most bytes that a read asks for.
+/// Gives its bytes in pieces, reports what each read gave, and notes whether what those before ask
+/// for was flushed at each read, no more and no less, and the most bytes that a read asks for.
 #[derive(Drop)]
 struct Watching<'a> {
     alloc: Global,
@@ -58,7 +58,7 @@ impl Source for Watching<'_> {
 
     ghost has_failed = { λ _. false };
 
-    fn read(&mut self, piece: &mut [u8]) -> Result<usize, Failed> {
+    fn read(&mut self, piece: &mut [u8]) -> Result<usize, DeviceFault> {
         self.off = self.off || self.flushed.get() != self.due;
         self.most = self.most.max(piece.len());
         let (size, asked) = match self.pieces.split_first() {

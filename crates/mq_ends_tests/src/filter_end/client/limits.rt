@@ -58,7 +58,7 @@ const FULL: Row<'static> = Row {
     lines: &[
         CONFIG, AUTH, BEGIN, RECIPIENT, RECIPIENT, BOB, SAME_DAY, NEXT_DAY,
     ],
-    ended: Ok(Ended {
+    ended: Ok(RunEnd {
         answers: 5,
         left: 0,
     }),
@@ -98,7 +98,7 @@ const UNDECIDED: Row<'static> = Row {
         Reply::Body("8e"),
     ],
     lines: &[CONFIG, AUTH, BEGIN, RECIPIENT, RECIPIENT, COMMIT],
-    ended: Ok(Ended {
+    ended: Ok(RunEnd {
         answers: 2,
         left: 1,
     }),
@@ -138,7 +138,11 @@ fn ask(rt: &impl Abort, rig: &mut Rig, login: u32, txn: u32) {
         .reserve(&rig.log, &mut rig.link, txn, 86_400, name.as_slice())
         .expect(rt, MEMORY)
         .asked;
-    assert_that(rt, asked == mq_client::Asked::Full, "a full login");
+    assert_that(
+        rt,
+        asked == mq_client::RecipientAnswer::Full,
+        "a full login",
+    );
 }
 
 /// The levels of the last lines: whether each is a warning.

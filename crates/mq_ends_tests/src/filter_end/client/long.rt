@@ -37,7 +37,7 @@ const THOUSAND_RECIPIENTS: Built<'static> = Built {
     row: Row {
         name: "a thousand recipients",
         replies: &[Reply::Recipients(1000)],
-        ended: Ok(Ended {
+        ended: Ok(RunEnd {
             answers: 1001,
             left: 0,
         }),

@@ -33,7 +33,11 @@ fn begin(rt: &impl Abort, rig: &mut Rig, txn: u32) {
         .client
         .reserve(&rig.log, &mut rig.link, txn, 86_400, b"u")
         .expect(rt, MEMORY);
-    assert_that(rt, asking.asked == mq_client::Asked::Granted, "a grant");
+    assert_that(
+        rt,
+        asking.asked == mq_client::RecipientAnswer::Granted,
+        "a grant",
+    );
 }
 
 fn commit(rt: &impl Abort, rig: &mut Rig, txn: u32) {

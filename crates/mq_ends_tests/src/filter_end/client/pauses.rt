@@ -19,7 +19,8 @@ const BOB: &str = "report|0.7|1576146008.006099|smtp-in|link-auth|7641df9771b4ed
 report|0.7|1576146009.006099|smtp-in|tx-begin|7641df9771b4ed01|4c56d3a2
 ";
 
-/// A recipient of it in the second in which that of the first one was asked for, and one a second later.
+/// A recipient of it in the second in which that of the first one was asked for, and one a second
+/// later.
 const BOB_ASKS: &str =
     "filter|0.7|1576146010.006099|smtp-in|rcpt-to|7641df9771b4ed01|1ef1c203cc576e5d|eve@example.org
 ";
@@ -65,7 +66,7 @@ const HOLDS: Row<'static> = Row {
     ..PAUSES
 };
 
-const FOUR_ANSWERS: End = Ok(Ended {
+const FOUR_ANSWERS: End = Ok(RunEnd {
     answers: 4,
     left: 0,
 });

@@ -3,7 +3,7 @@ use super::*;
 use log::sink::Discard;
 use mq_ledger::{PlainLedger, Zone};
 use mq_link::Link;
-use mq_server::{ServeFault, Served, serve};
+use mq_server::{EndCause, ServeFault, serve};
 
 /// Two mails, one with two recipients and one with one: five exchanges where the run goes on.
 const TWO_MAILS: &[&str] = &[
@@ -34,15 +34,15 @@ fn serve_one<S: Source, W: Sink>(
     input: &mut S,
     output: &mut W,
     ledger: &mut PlainLedger,
-) -> Result<Served, ServeFault> {
+) -> Result<EndCause, ServeFault> {
     serve(alloc, input, output, ledger)
 }
 
 /// The frame of the ledger's reply.
 fn reply_to(alloc: Global, ledger: &mut PlainLedger, frame: &[u8]) -> Option<Vec<u8>> {
-    let mut output = ToWrite::new(Vec::new(alloc));
+    let mut output = WriterSink::new(Vec::new(alloc));
     match serve_one(alloc, &mut FromRead::new(frame), &mut output, ledger) {
-        Ok(Served::InputEnd) => Some(output.into_inner()),
+        Ok(EndCause::InputEnd) => Some(output.into_inner()),
         _ => None,
     }
 }
@@ -99,7 +99,7 @@ fn text_over(rt: &impl Abort, alloc: Global, link: &mut Retiring) -> Vec<u8> {
     let input = joined(rt, alloc, TWO_MAILS);
     let mut client = client_of(rt, alloc, 3);
     let mut source = FromRead::new(input.as_bytes());
-    let mut sink = ToWrite::new(Vec::new(alloc));
+    let mut sink = WriterSink::new(Vec::new(alloc));
     let ended = filter(alloc, &mut source, &mut sink, link, &mut client);
     assert_ended(rt, ended, THREE_ANSWERS, "two mails");
     let _ = source.into_inner();
@@ -113,8 +113,9 @@ fn assert_reply(rt: &impl Abort, alloc: Global, link: &mut Retiring, frame: &str
     assert_bytes(rt, &reply, &bytes_of(rt, alloc, wanted));
 }
 
-/// What the filter writes after its registration where the run is retired before the exchange in the row's place, and
-/// what the login has used in the end: just those let through, and nothing is reserved.
+/// What the filter writes after its registration where the run is retired before the exchange in
+/// the row's place, and what the login has used in the end: just those let through, and nothing is
+/// reserved.
 const PLACES: &[(&[&str], &str)] = &[
     (
         &[REGISTRATION, SERVICE, SERVICE, SERVICE],
@@ -144,8 +145,8 @@ const PLACES: &[(&[&str], &str)] = &[
     ),
 ];
 
-/// Retires the run before the exchange in that place: smtpd gets this text, each request is sent once, and the ledger
-/// says this of the login, before the run is retired once more and then.
+/// Retires the run before the exchange in that place: smtpd gets this text, each request is sent
+/// once, and the ledger says this of the login, before the run is retired once more and then.
 fn check_place(rt: &impl Abort, alloc: Global, place: usize, text: &[&str], usage: &str) {
     let mut link = Retiring::new(rt, alloc, place);
     let written = text_over(rt, alloc, &mut link);

@@ -127,7 +127,7 @@ const OTHER_REPLIES: &[Row<'static>] = &[
         name: "the server is down",
         replies: &[],
         lines: &[CONFIG, AUTH, BEGIN, RECIPIENT, COMMIT],
-        ended: Ok(Ended {
+        ended: Ok(RunEnd {
             answers: 1,
             left: 1,
         }),

@@ -2,24 +2,24 @@
 ghost use Rattle.std.specs.Prelude.{◌≡◌, ◌∷◌, ◌++◌, [], true, false, OnErr};
 ghost use Rattle.mq_link.specs.Link.{outcome_of};
 
-use mq_link::{Link, LinkFault, Outcome, Told};
+use mq_link::{ExchangeOutcome, Link, LinkFault, ReportedExchange};
 use mq_request::Bytes;
 use std::alloc::Global;
 use std::collections::VecDeque;
 
-/// Ends each exchange by the next given outcome, and is down after the last. A body that finds no memory ends its exchange
-/// by `Memory`. It keeps the exchanges and reports them, as long as memory was left for each: so what contracts say
-/// of a link's exchanges is said of a link that there is.
+/// Ends each exchange by the next given outcome, and is down after the last. A body that finds no
+/// memory ends its exchange by `Memory`. It keeps the exchanges and reports them, as long as memory
+/// was left for each: so what contracts say of a link's exchanges is said of a link that there is.
 #[derive(Drop)]
 pub struct ScriptLink {
     alloc: Global,
-    script: VecDeque<Outcome>,
-    kept: Vec<Told>,
+    script: VecDeque<ExchangeOutcome>,
+    kept: Vec<ReportedExchange>,
     tells: bool,
 }
 
 impl ScriptLink {
-    pub fn new(alloc: Global, script: VecDeque<Outcome>) -> ScriptLink
+    pub fn new(alloc: Global, script: VecDeque<ExchangeOutcome>) -> ScriptLink
         ensures kept { result.kept.items ≡ [] }
         ensures tells { result.tells ≡ true }
     {
@@ -32,13 +32,18 @@ impl ScriptLink {
     }
 
     /// The exchanges so far, the oldest first.
-    pub fn kept(&self) -> &[Told] {
+    pub fn kept(&self) -> &[ReportedExchange] {
         self.kept.as_slice()
     }
 }
 
 /// Keeps an exchange, and answers whether memory was left for it.
-fn keep(alloc: Global, kept: &mut Vec<Told>, frame: &[u8], outcome: Outcome) -> bool
+fn keep(
+    alloc: Global,
+    kept: &mut Vec<ReportedExchange>,
+    frame: &[u8],
+    outcome: ExchangeOutcome,
+) -> bool
     ensures kept { result ≡ true → kept.new.items ≡ kept.old.items ++ record {
       frame = frame.now;
       outcome = outcome;
@@ -48,22 +53,31 @@ fn keep(alloc: Global, kept: &mut Vec<Told>, frame: &[u8], outcome: Outcome) -> 
     let Ok(frame) = Bytes::from_slice(alloc, frame) else {
         return false;
     };
-    kept.push(Told { frame, outcome }).is_ok()
+    kept.push(ReportedExchange { frame, outcome }).is_ok()
 }
 
 /// The next outcome, with its body in `reply`.
-fn play(script: &mut VecDeque<Outcome>, reply: &mut Vec<u8>) -> (Outcome, Result<(), LinkFault>)
+fn play(
+    script: &mut VecDeque<ExchangeOutcome>,
+    reply: &mut Vec<u8>,
+) -> (ExchangeOutcome, Result<(), LinkFault>)
     ensures outcome { result.0 ≡ outcome_of result.1 reply.new.items }
     ensures empty { OnErr result.1 (reply.new.items ≡ []) }
 {
     reply.clear();
     match script.pop_front() {
-        Some(Outcome::Answered(body)) => match reply.extend_from_slice(body.as_slice()) {
-            Ok(()) => (Outcome::Answered(body), Ok(())),
-            Err(_) => (Outcome::Faulted(LinkFault::Memory), Err(LinkFault::Memory)),
+        Some(ExchangeOutcome::Answered(body)) => match reply.extend_from_slice(body.as_slice()) {
+            Ok(()) => (ExchangeOutcome::Answered(body), Ok(())),
+            Err(_) => (
+                ExchangeOutcome::Faulted(LinkFault::Memory),
+                Err(LinkFault::Memory),
+            ),
         },
-        Some(Outcome::Faulted(fault)) => (Outcome::Faulted(fault), Err(fault)),
-        None => (Outcome::Faulted(LinkFault::Down), Err(LinkFault::Down)),
+        Some(ExchangeOutcome::Faulted(fault)) => (ExchangeOutcome::Faulted(fault), Err(fault)),
+        None => (
+            ExchangeOutcome::Faulted(LinkFault::Down),
+            Err(LinkFault::Down),
+        ),
     }
 }
 

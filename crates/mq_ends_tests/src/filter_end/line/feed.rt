@@ -55,7 +55,8 @@ fn give(rt: &impl Abort, feed: &mut LineFeed, piece: &[u8]) {
     feed.feed(piece).expect(rt, MEMORY);
 }
 
-/// Where an allocation fails, as `rt try --test --fail-alloc N` has it, the piece can be given again.
+/// Where an allocation fails, as `rt try --test --fail-alloc N` has it, the piece can be given
+/// again.
 fn give_again(rt: &impl Abort, feed: &mut LineFeed, piece: &[u8]) {
     let before = feed.held();
     if feed.feed(piece).is_err() {

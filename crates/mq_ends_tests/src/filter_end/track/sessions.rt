@@ -101,7 +101,8 @@ const ENDINGS: &[Step<'static>] = &[
     Step::Session("s", LOGIN_A),
 ];
 
-/// Where an allocation fails, as `rt try --test --fail-alloc N` has it, the line can be given again.
+/// Where an allocation fails, as `rt try --test --fail-alloc N` has it, the line can be given
+/// again.
 const GIVEN_AGAIN: &[Step<'static>] = &[
     Step::Again("report|0.7|10.0|smtp-in|link-auth|s|pass|a", NOTHING),
     Step::Again("report|0.7|11.0|smtp-in|tx-begin|s|m1", NOTHING),

@@ -3,8 +3,8 @@
 use super::fixtures::{COMMITS_2, DROPS_1, DROPS_2, NOTHING, Step};
 use mq_track::Standing;
 
-// A client that logs in, takes back its first message by RSET, sends a second and quits: the reports
-// and requests in the order in which OpenSMTPD 7.6.0p1 writes them.
+// A client that logs in, takes back its first message by RSET, sends a second and quits: the
+// reports and requests in the order in which OpenSMTPD 7.6.0p1 writes them.
 const A_SITTING: &[Step<'static>] = &[
     Step::Line(
         "report|0.7|1795329219.245094|smtp-in|link-auth|37ab31835d776ace|pass|u01",

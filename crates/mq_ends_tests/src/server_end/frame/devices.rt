@@ -1,7 +1,7 @@
 //! Sources and sinks over readers and writers that fail in mid-stream.
 
 use crate::server_end::asserts::assert_that;
-use mq_stream::{Failed, FromRead, Sink, Source, ToWrite, write_and_flush};
+use mq_stream::{DeviceFault, FromRead, Sink, Source, WriterSink, write_and_flush};
 use std::io;
 use std::io::{ErrorKind, Read, Write};
 use std::process::Abort;
@@ -30,9 +30,10 @@ impl Read for Script<'_> {
 }
 
 /// Reads: what is answered, and the bytes in front of the piece.
-type Reads = &'static [(Result<usize, Failed>, &'static [u8])];
+type Reads = &'static [(Result<usize, DeviceFault>, &'static [u8])];
 
-/// Reads into the piece once for each row. Without clauses, so that its callers stay cheap to prove.
+/// Reads into the piece once for each row. Without clauses, so that its callers stay cheap to
+/// prove.
 fn check_reads<S: Source>(rt: &impl Abort, source: &mut S, piece: &mut [u8], reads: Reads) {
     for (answer, front) in reads {
         assert_that(rt, source.read(piece) == *answer, "what a read answers");
@@ -52,8 +53,8 @@ const SIGNALS: &[Result<u8, ErrorKind>] = &[
 const READ_UP_TO_A_FAILURE: Reads = &[
     (Ok(1), &[7]),
     (Ok(1), &[8]),
-    (Err(Failed), &[]),
-    (Err(Failed), &[]),
+    (Err(DeviceFault), &[]),
+    (Err(DeviceFault), &[]),
 ];
 
 /// A read that a signal interrupted is made again; a failed one is the last.
@@ -73,7 +74,8 @@ fn reads_a_slice_to_its_end(rt: HostRuntime) {
     assert!(rt; source.into_inner().is_empty());
 }
 
-/// A writer that takes so many bytes, two a call, and then nothing; its flush fails where it is told to.
+/// A writer that takes so many bytes, two a call, and then nothing; its flush fails where it is
+/// told to.
 #[derive(Clone, Copy)]
 struct Short {
     left: usize,
@@ -99,8 +101,8 @@ impl Write for Short {
 /// A call of a sink and what it answers.
 #[derive(Clone, Copy)]
 enum Call<'a> {
-    Write(&'a [u8], Result<usize, Failed>),
-    Flush(Result<(), Failed>),
+    Write(&'a [u8], Result<usize, DeviceFault>),
+    Flush(Result<(), DeviceFault>),
 }
 
 /// Makes the calls in turn. Without clauses, so that its callers stay cheap to prove.
@@ -118,15 +120,15 @@ const WRITTEN_UP_TO_A_FAILURE: &[Call<'static>] = &[
     Call::Write(&[], Ok(0)),
     Call::Flush(Ok(())),
     Call::Write(&[3, 4], Ok(1)),
-    Call::Write(&[4], Err(Failed)),
-    Call::Write(&[], Err(Failed)),
-    Call::Flush(Err(Failed)),
+    Call::Write(&[4], Err(DeviceFault)),
+    Call::Write(&[], Err(DeviceFault)),
+    Call::Flush(Err(DeviceFault)),
 ];
 
 /// A write that takes nothing of something is a failure, and the last call that may succeed.
 #[test]
 fn write_of_nothing_fails(rt: HostRuntime) {
-    let mut sink = ToWrite::new(Short {
+    let mut sink = WriterSink::new(Short {
         left: 3,
         breaks: false,
     });
@@ -136,28 +138,31 @@ fn write_of_nothing_fails(rt: HostRuntime) {
 
 #[test]
 fn failed_flush_is_the_last(rt: HostRuntime) {
-    let mut sink = ToWrite::new(Short {
+    let mut sink = WriterSink::new(Short {
         left: 3,
         breaks: true,
     });
-    let calls = &[Call::Flush(Err(Failed)), Call::Write(&[1], Err(Failed))];
+    let calls = &[
+        Call::Flush(Err(DeviceFault)),
+        Call::Write(&[1], Err(DeviceFault)),
+    ];
     check_calls(&rt, &mut sink, calls);
 }
 
 #[test]
 fn writes_to_memory(rt: HostRuntime) {
-    let mut sink = ToWrite::new(Vec::new(rt.alloc()));
+    let mut sink = WriterSink::new(Vec::new(rt.alloc()));
     let calls = &[Call::Write(&[1, 2], Ok(2)), Call::Flush(Ok(()))];
     check_calls(&rt, &mut sink, calls);
     assert!(rt; sink.into_inner().as_slice() == [1, 2].as_slice());
 }
 
 /// Without clauses, so that its callers stay cheap to prove.
-fn sent<S: Sink>(sink: &mut S, bytes: &[u8]) -> Result<(), Failed> {
+fn sent<S: Sink>(sink: &mut S, bytes: &[u8]) -> Result<(), DeviceFault> {
     write_and_flush(sink, bytes)
 }
 
-const SHORTS: &[(Short, Result<(), Failed>)] = &[
+const SHORTS: &[(Short, Result<(), DeviceFault>)] = &[
     (
         Short {
             left: 4,
@@ -170,25 +175,26 @@ const SHORTS: &[(Short, Result<(), Failed>)] = &[
             left: 3,
             breaks: true,
         },
-        Err(Failed),
+        Err(DeviceFault),
     ),
     (
         Short {
             left: 2,
             breaks: false,
         },
-        Err(Failed),
+        Err(DeviceFault),
     ),
 ];
 
-/// All bytes are written in as many writes as it takes, and flushed; or as many as the device takes.
+/// All bytes are written in as many writes as it takes, and flushed; or as many as the device
+/// takes.
 #[test]
 fn all_bytes_are_written(rt: HostRuntime) {
-    let mut sink = ToWrite::new(Vec::new(rt.alloc()));
+    let mut sink = WriterSink::new(Vec::new(rt.alloc()));
     assert!(rt; sent(&mut sink, &[1, 2, 3]) == Ok(()));
     assert!(rt; sink.into_inner().as_slice() == [1, 2, 3].as_slice());
     for (short, answer) in SHORTS {
-        let mut sink = ToWrite::new(*short);
+        let mut sink = WriterSink::new(*short);
         assert!(rt; sent(&mut sink, &[1, 2, 3]) == *answer);
         assert!(rt; sink.into_inner().left == short.left.saturating_sub(3));
     }

@@ -20,7 +20,8 @@ enum Call<'a> {
 
 type Calls = &'static [Call<'static>];
 
-/// Feeds a piece. Without clauses, as all that calls a feed, so that its callers stay cheap to prove.
+/// Feeds a piece. Without clauses, as all that calls a feed, so that its callers stay cheap to
+/// prove.
 fn feed_piece(rt: &impl Abort, feed: &mut FrameFeed, piece: &[u8]) {
     feed.feed(piece).expect(rt, MEMORY);
 }
@@ -155,7 +156,8 @@ const FEEDS: &[(u16, Calls)] = &[
     (REPLY_LIMIT, LONGEST_REPLY),
     // Two frames in pieces of one byte, as they are in one piece.
     (REPLY_LIMIT, PIECES_OF_ONE_BYTE),
-    // A frame that was taken is given up with the next piece, and what is left of the bytes is held.
+    // A frame that was taken is given up with the next piece, and what is left of the bytes is
+    // held.
     (REQUEST_LIMIT, HELD_BYTES),
 ];
 

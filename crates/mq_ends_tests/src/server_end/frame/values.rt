@@ -2,7 +2,7 @@
 
 use crate::server_end::asserts::{MEMORY, assert_shown};
 use crate::server_end::fixtures::{id, login, page, request_of};
-use mq_request::{Escaped, Host, Login, Reply, Request, Text, is_reply, is_request};
+use mq_request::{EscapedText, Host, Login, Reply, Request, Text, is_reply, is_request};
 use std::alloc::Global;
 use std::process::Abort;
 
@@ -96,6 +96,6 @@ const ESCAPED: &[(&[u8], &str)] = &[
 #[test]
 fn bytes_that_others_chose(rt: HostRuntime) {
     for (bytes, text) in ESCAPED {
-        assert_shown(&rt, rt.alloc(), &Escaped(bytes), text);
+        assert_shown(&rt, rt.alloc(), &EscapedText(bytes), text);
     }
 }

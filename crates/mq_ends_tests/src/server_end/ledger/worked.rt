@@ -1,7 +1,7 @@
 //! The worked examples of `docs/LEDGER.md` over the link.
 
 use crate::server_end::serving::{check_served, ledger};
-use mq_server::Served;
+use mq_server::EndCause;
 use std::alloc::Global;
 use std::process::Abort;
 
@@ -199,7 +199,7 @@ const EXAMPLES: &[(u32, Example)] = &[
 fn check_example(rt: &impl Abort, alloc: Global, default: u32, example: Example) {
     let mut ledger = ledger(rt, alloc, default);
     for (frame, reply) in example {
-        check_served(rt, alloc, &mut ledger, frame, Served::InputEnd, reply);
+        check_served(rt, alloc, &mut ledger, frame, EndCause::InputEnd, reply);
     }
 }
 

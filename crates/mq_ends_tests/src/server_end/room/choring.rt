@@ -1,4 +1,5 @@
-//! A chore of a server: when it goes on, what is waited for after each piece of it, and how it ends the serving.
+//! A chore of a server: when it goes on, what is waited for after each piece of it, and how it ends
+//! the serving.
 use super::network::{Peers, Ticking, serve_peers};
 use super::{FIRST, Row, peers_of};
 use crate::server_end::asserts::{assert_bytes, assert_that};
@@ -6,9 +7,9 @@ use crate::server_end::fixtures::bytes_of;
 use crate::server_end::serving::ledger;
 use log::sink::Discard;
 use mq_chore::{Chore, Piece};
-use mq_connections::{Ended, RoomFault};
+use mq_connections::{RoomFault, ServingEnd};
 use mq_ledger::Ledger;
-use mq_watch::{Watched, Within};
+use mq_watch::{WatchedLedger, Within};
 use std::alloc::Global;
 use std::cell::Cell;
 use std::collections::VecDeque;
@@ -45,7 +46,7 @@ impl<L: Ledger> Chore<L> for Wanting {
 #[derive(Drop)]
 struct Came {
     network: Peers,
-    ended: Result<Ended, RoomFault>,
+    ended: Result<ServingEnd, RoomFault>,
     done: u32,
 }
 
@@ -54,7 +55,7 @@ fn serve_with(rt: &impl Abort, alloc: Global, pieces: &[Piece]) -> Result<Came, 
     let clock = Ticking(Cell::new(0));
     let mut network = peers_of(rt, alloc, &[ASKS_ONCE])?;
     let timeout = Duration::from_millis(1_000);
-    let mut watched = Watched::new(&clock, &Discard, alloc, ledger(rt, alloc, 3));
+    let mut watched = WatchedLedger::new(&clock, &Discard, alloc, ledger(rt, alloc, 3));
     let mut wanted = VecDeque::new(alloc);
     for piece in pieces {
         wanted.push_back(*piece)?;
@@ -92,7 +93,7 @@ fn a_chore_between_rounds(rt: HostRuntime) -> Result<(), Fail> {
         Piece::Later(later),
     ];
     let came = serve_with(&rt, alloc, &pieces)?;
-    assert_that(&rt, came.ended == Ok(Ended::Over), "it ends");
+    assert_that(&rt, came.ended == Ok(ServingEnd::Over), "it ends");
     let waits = &came.network.waits;
     assert_that(&rt, came.done as usize == waits.len(), "a piece each round");
     for (at, wait) in waits.iter().enumerate() {
@@ -114,7 +115,11 @@ fn a_chore_that_is_done(rt: HostRuntime) -> Result<(), Fail> {
     let alloc = rt.alloc();
     let pieces = [Piece::More, Piece::Nothing, Piece::Done, Piece::More];
     let came = serve_with(&rt, alloc, &pieces)?;
-    assert_that(&rt, came.ended == Ok(Ended::Chore), "the chore ends it");
+    assert_that(
+        &rt,
+        came.ended == Ok(ServingEnd::Chore),
+        "the chore ends it",
+    );
     assert_that(&rt, came.done == 3, "no piece after the last");
     let wanted = bytes_of(&rt, alloc, ASKS_ONCE.3);
     for peer in &came.network.peers {

@@ -1,6 +1,7 @@
-//! Connections in memory, whose peers send and take what a test wants and report what came and went, and a clock that
-//! goes on as it is read.
-ghost use Rattle.std.specs.Prelude.{◌≡◌, ◌≤◌, ◌<◌, [], length, take, vec_len, Ok, Some, IfOk, IfSome};
+//! Connections in memory, whose peers send and take what a test wants and report what came and
+//! went, and a clock that goes on as it is read.
+ghost use Rattle.std.specs.Prelude.{◌≡◌, ◌≤◌, ◌<◌, [], length, take, vec_len, Ok, Some, IfOk};
+ghost use Rattle.std.specs.Prelude.{IfSome};
 ghost use Rattle.std.specs.Io.{ReadsAtMost, WritesAtMost};
 ghost use Rattle.std.specs.Io.KnownBytes.{ReadConsumes, WriteAppends};
 ghost use Rattle.mq_chore.specs.Choring.{Fitted};
@@ -10,7 +11,7 @@ ghost use Rattle.mq_ends_tests.specs.Peers.{wires_of};
 
 use log::Log;
 use mq_chore::Chore;
-use mq_connections::{Ended, Network, RoomFault, serve_network};
+use mq_connections::{Network, RoomFault, ServingEnd, serve_network};
 use mq_ledger::Ledger;
 use mq_watch::Hear;
 use std::alloc::{AllocError, Global};
@@ -39,10 +40,12 @@ impl Clock for Ticking {
     }
 }
 
-/// A peer: it sends its bytes in reads of so many, where 0 says that nothing more has come now, and then the rest at
-/// once. It takes so many bytes at a time, after so many times at which it takes none.
+/// A peer: it sends its bytes in reads of so many, where 0 says that nothing more has come now, and
+/// then the rest at once. It takes so many bytes at a time, after so many times at which it takes
+/// none.
 ///
-/// A contract sees what it has still to send, what it was written, and what it left of the last write.
+/// A contract sees what it has still to send, what it was written, and what it left of the last
+/// write.
 #[derive(Drop)]
 pub struct Peer {
     alloc: Global,
@@ -73,7 +76,8 @@ impl Model for Peer {
 }
 
 impl Peer {
-    /// A peer that sends these bytes in such reads, and takes so many at a time after so many refusals.
+    /// A peer that sends these bytes in such reads, and takes so many at a time after so many
+    /// refusals.
     pub fn new(
         alloc: Global,
         sends: Vec<u8>,
@@ -119,7 +123,8 @@ impl Peer {
     /// What is read of it now.
     fn read(&mut self, piece: &mut [u8]) -> io::Result<usize>
         ensures bound { ReadsAtMost result piece.new }
-        ensures bytes { ReadConsumes (Some self.old.coming) (Some self.new.coming) result piece.new }
+        ensures bytes { ReadConsumes (Some self.old.coming)
+            (Some self.new.coming) result piece.new }
         ensures written { self.new.written ≡ self.old.written }
         ensures left { self.new.left ≡ self.old.left }
     {
@@ -135,7 +140,8 @@ impl Peer {
     /// What it takes now, and what it leaves.
     fn write(&mut self, bytes: &[u8]) -> io::Result<usize>
         ensures bound { WritesAtMost result bytes.now }
-        ensures bytes { WriteAppends (Some self.old.written) (Some self.new.written) result bytes.now }
+        ensures bytes { WriteAppends (Some self.old.written)
+            (Some self.new.written) result bytes.now }
         ensures left { Leaves self.new.left result bytes.now }
         ensures coming { self.new.coming ≡ self.old.coming }
     {
@@ -154,7 +160,8 @@ impl Peer {
     /// What it takes now.
     fn take(&mut self, bytes: &[u8]) -> io::Result<usize>
         ensures bound { WritesAtMost result bytes.now }
-        ensures bytes { WriteAppends (Some self.old.written) (Some self.new.written) result bytes.now }
+        ensures bytes { WriteAppends (Some self.old.written)
+            (Some self.new.written) result bytes.now }
         ensures coming { self.new.coming ≡ self.old.coming }
     {
         if self.refusals > 0 {
@@ -276,8 +283,9 @@ fn add_all(ready: &mut Vec<usize>, count: usize) -> Result<(), AllocError> {
     Ok(())
 }
 
-/// Serves the peers to their ends, or until the chore is done. Of each connection is known what was read of its peer, what was written to it and what
-/// it left, so what is said of the serving is said of these bytes.
+/// Serves the peers to their ends, or until the chore is done. Of each connection is known what was
+/// read of its peer, what was written to it and what it left, so what is said of the serving is
+/// said of these bytes.
 pub fn serve_peers<C: Clock, G: Log, L: Ledger + Hear, K: Chore<L>>(
     clock: &C,
     log: &G,
@@ -286,13 +294,22 @@ pub fn serve_peers<C: Clock, G: Log, L: Ledger + Hear, K: Chore<L>>(
     timeout: Duration,
     ledger: &mut L,
     chore: &mut K,
-) -> Result<Ended, RoomFault>
+) -> Result<ServingEnd, RoomFault>
     ensures serves { L.has_kept ledger.new → L.is_sound ledger.old → EndsServing
-        (record { book = L.book ledger.old; told = L.told ledger.old; wires = wires_of network.old.peers.items })
-        (record { book = L.book ledger.new; told = L.told ledger.new; wires = wires_of network.new.peers.items })
+        (record {
+          book = L.book ledger.old;
+          told = L.told ledger.old;
+          wires = wires_of network.old.peers.items;
+        })
+        (record {
+          book = L.book ledger.new;
+          told = L.told ledger.new;
+          wires = wires_of network.new.peers.items;
+        })
         RoomFault.Store result }
-    ensures done { L.has_kept ledger.new → L.is_sound ledger.old → Fitted (K.fits chore.old) (L.book ledger.old) →
-        result ≡ Ok Ended.Chore → K.is_done chore.new (L.book ledger.new) }
+    ensures done { L.has_kept ledger.new → L.is_sound ledger.old
+        → Fitted (K.fits chore.old) (L.book ledger.old) →
+        result ≡ Ok ServingEnd.Chore → K.is_done chore.new (L.book ledger.new) }
 {
     serve_network(clock, log, alloc, network, timeout, ledger, chore)
 }

@@ -1,9 +1,9 @@
 //! Sources and sinks that fail where a test wants it, and a ledger that reports its calls.
 ghost use Rattle.std.specs.Prelude.{◌≡◌, ◌∷◌, ◌++◌, [], IfOk, OnOk, OnErr};
 
-use mq_ledger::{Ledger, LedgerFault, Told, Zone};
+use mq_ledger::{Ledger, LedgerFault, ReportedCall, Zone};
 use mq_request::{Reply, Request};
-use mq_stream::{Failed, Sink, Source};
+use mq_stream::{DeviceFault, Sink, Source};
 use std::alloc::AllocError;
 use std::cell::Cell;
 
@@ -41,10 +41,10 @@ impl<'a> Pieces<'a> {
 impl Source for Pieces<'_> {
     ghost has_failed = { λ source. source.failed };
 
-    fn read(&mut self, piece: &mut [u8]) -> Result<usize, Failed> {
+    fn read(&mut self, piece: &mut [u8]) -> Result<usize, DeviceFault> {
         if self.failed || self.reads == 0 {
             self.failed = true;
-            return Err(Failed);
+            return Err(DeviceFault);
         }
         self.reads -= 1;
         let count = self.rest.len().min(self.size).min(piece.len());
@@ -84,11 +84,11 @@ impl<'a> Room<'a> {
 impl Sink for Room<'_> {
     ghost has_failed = { λ sink. sink.failed };
 
-    fn write(&mut self, piece: &[u8]) -> Result<usize, Failed> {
+    fn write(&mut self, piece: &[u8]) -> Result<usize, DeviceFault> {
         let count = piece.len().min(self.left).min(5);
         if self.failed || (count == 0 && !piece.is_empty()) {
             self.failed = true;
-            return Err(Failed);
+            return Err(DeviceFault);
         }
         match self.wanted.strip_prefix(&piece[..count]) {
             Some(rest) => self.wanted = rest,
@@ -98,9 +98,9 @@ impl Sink for Room<'_> {
         Ok(count)
     }
 
-    fn flush(&mut self) -> Result<(), Failed> {
+    fn flush(&mut self) -> Result<(), DeviceFault> {
         if self.failed {
-            return Err(Failed);
+            return Err(DeviceFault);
         }
         Ok(())
     }
@@ -119,7 +119,7 @@ impl Source for Watching<'_> {
 
     ghost has_failed = { λ _. false };
 
-    fn read(&mut self, piece: &mut [u8]) -> Result<usize, Failed> {
+    fn read(&mut self, piece: &mut [u8]) -> Result<usize, DeviceFault> {
         if self.unflushed.get() {
             self.early = true;
         }
@@ -145,12 +145,12 @@ impl Sink for Flushing<'_> {
 
     ghost has_failed = { λ _. false };
 
-    fn write(&mut self, piece: &[u8]) -> Result<usize, Failed> {
+    fn write(&mut self, piece: &[u8]) -> Result<usize, DeviceFault> {
         self.unflushed.set(true);
         Ok(piece.len())
     }
 
-    fn flush(&mut self) -> Result<(), Failed> {
+    fn flush(&mut self) -> Result<(), DeviceFault> {
         self.unflushed.set(false);
         Ok(())
     }
@@ -173,7 +173,7 @@ fn same_answer(
 
 /// Keeps a call. An `Err` keeps nothing.
 fn keep(
-    calls: &mut Vec<Told>,
+    calls: &mut Vec<ReportedCall>,
     request: &Request,
     answer: &Result<Reply, LedgerFault>,
 ) -> Result<(), AllocError>
@@ -183,7 +183,7 @@ fn keep(
 {
     let answer = same_answer(answer)?;
     let request = request.clone()?;
-    calls.push(Told { request, answer })?;
+    calls.push(ReportedCall { request, answer })?;
     Ok(())
 }
 
@@ -191,7 +191,7 @@ fn keep(
 #[derive(Drop)]
 pub struct Telling<L> {
     pub inner: L,
-    pub calls: Vec<Told>,
+    pub calls: Vec<ReportedCall>,
     pub tells: bool,
 }
 

@@ -1,11 +1,6 @@
-use Rattle.std.proofs.Common.{◌≡◌, ℕ, List, [], ◌∷◌, ◌++◌, true, false, take, ◌∙◌, ap, sym}
+use Rattle.mq_forget.proofs.Words.{Entry, List, [], ap, day_of, false, history_of, requests, stays, sym, take, true, ℕ, ◌++◌, ◌∙◌, ◌∷◌, ◌≡◌}
 use Rattle.mq_lemmas.proofs.Options.{on_err}
-use Rattle.mq_ledger.specs.declared.entry.Entry.{Entry}
-use Rattle.mq_ledger.specs.Answer.{history_of}
-use Rattle.mq_ledger.specs.Day.{day_of}
-use Rattle.mq_ledger.specs.History.{requests}
 use Rattle.mq_ledger.specs.Legal.{Book}
-use Rattle.mq_forget.specs.Remembered.{stays}
 use Rattle.mq_forget.specs.Carried.{IsAt}
 use Rattle.mq_forget.proofs.Carrying.{front_at}
 use Rattle.mq_forget.proofs.carry.carry_over.Goals.{then-stays+in_ok-ask, else-stays}

@@ -1,7 +1,5 @@
-use Rattle.std.proofs.Common.{sym, ap, ◌∙◌, subst}
+use Rattle.mq_forget.proofs.Words.{IsMoment, ap, subst, sym, transaction, ◌∙◌}
 use Rattle.std.specs.Option.{option_copied}
-use Rattle.mq_request.specs.Range.{IsMoment}
-use Rattle.mq_ledger.specs.History.{transaction}
 use Rattle.mq_forget.proofs.Carrying.{named_in_range}
 use Rattle.mq_forget.proofs.carry.day_named.Goals as goal
 

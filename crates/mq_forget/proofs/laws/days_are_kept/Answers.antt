@@ -1,5 +1,4 @@
-use Rattle.std.proofs.Common.{arith}
-use Rattle.mq_forget.specs.Remembered.{remembered}
+use Rattle.mq_forget.proofs.Words.{arith, remembered}
 use Rattle.mq_forget.proofs.Staying.{same_cap}
 use Rattle.mq_forget.proofs.Answers.{page_by_reserves}
 use Rattle.mq_forget.proofs.laws.days_are_kept.Goals as goal

@@ -1,32 +1,20 @@
 -- A history and what is remembered of it, while later requests come, and those of earlier days late or again.
-use Rattle.std.proofs.Common.{◌≡◌, ℕ, List, [], ◌∷◌, ◌++◌, Bool, true, false, refl, ◌∙◌, ap, sym, subst, inl, inr, arith, append_assoc, append-nil}
-use Rattle.std.specs.Prelude.{◌⊎◌, ◌&&◌, ◌||◌, not, nat_le, find, if◌then◌else◌, All, Option, Some, None, is_some, is_none}
-use Rattle.std.specs.List.{AllByRecursion}
-use Rattle.std.specs.Option.{option_or}
-use Rattle.std.proofs.lemmas.List.Elements.{recursion_from_All, All-from_recursion}
-use Rattle.std.proofs.lemmas.List.Folds.{find-append}
-use Rattle.mq_lemmas.proofs.Booleans.{clash, is_not, either_of, or_second, either, neither, first_so, second_so}
-use Rattle.mq_lemmas.proofs.Options.{none_some, not_some, option_cases}
-use Rattle.mq_lemmas.proofs.Lists.{in_filter, In, all_push}
-use Rattle.mq_request.specs.Range.{IsRequest}
+use Rattle.mq_forget.proofs.Words.{All, All-from_recursion, AllByRecursion, AreLaterOrPast, Bool, Entry, Id, In, IsLegal, IsRequest, Limit, List, None, Option, Release, Reply, Request, Reserve, Retire, Settle, Some, Transaction, [], all_push, answer, ap, append-nil, append_assoc, arith}
+use Rattle.mq_forget.proofs.Words.{arrival_of_known, day_named, either, entry, false, filter_in, find, find-append, first_so, fresh_reply, has_id, history_of, id_of, if◌then◌else◌, inl, inr, is_about, is_below, is_later, is_later_by, is_not, is_of, is_past, is_remembered, is_set, is_some, known_by}
+use Rattle.mq_forget.proofs.Words.{moment_of, named, nat_le, neither, not, not_found, not_some, option_cases, option_or, or_second, recursion_from_All, refl, remembered, reply, reply_by, reply_to, requests, second_so, stays, stored, subst, sym, transaction, true, with_arrival, with_arrival_by, ℕ}
+use Rattle.mq_forget.proofs.Words.{◌&&◌, ◌++◌, ◌||◌, ◌∙◌, ◌∷◌, ◌≡◌, ◌⊎◌}
+use Rattle.std.specs.Prelude.{is_none}
+use Rattle.mq_lemmas.proofs.Booleans.{clash, either_of}
+use Rattle.mq_lemmas.proofs.Options.{none_some}
+use Rattle.mq_lemmas.proofs.Lists.{in_filter}
 use Rattle.mq_request.specs.Same.{same_request}
-use Rattle.mq_request.specs.declared.message.Id.{Id}
-use Rattle.mq_request.specs.declared.message.Request.{Request}
-use Rattle.mq_request.specs.declared.message.Request.TheVariants.{Reserve, Settle, Release, Limit, Usage, List as ListRequest, Retire}
-use Rattle.mq_request.specs.declared.message.Reply.{Reply}
 use Rattle.mq_request.specs.declared.message.Reply.TheVariants.{Conflict}
-use Rattle.mq_ledger.specs.declared.entry.Entry.{Entry}
-use Rattle.mq_ledger.specs.Answer.{answer, stored, known_by, reply, reply_to, reply_by, with_arrival, with_arrival_by, history_of}
-use Rattle.mq_ledger.specs.Arrivals.{id_of, has_id, is_below}
-use Rattle.mq_ledger.specs.History.{Transaction, transaction, is_of, named, requests}
-use Rattle.mq_ledger.specs.Legal.{IsLegal}
-use Rattle.mq_ledger.proofs.Books.{arrival_of_known}
-use Rattle.mq_ledger.proofs.Transactions.{entry}
-use Rattle.mq_forget.specs.Remembered.{moment_of, day_named, is_about, is_set, stays, remembered, is_remembered, is_later, is_later_by, is_past, AreLaterOrPast, names_earlier, is_itself, is_itself_by, is_used_since, is_heard_since, is_of_one_since, is_late, AreLaterOrLateSince, AreLaterOrLate, stays_if, is_of_no_forgotten}
-use Rattle.mq_forget.proofs.Lists.{filter_in, find_none, find_some}
+use Rattle.mq_ledger.proofs.Basics.{found}
+use Rattle.mq_forget.specs.Remembered.{names_earlier, is_itself, is_itself_by, is_used_since, is_heard_since, is_of_one_since, is_late, AreLaterOrLateSince, AreLaterOrLate, stays_if, is_of_no_forgotten}
+use Rattle.mq_forget.proofs.Lists.{find_none, find_some}
 use Rattle.mq_forget.proofs.Staying.{same_below, stays_before, stays_itself, later_alike, early_lost, unheard_alike}
 use Rattle.mq_forget.proofs.Growing.{in_range}
-use Rattle.mq_forget.proofs.Fronts.{Builds, new_reply}
+use Rattle.mq_forget.proofs.Fronts.{Builds}
 use Rattle.mq_forget.proofs.laws.late_requests_touch_no_later_day.Goals as goal
 
 none_of : {A : Type 0} (o : Option A) → is_none o ≡ true → o ≡ None
@@ -34,20 +22,6 @@ none_of None e = refl
 none_of (Some x) e = absurd (cc e)
 
 -- ---- finding, with one element more
-
-found : {X : Type 0} (p : X → Bool) (xs : List X) (x : X) → find p xs ≡ Some x → In x xs × (p x ≡ true)
-found p [] x h = absurd (none_some x h)
-found p (y ∷ xs) x h = elim (either (p y)) [
-  | inl t ↦ (let b : Some y ≡ Some x = rw t at h in let e : y ≡ x = cc b in (inl e, ap p (sym e) ∙ t))
-  | inr f ↦ (let rest : find p xs ≡ Some x = rw f at h in let r = found p xs x rest in (inr r.0, r.1))
-]
-
-not_found : {X : Type 0} (p : X → Bool) (xs : List X) (x : X) → find p xs ≡ None → In x xs → p x ≡ false
-not_found p [] x h i = absurd i
-not_found p (y ∷ xs) x h i = elim (either (p y)) [
-  | inl t ↦ absurd (let b : Some y ≡ None = rw t at h in none_some y (sym b))
-  | inr f ↦ elim i [ inl e ↦ ap p (sym e) ∙ f | inr j ↦ not_found p xs x (rw f at h) j ]
-]
 
 push_some : {X : Type 0} (p : X → Bool) (xs : List X) (y e : X) → find p xs ≡ Some e → find p (xs ++ y ∷ []) ≡ Some e
 push_some p xs y e h = find-append p xs (y ∷ []) ∙ ap (λ o. option_or o (find p (y ∷ []))) h
@@ -140,10 +114,7 @@ module _ (day : ℕ → ℕ) (D : ℕ) (G H K : List Entry) (h : Alike day D G H
   about_later (Reserve id txn moment login count) e = named_later (transaction id txn) moment e
   about_later (Settle id txn moment login count) e = named_later (transaction id txn) moment e
   about_later (Release id txn moment login) e = named_later (transaction id txn) moment e
-  about_later (Limit id from c login) e = e
-  about_later (Usage login d) e = e
-  about_later (ListRequest d after) e = e
-  about_later (Retire id) e = e
+  about_later r e = e
 
   -- nor is one of which K heard with the same request
   heard_early : (t : Transaction) (moment : ℕ) → is_heard_since G H t ≡ true → nat_le D (day_named day moment (named H t)) ≡ false → nat_le D (day_named day moment (named K t)) ≡ false
@@ -164,9 +135,8 @@ module _ (day : ℕ → ℕ) (D : ℕ) (G H K : List Entry) (h : Alike day D G H
   about_late (Settle id txn moment login count) own e = early_by (transaction id txn) moment own e
   about_late (Release id txn moment login) own e = early_by (transaction id txn) moment own e
   about_late (Limit id from c login) own e = absurd (clash false own refl)
-  about_late (Usage login d) own e = e
-  about_late (ListRequest d after) own e = e
   about_late (Retire id) own e = absurd (clash false own refl)
+  about_late r own e = e
 
   -- an entry of H that stays, stays in K
   stays_there : (e : Entry) → In e H → stays day D H e ≡ true → stays day D K e ≡ true
@@ -197,13 +167,8 @@ module _ (day : ℕ → ℕ) (D : ℕ) (G H K : List Entry) (h : Alike day D G H
 -- ---- a late request
 
 sets_none : (day : ℕ → ℕ) (D : ℕ) (G H : List Entry) (r : Request) (a : Reply) → IsOwn day D G H r → is_set r a ≡ false
-sets_none day D G H (Reserve id txn moment login count) a own = refl
-sets_none day D G H (Settle id txn moment login count) a own = refl
-sets_none day D G H (Release id txn moment login) a own = refl
 sets_none day D G H (Limit id from c login) a own = absurd (clash false own refl)
-sets_none day D G H (Usage login d) a own = refl
-sets_none day D G H (ListRequest d after) a own = refl
-sets_none day D G H (Retire id) a own = refl
+sets_none day D G H r a own = refl
 
 record IsLate (day : ℕ → ℕ) (D : ℕ) (G H : List Entry) (r : Request) : Type 0 where
   pub own : IsOwn day D G H r
@@ -315,8 +280,8 @@ module _ (day : ℕ → ℕ) (default : ℕ) (laws : Builds day default) (D : �
   answers_alike : (H K : List Entry) (r : Request) (id : Id) → id_of r ≡ Some id → IsLegal day default H → IsLegal day default K → Alike day D G H K → Comes day D G H K r → known_by H (Some id) ≡ false → known_by K (Some id) ≡ false
       → stays day D H (entry r (answer day default H r)) ≡ true → answer day default K r ≡ answer day default H r
   answers_alike H K r id number legal_H legal_K h (inl late) new_H new_K stay =
-      let at_H : reply day default H r ≡ answer day default H r = new_reply day default laws H r (id_of r) (ap (known_by H) number ∙ new_H) in
-      let at_K : reply day default K r ≡ answer day default K r = new_reply day default laws K r (id_of r) (ap (known_by K) number ∙ new_K) in
+      let at_H : reply day default H r ≡ answer day default H r = fresh_reply day default H r (id_of r) (ap (known_by H) number ∙ new_H) in
+      let at_K : reply day default K r ≡ answer day default K r = fresh_reply day default K r (id_of r) (ap (known_by K) number ∙ new_K) in
       sym at_K ∙ sym (one K r legal_K late.1).0 ∙ ap (λ x. reply day default x r) h.same ∙ (one H r legal_H late.0).0 ∙ at_H
   answers_alike H K r id number legal_H legal_K h (inr (inr both)) new_H new_K stay = absurd (clash (known_by H (Some id)) (ap (known_by H) (sym number) ∙ both.0) new_H)
   answers_alike H K r id number legal_H legal_K h (inr (inl l)) new_H new_K stay =

@@ -1,46 +1,19 @@
 -- What is asked about earlier days changes nothing of what is remembered.
-use Rattle.std.proofs.Common.{◌≡◌, ℕ, List, [], ◌∷◌, ◌++◌, true, false, refl, ◌∙◌, ap, sym, subst, inl, inr, append_assoc, append-nil}
-use Rattle.std.specs.Prelude.{◌⊎◌, ◌||◌, if◌then◌else◌, All, Option, Some, None, is_some}
-use Rattle.std.specs.List.{AllByRecursion}
-use Rattle.std.proofs.lemmas.List.Elements.{recursion_from_All, All-from_recursion}
-use Rattle.mq_lemmas.proofs.Booleans.{is_not, either, neither}
-use Rattle.mq_lemmas.proofs.Lists.{all_append, all_push}
-use Rattle.mq_lemmas.proofs.Options.{not_some}
-use Rattle.mq_request.specs.Range.{IsRequest}
-use Rattle.mq_request.specs.declared.message.Id.{Id}
-use Rattle.mq_request.specs.declared.message.Request.{Request}
-use Rattle.mq_ledger.specs.declared.entry.Entry.{Entry}
-use Rattle.mq_ledger.specs.Answer.{answer, stored, known_by, reply, reply_to, reply_by, with_arrival, with_arrival_by, history_of}
-use Rattle.mq_ledger.specs.Arrivals.{id_of, is_below}
-use Rattle.mq_ledger.specs.History.{requests}
-use Rattle.mq_ledger.specs.Legal.{IsLegal}
-use Rattle.mq_ledger.proofs.Books.{arrival_of_known}
-use Rattle.mq_ledger.proofs.Transactions.{entry}
-use Rattle.mq_forget.specs.Remembered.{is_about, is_set, stays, remembered, is_later, is_past, AreLaterOrPast}
-use Rattle.mq_forget.proofs.Staying.{one_more}
+use Rattle.mq_forget.proofs.Words.{All, All-from_recursion, AllByRecursion, AreLaterOrPast, Entry, Id, IsLegal, IsRequest, List, None, Option, Request, Some, [], all_push, answer, ap, append-nil, append_assoc, arrival_of_known, either, entry, false, fresh_reply, history_of, id_of, inl, inr}
+use Rattle.mq_forget.proofs.Words.{is_about, is_later, is_not, is_past, is_set, known_by, neither, recursion_from_All, refl, remembered, reply, reply_to, requests, stays, subst, sym, true, with_arrival, with_arrival_by, ℕ, ◌++◌, ◌||◌, ◌∙◌, ◌∷◌, ◌≡◌, ◌⊎◌}
+use Rattle.mq_lemmas.proofs.Lists.{all_append}
+use Rattle.mq_forget.proofs.Staying.{one_gone}
 use Rattle.mq_forget.proofs.Growing.{in_range}
 use Rattle.mq_forget.proofs.Fronts.{Builds}
 use Rattle.mq_forget.proofs.laws.past_requests_touch_no_later_day.Goals as goal
-
--- a number that isn't known gets the answer
-unknown_reply : (day : ℕ → ℕ) (default : ℕ) (H : List Entry) (r : Request) (id : Id) → known_by H (Some id) ≡ false → reply_to day default H r (Some id) ≡ answer day default H r
-unknown_reply day default H r id new =
-    let parts = neither (is_below (requests H) id) (is_some (stored H id)) new in
-    let above : is_below (requests H) id ≡ false = parts.0 in
-    let none : stored H id ≡ None = not_some (stored H id) parts.1 in
-    rw above (ap (reply_by day default H r id) none)
-
--- an entry that goes leaves all as it is
-goes : (day : ℕ → ℕ) (D : ℕ) (H : List Entry) (e : Entry) → stays day D H e ≡ false → remembered day D (H ++ e ∷ []) ≡ remembered day D H
-goes day D H e off = one_more day D H e ∙ ap (λ b. remembered day D H ++ (if b then e ∷ [] else [])) off ∙ append-nil (remembered day D H)
 
 past_by : (day : ℕ → ℕ) (default D : ℕ) (H : List Entry) (r : Request) (o : Option Id) → is_about day D H r ≡ false → is_set r (reply_to day default H r o) ≡ false → remembered day D (with_arrival_by day default H r o) ≡ remembered day D H
 past_by day default D H r None about set = refl
 past_by day default D H r (Some id) about set = elim (either (known_by H (Some id))) [
   | inl known ↦ rw known refl
-  | inr new ↦ (let answered : is_set r (answer day default H r) ≡ false = ap (is_set r) (sym (unknown_reply day default H r id new)) ∙ set in
+  | inr new ↦ (let answered : is_set r (answer day default H r) ≡ false = ap (is_set r) (sym (fresh_reply day default H r (Some id) new)) ∙ set in
       let off : stays day D H (entry r (answer day default H r)) ≡ false = rw (about, answered) refl in
-      let gone : remembered day D (H ++ entry r (answer day default H r) ∷ []) ≡ remembered day D H = goes day D H (entry r (answer day default H r)) off in
+      let gone : remembered day D (H ++ entry r (answer day default H r) ∷ []) ≡ remembered day D H = one_gone day D H (entry r (answer day default H r)) off in
       rw new gone)
 ]
 

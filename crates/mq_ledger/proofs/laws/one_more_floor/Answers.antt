@@ -1,9 +1,4 @@
-use Rattle.std.proofs.Common.{◌≡◌, ℕ, List, [], ◌∷◌, refl, ◌∙◌, ap}
-use Rattle.std.proofs.lemmas.List.{map-append}
-use Rattle.mq_request.specs.declared.message.Request.{Request}
-use Rattle.mq_ledger.specs.declared.entry.Entry.{Entry}
-use Rattle.mq_ledger.specs.Arrivals.{floor}
-use Rattle.mq_ledger.specs.History.{requests, transaction}
+use Rattle.mq_ledger.proofs.Words.{Entry, List, Request, [], ap, floor, map-append, refl, requests, transaction, ℕ, ◌∙◌, ◌∷◌, ◌≡◌}
 use Rattle.mq_ledger.proofs.Transactions.{floor_push, has_retired_run_push}
 use Rattle.mq_ledger.proofs.laws.one_more_floor.Goals as goal
 

@@ -1,5 +1,4 @@
-use Rattle.std.proofs.Common.{sym, subst}
-use Rattle.mq_ledger.specs.Suits.{Suits}
+use Rattle.mq_ledger.proofs.Words.{Suits, subst, sym}
 use Rattle.mq_ledger.proofs.Entries.{held_push, settled_in_push}
 use Rattle.mq_ledger.proofs.Suiting.{Opens, answer_suits, answer_opens}
 use Rattle.mq_ledger.proofs.Transactions.{named_push, closed_push}

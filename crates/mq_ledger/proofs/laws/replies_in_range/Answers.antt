@@ -1,5 +1,4 @@
-use Rattle.std.proofs.lemmas.List.Elements.{All-from_recursion}
-use Rattle.mq_request.specs.Range.{IsReply}
+use Rattle.mq_ledger.proofs.Words.{All-from_recursion, IsReply}
 use Rattle.mq_ledger.proofs.Clocks.{zone_days}
 use Rattle.mq_ledger.proofs.Ranges.{reply_range, legal_replies}
 use Rattle.mq_ledger.proofs.laws.replies_in_range.Goals as goal

@@ -1,5 +1,4 @@
-use Rattle.std.proofs.lemmas.List.Elements.{All-from_recursion}
-use Rattle.mq_ledger.specs.Suits.{Suits}
+use Rattle.mq_ledger.proofs.Words.{All-from_recursion, Suits}
 use Rattle.mq_ledger.proofs.Suiting.{answer_suits, legal_suited, reply_suits}
 use Rattle.mq_ledger.proofs.laws.replies_suit.Goals as goal
 

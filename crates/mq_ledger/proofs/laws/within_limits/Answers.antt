@@ -1,5 +1,4 @@
-use Rattle.mq_ledger.proofs.Within.{StaysWithin}
-use Rattle.mq_ledger.proofs.Ranges.{legal_good}
+use Rattle.mq_ledger.proofs.Within.{StaysWithin, legal_good}
 use Rattle.mq_ledger.proofs.laws.within_limits.Goals as goal
 
 pub returns : goal.returns

@@ -1,7 +1,4 @@
-use Rattle.std.proofs.Common.{◌≡◌, ◌≤ℤ◌, ℤ, pos, ◌+ℤ◌, ◌*ℤ◌, arith, refl, to_z, of_z, w64}
-use Rattle.std.proofs.lemmas.Int.{to_z_pos}
-use Rattle.jiff.proofs.SpanFacts.{signed_arith}
-use Rattle.mq_ledger.specs.Day.{clock}
+use Rattle.mq_ledger.proofs.Words.{arith, clock, of_z, pos, refl, signed_arith, to_z, to_z_pos, w64, ℤ, ◌*ℤ◌, ◌+ℤ◌, ◌≡◌, ◌≤ℤ◌}
 use Rattle.mq_ledger.proofs.Clocks.{kept_seconds, day_of_seconds}
 use Rattle.mq_ledger.proofs.zone.day_at_offset.Goals as goal
 

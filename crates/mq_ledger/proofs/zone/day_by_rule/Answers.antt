@@ -1,10 +1,5 @@
-use Rattle.std.proofs.Common.{◌∙◌, ◌≡◌, pos, ◌+ℤ◌, arith, ap, to_z, of_z, w64}
-use Rattle.std.proofs.lemmas.Int.{to_z_pos}
-use Rattle.jiff.proofs.SpanFacts.{signed_arith}
-use Rattle.jiff.proofs.Family.{epoch_day_range}
-use Rattle.jiff.specs.Words.{epoch_day, nanos_of_seconds}
-use Rattle.mq_ledger.specs.Day.{limited}
-use Rattle.mq_ledger.specs.Rule.{ahead}
+use Rattle.mq_ledger.proofs.Words.{ahead, ap, arith, epoch_day, epoch_day_range, limited, of_z, pos, signed_arith, to_z, to_z_pos, w64, ◌+ℤ◌, ◌∙◌, ◌≡◌}
+use Rattle.jiff.specs.Words.{nanos_of_seconds}
 use Rattle.mq_ledger.proofs.Clocks.{day_by_rule}
 use Rattle.mq_ledger.proofs.zone.day_by_rule.Goals as goal
 

@@ -1,7 +1,4 @@
-use Rattle.std.proofs.Common.{◌∙◌, ◌≡◌, pos, ◌*ℤ◌, arith, ap}
-use Rattle.jiff.proofs.SpanFacts.{signed_arith}
-use Rattle.jiff.proofs.Family.{epoch_day_range}
-use Rattle.jiff.specs.Words.{epoch_day}
+use Rattle.mq_ledger.proofs.Words.{ap, arith, epoch_day, epoch_day_range, pos, signed_arith, ◌*ℤ◌, ◌∙◌, ◌≡◌}
 use Rattle.mq_ledger.proofs.Clocks.{whole_days, day_of_hours}
 use Rattle.mq_ledger.proofs.zone.day_number.Goals as goal
 

@@ -9,7 +9,7 @@ use Rattle.mq_store.specs.Soundness.{book_in, HasKept, IsSound}
 use Rattle.mq_connections.specs.Sessions.{Outside}
 use Rattle.mq_connections.specs.Wires.{unknown}
 use Rattle.mq_connections.specs.declared.fault.RoomFault.TheVariants.{Store}
-use Rattle.mq_connections.specs.declared.serving.Ended.TheVariants.{Chore}
+use Rattle.mq_connections.specs.declared.serving.ServingEnd.TheVariants.{Chore}
 use Rattle.mq_connections.proofs.Choring.{fitted_now}
 use Rattle.mq_nights.specs.Nights.{HasRenewed}
 use Rattle.mq_nights.proofs.Comes.{Fits, none_there}

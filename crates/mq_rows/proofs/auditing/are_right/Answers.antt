@@ -1,7 +1,5 @@
-use Rattle.std.proofs.Common.{◌≡◌, ◌+ℤ◌, ◌<ℤ◌, ◌≤ℤ◌, to_z, of_z, Bool, true, false, refl, ap, arith}
-use Rattle.std.specs.Prelude.{◌&&◌}
-use Rattle.std.specs.Cmp.{signed_Decides}
-use Rattle.std.proofs.lemmas.Int.{ints}
+use Rattle.std.proofs.Common.{◌≡◌, ◌+ℤ◌, ◌<ℤ◌, ◌≤ℤ◌, to_z, of_z, Bool, true, false, refl, ap, arith, ◌&&◌}
+use Rattle.mq_rows.proofs.Words.{ints, signed_Decides}
 use mir.Syntax.{w128}
 use Rattle.mq_rows.proofs.Governed.{lt_so, lt_not, so_le, not_le}
 use Rattle.mq_rows.proofs.auditing.are_right.Goals as goal

@@ -1,7 +1,5 @@
 use Rattle.std.proofs.Common.{◌≡◌, ◌∙◌, ap, sym, pos, to_z, of_z, w64, true, false, arith}
-use Rattle.std.proofs.lemmas.Int.{ints}
-use Rattle.mq_request.specs.Same.{same_text}
-use Rattle.mq_request.proofs.Alike.{text_is, text_itself}
+use Rattle.mq_rows.proofs.Words.{ints, same_text, text_is, text_itself}
 use Rattle.mq_rows.proofs.Governed.{nothing_due, own_login, other_login}
 use Rattle.mq_rows.proofs.books.cap_of.Goals as goal
 

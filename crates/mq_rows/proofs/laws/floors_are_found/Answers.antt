@@ -1,12 +1,5 @@
-use Rattle.std.proofs.Common.{◌≡◌, ℕ, List, refl, ◌∙◌, ap, sym, inl, inr}
-use Rattle.std.specs.Prelude.{◌==◌, Some, None}
-use Rattle.mq_lemmas.proofs.Booleans.{either}
-use Rattle.mq_lemmas.proofs.Numbers.{number_is}
-use Rattle.mq_ledger.specs.declared.entry.Entry.{Entry}
-use Rattle.mq_ledger.specs.Arrivals.{floor}
-use Rattle.mq_ledger.specs.History.{requests}
-use Rattle.mq_rows.specs.Plan.{floor_by}
-use Rattle.mq_rows.specs.Rows.{retired_row}
+use Rattle.std.proofs.Common.{◌≡◌, ℕ, List, refl, ◌∙◌, ap, sym, inl, inr, ◌==◌, Some, None}
+use Rattle.mq_rows.proofs.Words.{Entry, either, floor, floor_by, number_is, requests, retired_row}
 use Rattle.mq_rows.proofs.laws.floors_are_found.Goals as goal
 
 -- the row of a host has its floor, where it isn't 0

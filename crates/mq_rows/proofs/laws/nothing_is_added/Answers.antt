@@ -1,9 +1,5 @@
-use Rattle.std.proofs.Common.{◌≡◌, ℕ, List, refl, ◌∙◌}
-use Rattle.std.specs.Prelude.{None}
-use Rattle.mq_request.specs.declared.message.Request.{Request}
-use Rattle.mq_ledger.specs.declared.entry.Entry.{Entry}
-use Rattle.mq_ledger.specs.Answer.{with_arrival}
-use Rattle.mq_ledger.specs.Arrivals.{id_of}
+use Rattle.std.proofs.Common.{◌≡◌, ℕ, List, refl, ◌∙◌, None}
+use Rattle.mq_rows.proofs.Words.{Entry, Request, id_of, with_arrival}
 use Rattle.mq_ledger.proofs.Books.{arrival_of_known}
 use Rattle.mq_rows.proofs.laws.nothing_is_added.Goals as goal
 

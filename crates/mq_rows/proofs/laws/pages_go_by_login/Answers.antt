@@ -1,4 +1,4 @@
-use Rattle.std.specs.Prelude.{map}
+use Rattle.std.proofs.Common.{map}
 use Rattle.mq_rows.proofs.Pages.{page_of, next_more}
 use Rattle.mq_rows.proofs.laws.pages_go_by_login.Goals as goal
 

@@ -1,22 +1,9 @@
-use Rattle.std.proofs.Common.{◌≡◌, List, [], Bool, true, false, refl, ◌∙◌, subst}
-use Rattle.std.specs.Prelude.{if◌then◌else◌}
-use Rattle.mq_lemmas.proofs.Lists.{found_passes}
-use Rattle.mq_request.specs.declared.message.Id.{Id}
-use Rattle.mq_request.specs.declared.message.Reply.{Reply}
-use Rattle.mq_request.specs.declared.message.Reply.TheVariants.{Conflict}
-use Rattle.mq_request.specs.Range.{IsId, IsRequest, IsReply}
-use Rattle.mq_request.specs.Same.{same_request}
-use Rattle.mq_request.proofs.Alike.{id_is}
-use Rattle.mq_frame.specs.Spelling.{request_body, reply_body, SpellsReply}
-use Rattle.mq_ledger.specs.declared.entry.Entry.{Entry}
-use Rattle.mq_ledger.specs.Arrivals.{has_id, is_below}
-use Rattle.mq_ledger.specs.History.{requests}
-use Rattle.mq_ledger.proofs.Ranges.{id_range}
-use Rattle.mq_rows.specs.declared.record.AnswerRecord.{AnswerRecord}
-use Rattle.mq_rows.specs.Rows.{number_of, answer_of}
+use Rattle.std.proofs.Common.{◌≡◌, List, [], Bool, true, false, refl, ◌∙◌, subst, if◌then◌else◌}
+use Rattle.mq_rows.proofs.Words.{AnswerRecord, Conflict, Entry, Id, IsId, IsReply, IsRequest, Reply, SpellsReply, answer_of, found_passes, has_id, id_is, id_range, is_below, number_of, reply_body, request_body, requests, same_request}
 use Rattle.mq_rows.specs.Repeat.{IsKept, IsRepeatOf}
 use Rattle.mq_rows.proofs.Distinct.{one_row}
-use Rattle.mq_rows.proofs.Numbered.{Stored, stored_row, no_row, found_has, number_test}
+use Rattle.mq_rows.proofs.Numbered.{Stored, stored_row, no_row, number_test}
+use Rattle.mq_rows.proofs.Lists.{found_has}
 use Rattle.mq_rows.proofs.laws.repeats_are_answered.Goals as goal
 
 kept_is : (b : Bool) (id : Id) (e : Entry) (a : Reply) → (SpellsReply (reply_body e.reply) a → a ≡ e.reply) → IsKept b id (reply_body e.reply) a → a ≡ (if b then e.reply else Conflict id)

@@ -1,4 +1,4 @@
-use Rattle.mq_rows.specs.Rows.{transaction_row, usage_row, limit_row, retired_row, is_transaction, is_usage, is_limit, is_host}
+use Rattle.mq_rows.proofs.Words.{is_host, is_limit, is_transaction, is_usage, limit_row, retired_row, transaction_row, usage_row}
 use Rattle.mq_rows.proofs.Lists.{find_of_those, those_are_found}
 use Rattle.mq_rows.proofs.laws.rows_by_key.Goals as goal
 

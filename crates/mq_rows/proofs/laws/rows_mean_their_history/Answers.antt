@@ -1,18 +1,6 @@
-use Rattle.std.proofs.Common.{◌≡◌, ℕ, List, [], refl, ◌∙◌, ap, sym, subst, arith}
-use Rattle.std.specs.Prelude.{None, Some}
-use Rattle.mq_request.specs.declared.message.Request.{Request}
-use Rattle.mq_request.specs.Range.{IsRequest}
-use Rattle.mq_frame.specs.Reading.{request_at}
-use Rattle.mq_frame.specs.Spelling.{request_body}
-use Rattle.mq_ledger.specs.Answer.{build}
-use Rattle.mq_ledger.specs.Arrivals.{floor}
-use Rattle.mq_ledger.specs.Day.{day_of}
-use Rattle.mq_ledger.specs.History.{requests}
-use Rattle.mq_ledger.specs.Legal.{Book, IsLegalBook}
+use Rattle.std.proofs.Common.{◌≡◌, ℕ, List, [], refl, ◌∙◌, ap, sym, subst, arith, None, Some}
+use Rattle.mq_rows.proofs.Words.{AreRows, Book, IsLegalBook, IsRequest, Request, SettingRecord, Tables, build, day_of, floor, request_at, request_body, requests, retired_row, those}
 use Rattle.mq_rows.specs.Meaning.{requests_in, meaning, AreSound}
-use Rattle.mq_rows.specs.declared.record.SettingRecord.{SettingRecord}
-use Rattle.mq_rows.specs.Rows.{retired_row}
-use Rattle.mq_rows.specs.Tables.{Tables, those, AreRows}
 use Rattle.mq_rows.proofs.Numbered.{spelled_requests}
 use Rattle.mq_rows.proofs.laws.rows_mean_their_history.Goals as goal
 

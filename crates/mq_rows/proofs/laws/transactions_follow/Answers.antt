@@ -1,5 +1,4 @@
-use Rattle.mq_rows.proofs.Trans.{Ledger, entries, transactions_lead}
-use Rattle.mq_rows.proofs.Lookups.{transaction_found}
+use Rattle.mq_rows.proofs.Trans.{Ledger, transactions_lead}
 use Rattle.mq_rows.proofs.laws.transactions_follow.Goals as goal
 
 pub returns : goal.returns
@@ -11,7 +10,5 @@ returns c = λ day default H t r f plain above are found.
       settled_more = c.one_more_of_a_transaction.ensures.settled day default;
       unheard = c.open_transactions.ensures.unheard;
       unsettled = c.open_transactions.ensures.open;
-      same = c.open_transactions.ensures.same;
-      itself = c.open_transactions.ensures.itself;
     } in
-    transactions_lead day default H t.transactions r f.transaction (entries day default laws H r plain above) plain (c.replies_suit.ensures.answer day default H r) are (transaction_found day H t r f are found)
+    transactions_lead day default laws H t r f plain above (c.replies_suit.ensures.answer day default H r) are found

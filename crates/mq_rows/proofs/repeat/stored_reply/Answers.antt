@@ -1,4 +1,4 @@
-use Rattle.mq_ledger.proofs.Ranges.{id_range}
+use Rattle.mq_rows.proofs.Words.{id_range}
 use Rattle.mq_rows.proofs.repeat.stored_reply.Goals as goal
 
 pub returns-then-not-same-clause-in_range : goal.returns-then-not-same-clause-in_range

@@ -1,38 +1,13 @@
-use Rattle.std.proofs.Common.{ℕ, ◌<◌, ◌^◌, arith, Some, None, inl, inr}
-use Rattle.std.specs.Prelude.{Option}
-use Rattle.mq_lemmas.proofs.Booleans.{either}
-use Rattle.mq_request.specs.declared.message.Request.{Request}
-use Rattle.mq_request.specs.declared.message.Request.TheVariants.{Reserve, Settle, Release, Limit, Usage, List as ListRequest, Retire}
-use Rattle.mq_request.specs.declared.message.Reply.{Reply}
-use Rattle.mq_request.specs.declared.message.Reply.TheVariants.{Granted, Full, Settled, Released, LimitSet, Over, Closed, Mismatch, TooMany, Conflict, Usage as UsageReply, List as ListReply, Retry, Bad, Retired, Old}
-use Rattle.mq_request.specs.declared.message.Id.{Id}
-use Rattle.mq_request.specs.Range.{IsId, IsRequest}
-use Rattle.mq_ledger.specs.Day.{day_of}
-use Rattle.mq_ledger.proofs.Ranges.{id_range}
-use Rattle.mq_rows.specs.declared.record.TransactionRecord.{TransactionRecord}
-use Rattle.mq_rows.specs.declared.record.RetiredRecord.{RetiredRecord}
-use Rattle.mq_rows.specs.declared.plan.Found.{Found}
-use Rattle.mq_rows.specs.Plan.{moves, moved, moved_or_made, transaction_write, floor_by, given_up_by, raised_to, retired_write}
+use Rattle.std.proofs.Common.{ℕ, ◌<◌, ◌^◌, arith, Some, None, inl, inr, Option}
+use Rattle.mq_rows.proofs.Words.{FoundRows, Granted, Id, IsId, IsRequest, Release, Released, Reply, Request, Reserve, Retire, RetiredRecord, Settle, Settled, TransactionRecord, day_of, either, floor_by, given_up_by, id_range, moved, moved_or_made, moves, raised_to, retired_write, transaction_write}
 use Rattle.mq_rows.specs.Storable.{IsStorable, AreStorableIf, AreStorable, IsStorableFloor, AreStorableRuns, IsStorableRun}
 use Rattle.mq_rows.proofs.write.decide_by.Goals as goal
 
 moved_has : (count : ℕ) (a : Reply) (t : TransactionRecord) → IsStorable t → IsStorable (moved count a t)
 moved_has count (Granted id used) t h = h
-moved_has count (Full id used cap) t h = h
 moved_has count (Settled id n) t h = h
 moved_has count (Released id held) t h = h
-moved_has count (LimitSet id) t h = h
-moved_has count (Over id day used) t h = h
-moved_has count (Closed id) t h = h
-moved_has count (Mismatch id) t h = h
-moved_has count (TooMany id held) t h = h
-moved_has count (Conflict id) t h = h
-moved_has count (UsageReply login day settled reserved cap) t h = h
-moved_has count (ListReply day rows) t h = h
-moved_has count Retry t h = h
-moved_has count Bad t h = h
-moved_has count (Retired id) t h = h
-moved_has count (Old id) t h = h
+moved_has count a t h = h
 
 moved_or_made_has : (count : ℕ) (a : Reply) (new : TransactionRecord) (o : Option TransactionRecord) → IsStorable new → AreStorableIf o → AreStorable (moved_or_made count a new o)
 moved_or_made_has count a new None made has = moved_has count a new made
@@ -45,23 +20,15 @@ write_has : (day : ℕ → ℕ) (r : Request) (a : Reply) (o : Option Transactio
 write_has day (Reserve id txn moment login count) a o h has = moved_or_made_has count a _ o (omega (arith, h.0.run.to), omega (arith, h.2.to)) has
 write_has day (Settle id txn moment login count) a o h has = moved_or_made_has count a _ o (omega (arith, h.0.run.to), omega (arith, h.2.to)) has
 write_has day (Release id txn moment login) a o h has = moved_or_made_has 0 a _ o (omega (arith, h.0.run.to), omega (arith, h.2.to)) has
-write_has day (Limit id from_day cap login) a o h has = tt
-write_has day (Usage login d) a o h has = tt
-write_has day (ListRequest d after) a o h has = tt
-write_has day (Retire id) a o h has = tt
+write_has day r a o h has = tt
 
 floor_has : (o : Option RetiredRecord) → IsStorableFloor o → floor_by o < 2 ^ 63
 floor_has None has = omega arith
 floor_has (Some r) has = has
 
-runs_have : (r : Request) (f : Found) → IsRequest r → IsStorableFloor f.floor → AreStorableRuns (given_up_by r f)
+runs_have : (r : Request) (f : FoundRows) → IsRequest r → IsStorableFloor f.floor → AreStorableRuns (given_up_by r f)
 runs_have (Retire id) f h has = (floor_has f.floor has, omega (arith, h.run.to))
-runs_have (Reserve id txn moment login count) f h has = tt
-runs_have (Settle id txn moment login count) f h has = tt
-runs_have (Release id txn moment login) f h has = tt
-runs_have (Limit id from_day cap login) f h has = tt
-runs_have (Usage login d) f h has = tt
-runs_have (ListRequest d after) f h has = tt
+runs_have r f h has = tt
 
 raised_has : (id : Id) (o : Option RetiredRecord) → IsId id → IsStorableRun (raised_to id o)
 raised_has id None h = omega (arith, h.run.to)
@@ -69,12 +36,7 @@ raised_has id (Some r) h = omega (arith, h.run.to)
 
 run_has : (r : Request) (o : Option RetiredRecord) → IsRequest r → IsStorableRun (retired_write r o)
 run_has (Retire id) o h = raised_has id o h
-run_has (Reserve id txn moment login count) o h = tt
-run_has (Settle id txn moment login count) o h = tt
-run_has (Release id txn moment login) o h = tt
-run_has (Limit id from_day cap login) o h = tt
-run_has (Usage login d) o h = tt
-run_has (ListRequest d after) o h = tt
+run_has r o h = tt
 
 pub returns-clause-storable : goal.returns-clause-storable
 returns-clause-storable c = λ has floor_has.
@@ -87,3 +49,8 @@ returns-clause-storable c = λ has floor_has.
       given_up = runs_have c.args.request.now c.args.found.now c.requires.in_range floor_has;
       retired = run_has c.args.request.now c.args.found.now.floor c.requires.in_range;
     }
+
+pub returns-clause-in_range : goal.returns-clause-in_range
+returns-clause-in_range c =
+    let replied = c.in_ok-outcome.ensures.in_range c.args.id.now (id_range c.args.request.now c.args.id.now c.requires.in_range c.requires.number) in
+    rw c.in_ok-plan.ensures (rw c.in_ok-reply.ensures replied)

@@ -1,12 +1,5 @@
-use Rattle.std.proofs.Common.{◌≡◌, ◌≤◌, true, false, List, [], length, map, take, drop, vec_len, vec_capacity}
-use Rattle.std.specs.Prelude.{◌≢◌, All}
-use Rattle.mq_stream.specs.Flow.{IsFlushed}
-use Rattle.std.specs.List.{AllZip}
-use Rattle.mq_ledger.specs.Leaving.{LeavesLedger}
-use Rattle.mq_ledger.specs.Told.{Tells}
-use Rattle.mq_server.specs.declared.connections.ConnectionEnd.TheVariants as ends
-use Rattle.mq_server.specs.Connections.{wires, result_of, AreServed}
-use Rattle.mq_server.specs.Delivery.{Delivery, answer_to, history_after, calls}
+use Rattle.std.proofs.Common.{List, [], drop, length, map, vec_capacity, vec_len, ◌≡◌, ◌≤◌}
+use Rattle.mq_server.proofs.Words.{AreServed, Delivery, DevicesAgree, LeavesLedger, Tells, answer_to, calls, history_after, result_of, wires}
 use Rattle.mq_server.proofs.connections.serve_all.Given as goal
 
 abbrev pub invariant-loop-i : goal.invariant-loop-i
@@ -20,13 +13,9 @@ invariant-loop-i g l =
       room : length l.fn.inputs ≤ vec_capacity l.ends;
       counted : vec_len l.ends ≡ l.i;
       pairs : length l.inputs ≡ length l.outputs;
-      reads : AllZip (λ end input. end ≡ ends.Read → g.S.Source.has_failed input ≡ true) l.ends.items (take l.i l.inputs);
-      writes : AllZip (λ end output. end ≡ ends.Write → g.W.Sink.has_failed output ≡ true) l.ends.items (take l.i l.outputs);
+      devices : DevicesAgree g.S.Source.has_failed g.W.Sink.has_failed g.W.Sink.has_flushed l.fn.inputs l.inputs l.fn.outputs l.outputs (map result_of l.ends.items);
       inputs_left : drop l.i l.inputs ≡ drop l.i l.fn.inputs;
       outputs_left : drop l.i l.outputs ≡ drop l.i l.fn.outputs;
-      sources : All (λ input. g.S.Source.has_failed input ≡ false) l.fn.inputs → AllZip (λ end input. end ≢ ends.Read → g.S.Source.has_failed input ≡ false) l.ends.items (take l.i l.inputs);
-      sinks : All (λ output. g.W.Sink.has_failed output ≡ false) l.fn.outputs → AllZip (λ end output. end ≢ ends.Write → g.W.Sink.has_failed output ≡ false) l.ends.items (take l.i l.outputs);
-      flushes : All (λ output. IsFlushed (g.W.Sink.has_flushed output)) l.fn.outputs → AllZip (λ end output. end ≢ ends.Write → IsFlushed (g.W.Sink.has_flushed output)) l.ends.items (take l.i l.outputs);
       leaves : LeavesLedger book kept sound g.L.Ledger.has_store l.fn.ledger l.ledger;
       so_far : kept l.ledger → sound l.fn.ledger → (seen : List Delivery)
           × AreServed (book l.fn.ledger) [] (wires (map left l.fn.inputs) (map held l.fn.outputs)) (wires (map left l.inputs) (map held l.outputs)) (map result_of l.ends.items) seen

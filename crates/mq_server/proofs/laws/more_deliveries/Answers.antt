@@ -1,4 +1,4 @@
-use Rattle.std.proofs.Common.{[], ◌++◌, sym, ◌∙◌}
+use Rattle.std.proofs.Common.{[], sym, ◌++◌, ◌∙◌}
 use Rattle.mq_server.proofs.Deliveries.{history_none, history_more}
 use Rattle.mq_server.proofs.laws.more_deliveries.Goals as goal
 

@@ -1,8 +1,5 @@
-use Rattle.std.proofs.Common.{◌≡◌, ◌+◌, ◌-◌, ◌*◌, ◌<◌, length, [], true, false, None}
-use Rattle.std.specs.Prelude.{if◌then◌else◌}
-use Rattle.std.specs.Io.KnownBytes.{IsAtEnd}
-use Rattle.mq_stream.specs.Flow.{IsFlushed}
-use Rattle.mq_ledger.specs.Leaving.{LeavesLedger}
+use Rattle.std.proofs.Common.{None, [], false, if◌then◌else◌, length, true, ◌*◌, ◌+◌, ◌-◌, ◌<◌, ◌≡◌}
+use Rattle.mq_server.proofs.Words.{IsAtEnd, IsFlushed, LeavesLedger}
 use Rattle.mq_server.proofs.Running.{SoFar}
 use Rattle.mq_server.proofs.serving.serve.Given as goal
 

@@ -1,7 +1,5 @@
-use Rattle.std.proofs.Common.{◌∙◌, take}
-use Rattle.mq_ledger.specs.Day.{day_of}
-use Rattle.mq_ledger.specs.declared.entry.Entry.{Entry}
-use Rattle.mq_forget.specs.Remembered.{remembered}
+use Rattle.std.proofs.Common.{take, ◌∙◌}
+use Rattle.mq_store.proofs.Words.{Entry, day_of, remembered}
 use Rattle.mq_store.proofs.carry.carry_one.Goals as goal
 
 pub returns-then-not-is_staying-clause-carried : goal.returns-then-not-is_staying-clause-carried

@@ -1,4 +1,4 @@
-use Rattle.sqlite.proofs.Callers.{memory_is_clean}
+use Rattle.mq_store.proofs.Words.{memory_is_clean}
 use Rattle.mq_store.proofs.carry.follow_one.Goals as goal
 
 pub returns-clause-follows : goal.returns-clause-follows

@@ -1,5 +1,5 @@
-use Rattle.std.proofs.Common.{sym, subst}
-use Rattle.mq_tables.proofs.Chain.{was_clean}
+use Rattle.std.proofs.Common.{subst, sym}
+use Rattle.mq_store.proofs.Words.{was_clean}
 use Rattle.mq_store.specs.Taking.{HasBook, book_of}
 use Rattle.mq_store.proofs.carry.judge.Goals as goal
 

@@ -1,7 +1,5 @@
-use Rattle.std.proofs.Common.{◌∙◌, sym, ap, take}
-use Rattle.sqlite.proofs.Callers.{memory_is_clean}
-use Rattle.mq_ledger.specs.declared.entry.Entry.{Entry}
-use Rattle.mq_forget.specs.Remembered.{is_set}
+use Rattle.std.proofs.Common.{ap, sym, take, ◌∙◌}
+use Rattle.mq_store.proofs.Words.{Entry, is_set, memory_is_clean}
 use Rattle.mq_store.proofs.carry.set_again.Goals as goal
 
 pub returns-clause-set : goal.returns-clause-set

@@ -1,6 +1,5 @@
-use Rattle.std.proofs.Common.{◌≡◌, ◌∙◌, arith, subst, take}
-use Rattle.sqlite.specs.Held.{state}
-use Rattle.sqlite.specs.Steps.{over_memory}
+use Rattle.std.proofs.Common.{arith, subst, take, ◌∙◌, ◌≡◌}
+use Rattle.mq_store.proofs.Words.{over_memory, state}
 use Rattle.mq_store.specs.Taking.{HasBook, book_of}
 use Rattle.mq_store.proofs.carry.step_apart.Goals as goal
 

@@ -1,6 +1,5 @@
 use Rattle.std.proofs.Common.{rules}
-use Rattle.sqlite.specs.Held.{state}
-use Rattle.sqlite.specs.State.{HasCleanDisk}
+use Rattle.mq_store.proofs.Words.{HasCleanDisk, state}
 use Rattle.mq_store.proofs.counting.count_store.Goals as goal
 
 pub returns-clause-counted : goal.returns-clause-counted

@@ -1,7 +1,5 @@
-use Rattle.std.proofs.Common.{sym, subst}
-use Rattle.sqlite.specs.Held.{state}
-use Rattle.mq_tables.specs.Ledger.{HasLedger}
-use Rattle.mq_tables.proofs.Chain.{was_clean}
+use Rattle.std.proofs.Common.{subst, sym}
+use Rattle.mq_store.proofs.Words.{HasLedger, state, was_clean}
 use Rattle.mq_store.proofs.days.days_in.Goals as goal
 
 pub returns-in_default-clause-found : goal.returns-in_default-clause-found

@@ -1,10 +1,5 @@
-use Rattle.std.proofs.Common.{ap, sym, subst, arith}
-use Rattle.std.specs.Prelude.{IsTrue}
-use Rattle.sqlite.specs.Does.{lacks_sequence}
-use Rattle.sqlite.specs.Held.{state}
-use Rattle.sqlite.specs.Steps.{over_memory}
-use Rattle.sqlite.proofs.Callers.{memory_is_clean}
-use Rattle.mq_tables.specs.Making.{AreUnnamed}
+use Rattle.std.proofs.Common.{IsTrue, ap, arith, subst, sym}
+use Rattle.mq_store.proofs.Words.{AreUnnamed, lacks_sequence, memory_is_clean, over_memory, state}
 use Rattle.mq_store.specs.Forgetting.{IsFree}
 use Rattle.mq_store.proofs.Renewals.{carried_none, carried_all}
 use Rattle.mq_store.proofs.fill.carry_apart.Goals as goal

@@ -1,6 +1,5 @@
-use Rattle.sqlite.specs.Held.{state}
-use Rattle.mq_tables.proofs.Chain.{was_clean}
-use Rattle.mq_store.proofs.Filling.{on_ok, fills_over}
+use Rattle.mq_store.proofs.Words.{on_ok_weaker, state, was_clean}
+use Rattle.mq_store.proofs.Filling.{fills_over}
 use Rattle.mq_store.proofs.fill.fill.Goals as goal
 
 pub returns-clause-filled : goal.returns-clause-filled
@@ -10,5 +9,5 @@ returns-clause-filled g c clean clean_into =
     let mid = state g.T.Store c.make.new.tx.conn.now in
     let new = state g.T.Store c.carry_apart.new.into.conn.now in
     let sure = was_clean c.carry_apart.ensures.into_leaves clean_into in
-    on_ok c.carry_apart.result _ _ (fills_over c.args.terms.now.zone c.args.terms.now.default c.args.terms.now.day from.now old.now mid.now new.now (c.in_ok-make.ensures.blank sure))
+    on_ok_weaker c.carry_apart.result (fills_over c.args.terms.now.zone c.args.terms.now.default c.args.terms.now.day from.now old.now mid.now new.now (c.in_ok-make.ensures.blank sure))
     (c.carry_apart.ensures.carried clean clean_into)

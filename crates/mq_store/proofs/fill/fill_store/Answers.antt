@@ -1,8 +1,5 @@
-use Rattle.std.proofs.Common.{◌≡◌, rules}
-use Rattle.sqlite.specs.Held.{state}
-use Rattle.sqlite.specs.State.{HasCleanDisk}
-use Rattle.sqlite.proofs.Callers.{survives_begin}
-use Rattle.mq_lemmas.proofs.Options.{on_err}
+use Rattle.std.proofs.Common.{rules, ◌≡◌}
+use Rattle.mq_store.proofs.Words.{HasCleanDisk, on_err, state, survives_begin}
 use Rattle.mq_store.specs.Forgetting.{Fills}
 use Rattle.mq_store.proofs.Filling.{leaves_filled}
 use Rattle.mq_store.proofs.fill.fill_store.Goals as goal
@@ -17,4 +14,4 @@ returns-in_err-commit-clause-crash_err g c clean_from =
     let before = survives_begin g.T.Store c.args.into.now mid (λ _. ⊥) (rw c.transaction-writing.ensures.begun at c.fill.ensures.into_leaves.survives) in
     let filled : HasCleanDisk mid → Fills c.args.terms.now.zone c.args.terms.now.default c.args.terms.now.day from.now old.now mid.now =
     rw (c.transaction-reading.ensures.begun, c.transaction-writing.ensures.begun) at (c.in_ok-fill.ensures.filled read) in
-    rw (← same) (λ clean. on_err _ _ (leaves_filled c.args.terms.now.zone c.args.terms.now.default c.args.terms.now.day from.now old mid (state g.T.Store c.commit.new.self.0) filled before c.commit.ensures.survives clean))
+    rw (← same) (λ clean. on_err _ _ ((leaves_filled c.args.terms.now.zone c.args.terms.now.default c.args.terms.now.day from.now old mid (state g.T.Store c.commit.new.self.0) filled before c.commit.ensures.survives).crash clean))

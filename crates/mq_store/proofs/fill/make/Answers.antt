@@ -1,11 +1,11 @@
-use Rattle.sqlite.specs.Held.{state}
-use Rattle.mq_store.proofs.Filling.{on_ok, made_blank}
+use Rattle.mq_store.proofs.Words.{on_ok_weaker, state}
+use Rattle.mq_store.proofs.Sound.{made_blank}
 use Rattle.mq_store.proofs.fill.make.Goals as goal
 
 pub returns-clause-blank : goal.returns-clause-blank
 returns-clause-blank g c clean =
     let old = state g.S.Store c.args.tx.now.conn.now in
     let new = state g.S.Store c.make_tables.new.tx.conn.now in
-    on_ok c.make_tables.result _ _ (λ made.
+    on_ok_weaker c.make_tables.result (λ made.
     made_blank c.args.indexed c.args.terms.now.zone c.args.terms.now.default old.now new.now c.new_setting-made_with.ensures.in_range c.requires.in_range (rw c.new_setting-made_with.ensures.value at made))
     (c.make_tables.ensures.made clean)

@@ -1,8 +1,5 @@
-use Rattle.std.proofs.Common.{◌≡◌, ◌+◌, List, ◌∷◌, drop, subst, sym, ap, ◌∙◌}
-use Rattle.std.proofs.lemmas.List.{drop_more, drop_all}
-use Rattle.sqlite.specs.Held.{state}
-use Rattle.sqlite.specs.Order.{Row}
-use Rattle.mq_tables.proofs.Chain.{leaves_both, was_clean}
+use Rattle.std.proofs.Common.{List, ap, drop, subst, sym, ◌+◌, ◌∙◌, ◌∷◌, ◌≡◌}
+use Rattle.mq_store.proofs.Words.{Row, drop_all, drop_more, leaves_both, state, was_clean}
 use Rattle.mq_store.specs.GivingUp.{place_of}
 use Rattle.mq_store.proofs.Clearings.{IsToClear, one_cleared, all_at_places}
 use Rattle.mq_store.proofs.giving_up.clear_all.Goals as goal
@@ -17,11 +14,11 @@ loop-place-preserved g c =
       λ clean.
           let mid = was_clean c.clear_reply.ensures.leaves clean in
           let before = c.loop-place.invariant.1 mid in (
-            c.in_ok-_count.ensures.inside clean,
+            c.in_ok-clear_reply.ensures.inside clean,
             λ t l.
                 let here : drop c.loop-place.place-index c.args.places.now ≡ place ∷ rest = drop_more c.args.places.now c.loop-place.place-index place c.loop-place-test.true ∙ ap (λ (x : Row). x ∷ rest) (sym c.place-item.is) in
                 let left = subst (λ (xs : List Row). IsToClear t c.args.places.now xs s1.now) here (before.1 t l) in
-                one_cleared t c.args.places.now rest place c.in_ok-n.n s1 s2 (ap place_of c.in_ok-n.ensures.0) left (c.in_ok-_count.ensures.cleared clean),
+                one_cleared t c.args.places.now rest place c.in_ok-n.n s1 s2 (ap place_of c.in_ok-n.ensures.0) left (c.in_ok-clear_reply.ensures.cleared clean),
           ),
     )
 

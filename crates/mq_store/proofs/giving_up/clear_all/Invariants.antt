@@ -1,10 +1,5 @@
-use Rattle.std.proofs.Common.{drop}
-use Rattle.std.specs.Prelude.{IsTrue}
-use Rattle.sqlite.specs.Held.{state}
-use Rattle.sqlite.specs.State.{HasCleanDisk}
-use Rattle.mq_rows.specs.Tables.{Tables}
-use Rattle.mq_tables.specs.Inside.{LeavesCommit}
-use Rattle.mq_tables.specs.Ledger.{HasLedger}
+use Rattle.std.proofs.Common.{IsTrue, drop}
+use Rattle.mq_store.proofs.Words.{HasCleanDisk, HasLedger, LeavesCommit, Tables, state}
 use Rattle.mq_store.proofs.Clearings.{IsToClear}
 use Rattle.mq_store.proofs.giving_up.clear_all.Given as goal
 

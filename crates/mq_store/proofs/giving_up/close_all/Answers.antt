@@ -1,8 +1,5 @@
-use Rattle.std.proofs.Common.{◌≡◌, ◌+◌, List, ◌∷◌, drop, subst, sym, ap, ◌∙◌}
-use Rattle.std.proofs.lemmas.List.{drop_more, drop_all}
-use Rattle.sqlite.specs.Held.{state}
-use Rattle.mq_rows.specs.declared.record.TransactionRecord.{TransactionRecord}
-use Rattle.mq_tables.proofs.Chain.{leaves_both, was_clean}
+use Rattle.std.proofs.Common.{List, ap, drop, subst, sym, ◌+◌, ◌∙◌, ◌∷◌, ◌≡◌}
+use Rattle.mq_store.proofs.Words.{TransactionRecord, drop_all, drop_more, leaves_both, state, was_clean}
 use Rattle.mq_store.proofs.Closings.{IsLeft, one_more, all_closed}
 use Rattle.mq_store.proofs.giving_up.close_all.Goals as goal
 
@@ -16,11 +13,11 @@ loop-was-preserved g c =
       λ clean.
           let mid = was_clean c.close_one.ensures.leaves clean in
           let before = c.loop-was.invariant.1 mid in (
-            c.in_ok-_count.ensures.inside clean,
+            c.in_ok-close_one.ensures.inside clean,
             λ t l b p leads.
                 let place : drop c.loop-was.was-index c.args.these.now ≡ was ∷ rest = drop_more c.args.these.now c.loop-was.was-index was c.loop-was-test.true ∙ ap (λ (x : TransactionRecord). x ∷ rest) (sym c.was-item.is) in
                 let left = subst (λ (xs : List TransactionRecord). IsLeft t b p xs s1.now) place (before.1 t l b p leads) in
-                one_more t b p was rest s1.now s2.now left (c.in_ok-_count.ensures.closed clean),
+                one_more t b p was rest s1.now s2.now left (c.in_ok-close_one.ensures.closed clean),
           ),
     )
 

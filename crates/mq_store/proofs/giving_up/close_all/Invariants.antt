@@ -1,14 +1,5 @@
-use Rattle.std.proofs.Common.{drop}
-use Rattle.std.specs.Prelude.{IsTrue}
-use Rattle.sqlite.specs.Held.{state}
-use Rattle.sqlite.specs.State.{HasCleanDisk}
-use Rattle.mq_ledger.specs.Legal.{Book}
-use Rattle.mq_rows.specs.declared.plan.Plan.{Plan}
-use Rattle.mq_rows.specs.Tables.{Tables}
-use Rattle.mq_rows.specs.Written.{MovesLead}
-use Rattle.mq_tables.specs.Inside.{LeavesCommit}
-use Rattle.mq_tables.specs.Ledger.{HasLedger}
-use Rattle.mq_rows.specs.Plan.{LeadsAll}
+use Rattle.std.proofs.Common.{IsTrue, drop}
+use Rattle.mq_store.proofs.Words.{Book, HasCleanDisk, HasLedger, LeadsAll, LeavesCommit, MovesLead, Plan, Tables, state}
 use Rattle.mq_store.proofs.Closings.{IsLeft}
 use Rattle.mq_store.proofs.giving_up.close_all.Given as goal
 

@@ -1,13 +1,6 @@
-use Rattle.std.proofs.Common.{subst}
-use Rattle.std.specs.Prelude.{OnOk}
-use Rattle.sqlite.specs.Held.{state}
-use Rattle.mq_rows.specs.declared.plan.Write.{Write}
-use Rattle.mq_rows.specs.declared.plan.Write.TheVariants.{Update}
-use Rattle.mq_rows.specs.declared.record.TransactionRecord.{TransactionRecord}
-use Rattle.mq_rows.specs.declared.record.UsageRecord.{UsageRecord}
-use Rattle.mq_tables.specs.Updates.{WritesTransaction, WritesUsage}
-use Rattle.mq_tables.proofs.Chain.{was_clean}
-use Rattle.mq_store.proofs.Closings.{closes_ok}
+use Rattle.std.proofs.Common.{OnOk, subst}
+use Rattle.mq_store.proofs.Words.{TransactionRecord, Update, UsageRecord, Write, WritesTransaction, WritesUsage, on_ok_weaker, state, was_clean}
+use Rattle.mq_store.proofs.Closings.{closes}
 use Rattle.mq_store.proofs.giving_up.close_one.Goals as goal
 
 pub returns-clause-closed : goal.returns-clause-closed
@@ -21,4 +14,4 @@ returns-clause-closed g c clean =
     let same = c.in_ok-usage.ensures.same one in
     let moved = subst (λ (r : TransactionRecord). WritesTransaction (Update r) s1 s2) c.in_ok-abandoned.ensures (c.in_ok-write_transaction.ensures.written two) in
     let summed = subst (λ (w : Write UsageRecord). OnOk c.write_usage.result (WritesUsage w s2 s3)) c.in_ok-totals.ensures (c.write_usage.ensures.written clean) in
-    closes_ok c.args.was.now c.in_ok-usage.usage s0 s1 s2 s3 c.write_usage.result (c.in_ok-usage.ensures.found one) same.0.now_is moved summed
+    on_ok_weaker c.write_usage.result (closes c.args.was.now c.in_ok-usage.usage s0 s1 s2 s3 (c.in_ok-usage.ensures.found one) same.0.now_is moved) summed

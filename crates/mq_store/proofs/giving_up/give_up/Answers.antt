@@ -1,7 +1,5 @@
-use Rattle.std.proofs.Common.{sym, subst}
-use Rattle.std.specs.Prelude.{Option, OnOk}
-use Rattle.sqlite.specs.Held.{state}
-use Rattle.mq_rows.specs.declared.plan.Runs.{Runs}
+use Rattle.std.proofs.Common.{OnOk, Option, subst, sym}
+use Rattle.mq_store.proofs.Words.{Runs, state}
 use Rattle.mq_store.specs.GivingUp.{GivesUp}
 use Rattle.mq_store.proofs.giving_up.give_up.Goals as goal
 

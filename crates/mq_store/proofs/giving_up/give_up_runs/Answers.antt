@@ -1,6 +1,5 @@
-use Rattle.sqlite.specs.Held.{state}
-use Rattle.mq_tables.proofs.Chain.{was_clean}
-use Rattle.mq_store.proofs.Clearings.{gives_up_ok}
+use Rattle.mq_store.proofs.Words.{on_ok_weaker, state, was_clean}
+use Rattle.mq_store.proofs.Clearings.{gives_up}
 use Rattle.mq_store.proofs.giving_up.give_up_runs.Goals as goal
 
 pub returns-clause-given_up : goal.returns-clause-given_up
@@ -12,4 +11,4 @@ returns-clause-given_up g c clean =
     let two = was_clean c.close_all.ensures.leaves clean in
     let one = was_clean c.find_open.ensures.leaves two in
     let same = c.in_ok-these.ensures.same two in
-    gives_up_ok c.args.runs.now c.in_ok-these.these.items s0 s1 s2 s3 c.close_all.result (c.in_ok-clear_runs.ensures.cleared one) same.0.now_is (c.in_ok-these.ensures.found two) (rw c.as_slice.ensures.value at (c.close_all.ensures.closed clean))
+    on_ok_weaker c.close_all.result (gives_up c.args.runs.now c.in_ok-these.these.items s0 s1 s2 s3 (c.in_ok-clear_runs.ensures.cleared one) same.0.now_is (c.in_ok-these.ensures.found two)) (rw c.as_slice.ensures.value at (c.close_all.ensures.closed clean))

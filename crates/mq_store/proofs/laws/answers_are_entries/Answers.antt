@@ -1,5 +1,5 @@
-use Rattle.mq_ledger.specs.Day.{day_of}
-use Rattle.mq_store.proofs.Entering.{entry_is}
+use Rattle.mq_store.proofs.Words.{day_of}
+use Rattle.mq_store.proofs.Entries.{entry_is}
 use Rattle.mq_store.proofs.laws.answers_are_entries.Goals as goal
 
 pub returns : goal.returns

@@ -1,15 +1,13 @@
-use Rattle.std.proofs.Common.{List, sym, subst}
-use Rattle.mq_ledger.specs.declared.entry.Entry.{Entry}
-use Rattle.mq_ledger.specs.Day.{day_of}
+use Rattle.std.proofs.Common.{List, subst, sym}
+use Rattle.mq_store.proofs.Words.{Entry, day_of}
 use Rattle.mq_store.specs.Taking.{HasBook, book_of}
-use Rattle.mq_store.proofs.Firsts.{not_below, not_stored}
+use Rattle.mq_store.proofs.KnownNumbers.{not_known}
 use Rattle.mq_store.proofs.laws.arrivals_are_applied.Goals as goal
 
 pub returns-clause-new : goal.returns-clause-new
 returns-clause-new c = λ zone default H r id db legal in_range h new rows.
     let day = day_of zone in
-    let above = not_below H id new in
-    let none = not_stored H id new in
+    let (above, none) = not_known H id new in
     subst (λ (K : List Entry). HasBook (book_of zone default K) db) (sym (c.one_more_answer.ensures.history day default H r id legal.legal h above none)) (record {
       legal = record { zone = legal.zone; default = legal.default; legal = c.one_more_answer.ensures.legal day default H r id legal.legal in_range h above none };
       has = rows;

@@ -1,4 +1,4 @@
-use Rattle.mq_ledger.specs.Day.{day_of}
+use Rattle.mq_store.proofs.Words.{day_of}
 use Rattle.mq_store.proofs.Renewals.{carried_more, carried_over}
 use Rattle.mq_store.proofs.laws.arrivals_leave_what_was_taken_over.Goals as goal
 

@@ -1,7 +1,7 @@
 use Rattle.std.proofs.Common.{subst}
-use Rattle.mq_ledger.specs.Day.{day_of}
+use Rattle.mq_store.proofs.Words.{day_of}
 use Rattle.mq_store.specs.Taking.{HasBook, book_of}
-use Rattle.mq_store.proofs.Entering.{followed, replied}
+use Rattle.mq_store.proofs.Entries.{followed, replied}
 use Rattle.mq_store.proofs.laws.entries_are_followed.Goals as goal
 
 pub returns-clause-reply : goal.returns-clause-reply

@@ -1,8 +1,5 @@
-use Rattle.std.proofs.Common.{List, sym, ap, ◌∙◌}
-use Rattle.std.specs.Prelude.{Option}
-use Rattle.mq_rows.specs.declared.record.RetiredRecord.{RetiredRecord}
-use Rattle.mq_rows.specs.Plan.{floor_by}
-use Rattle.mq_rows.specs.Rows.{is_host, retired_row}
+use Rattle.std.proofs.Common.{List, Option, ap, sym, ◌∙◌}
+use Rattle.mq_store.proofs.Words.{RetiredRecord, floor_by, is_host, retired_row}
 use Rattle.mq_store.proofs.Keyed.{found_once}
 use Rattle.mq_store.proofs.laws.floors_are_known.Goals as goal
 

@@ -1,10 +1,6 @@
-use Rattle.std.proofs.Common.{◌≡◌, refl, sym, ap, ◌∙◌, inl, inr}
-use Rattle.std.specs.Prelude.{◌⊎◌, Option, Some, None}
-use Rattle.mq_lemmas.proofs.Booleans.{not_false}
-use Rattle.mq_request.specs.declared.message.Id.{Id}
-use Rattle.mq_ledger.specs.Answer.{known_by}
-use Rattle.mq_ledger.specs.Arrivals.{id_of}
-use Rattle.mq_store.proofs.Firsts.{first_if_unknown}
+use Rattle.std.proofs.Common.{None, Option, Some, ap, inl, inr, refl, sym, ◌∙◌, ◌≡◌, ◌⊎◌}
+use Rattle.mq_store.proofs.Words.{Id, id_of, known_by, not_false}
+use Rattle.mq_store.proofs.KnownNumbers.{first_if_unknown}
 use Rattle.mq_store.proofs.laws.later_arrivals_add_nothing.Goals as goal
 
 none_or_some : (n : Option Id) → (n ≡ None) ⊎ ((id : Id) × (n ≡ Some id))

@@ -1,22 +1,13 @@
-use Rattle.std.proofs.Common.{◌≡◌, ℕ, ◌≤◌, List, [], ◌∷◌, ◌++◌, map, length, find, Bool, true, refl, sym, ap, subst, ◌∙◌, inl, inr, arith, length-append}
-use Rattle.std.specs.Prelude.{Option, Some, None, ◌⊎◌}
-use Rattle.std.specs.List.{AllByRecursion}
-use Rattle.std.proofs.lemmas.List.{map-append}
-use Rattle.mq_request.specs.declared.usage.UsageRow.{UsageRow}
-use Rattle.mq_ledger.specs.Day.{day_of}
-use Rattle.mq_ledger.specs.Page.{row}
-use Rattle.mq_rows.specs.declared.record.UsageRecord.{UsageRecord}
-use Rattle.mq_rows.specs.Listing.{IsNext, behind}
-use Rattle.mq_rows.specs.Rows.{is_usage}
-use Rattle.mq_tables.specs.Records.{IsOneOf}
+use Rattle.std.proofs.Common.{Bool, List, None, Option, Some, [], ap, arith, find, inl, inr, length, length-append, map, refl, subst, sym, true, ℕ, ◌++◌, ◌∙◌, ◌∷◌, ◌≡◌, ◌≤◌, ◌⊎◌}
+use Rattle.mq_store.proofs.Words.{AllByRecursion, IsNext, IsOneOf, UsageRecord, UsageRow, all_has, behind, day_of, is_usage, map-append, row}
 use Rattle.mq_store.proofs.InRange.{row_found}
-use Rattle.mq_store.proofs.Keyed.{has_all, none_found}
+use Rattle.mq_store.proofs.Keyed.{none_found}
 use Rattle.mq_store.proofs.laws.reads_are_answered.Goals as goal
 
 -- a row that is there once is the one that is found
 the_one : (test : UsageRecord → Bool) (rows : List UsageRecord) (u : Option UsageRecord) → AllByRecursion (λ (x : UsageRecord). test x ≡ true → Some x ≡ find test rows) rows → IsOneOf test rows u → u ≡ find test rows
 the_one test rows None only none = sym (none_found test rows none)
-the_one test rows (Some x) only one = has_all (λ (y : UsageRecord). test y ≡ true → Some y ≡ find test rows) rows x only one.0 one.1
+the_one test rows (Some x) only one = all_has (λ (y : UsageRecord). test y ≡ true → Some y ≡ find test rows) rows x only one.0 one.1
 
 pub returns-clause-usage : goal.returns-clause-usage
 returns-clause-usage c = λ zone default H db b l d u g one governs.

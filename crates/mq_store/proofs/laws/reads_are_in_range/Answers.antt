@@ -1,13 +1,6 @@
-use Rattle.std.proofs.Common.{◌≡◌, Some, sym, ap, subst, ◌∙◌}
-use Rattle.std.proofs.lemmas.List.Elements.{recursion_from_All}
-use Rattle.mq_request.specs.declared.usage.UsageRow.{UsageRow}
-use Rattle.mq_request.specs.Range.{IsRequest, IsAmount}
-use Rattle.mq_ledger.specs.Day.{day_of}
-use Rattle.mq_ledger.specs.History.{settled, reserved}
+use Rattle.std.proofs.Common.{Some, ap, subst, sym, ◌∙◌, ◌≡◌}
+use Rattle.mq_store.proofs.Words.{IsAmount, IsRequest, UsageRow, cap_by, day_of, recursion_from_All, reserved, reserved_by, settled, settled_by, usage_row}
 use Rattle.mq_ledger.specs.Limits.{cap}
-use Rattle.mq_rows.specs.Listing.{settled_by}
-use Rattle.mq_rows.specs.Plan.{cap_by, reserved_by}
-use Rattle.mq_rows.specs.Rows.{usage_row}
 use Rattle.mq_store.proofs.InRange.{amounts, same_amounts, reserved_login, has_row, row_found}
 use Rattle.mq_store.proofs.laws.reads_are_in_range.Goals as goal
 

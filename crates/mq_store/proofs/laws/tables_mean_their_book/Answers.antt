@@ -1,10 +1,5 @@
-use Rattle.std.proofs.Common.{◌≡◌, List, map, ap, ◌∙◌}
-use Rattle.std.specs.List.{filter_map}
-use Rattle.mq_frame.specs.Reading.{request_at}
-use Rattle.mq_request.specs.declared.message.Request.{Request}
-use Rattle.mq_ledger.specs.Answer.{build}
-use Rattle.mq_ledger.specs.Day.{day_of}
-use Rattle.mq_rows.specs.declared.record.AnswerRecord.{AnswerRecord}
+use Rattle.std.proofs.Common.{List, ap, filter_map, map, ◌∙◌, ◌≡◌}
+use Rattle.mq_store.proofs.Words.{AnswerRecord, Request, build, day_of, request_at}
 use Rattle.mq_rows.specs.Meaning.{meaning, requests_in}
 use Rattle.mq_store.specs.Soundness.{book_in}
 use Rattle.mq_store.proofs.Sound.{bodies_are, spelled_by}

@@ -1,7 +1,5 @@
-use Rattle.std.proofs.Common.{true≢false, sym, subst, ◌∙◌}
-use Rattle.sqlite.specs.Held.{state}
-use Rattle.mq_tables.specs.Ledger.{HasLedger}
-use Rattle.mq_tables.proofs.Chain.{was_clean}
+use Rattle.std.proofs.Common.{subst, sym, true≢false, ◌∙◌}
+use Rattle.mq_store.proofs.Words.{HasLedger, state, was_clean}
 use Rattle.mq_store.specs.Causes.{StopsReading}
 use Rattle.mq_store.proofs.Causes.{of_rows, stops_by}
 use Rattle.mq_store.proofs.listing.next_row.Goals as goal

@@ -1,10 +1,5 @@
-use Rattle.std.proofs.Common.{[], ◌∷◌, arith, subst, inl, inr, length-append}
-use Rattle.std.specs.Prelude.{Some, None}
-use Rattle.std.proofs.lemmas.List.Elements.{All-push}
-use Rattle.sqlite.specs.Held.{state}
-use Rattle.mq_lemmas.proofs.Options.{option_cases}
-use Rattle.mq_request.specs.Range.{IsRow}
-use Rattle.mq_tables.proofs.Chain.{leaves_both, was_clean}
+use Rattle.std.proofs.Common.{None, Some, [], arith, inl, inr, length-append, subst, ◌∷◌}
+use Rattle.mq_store.proofs.Words.{All-push, IsRow, leaves_both, option_cases, state, was_clean}
 use Rattle.mq_store.specs.Paging.{IsNextRow}
 use Rattle.mq_store.proofs.Chain.{stays_both}
 use Rattle.mq_store.proofs.listing.page.Goals as goal

@@ -1,9 +1,5 @@
-use Rattle.std.proofs.Common.{◌≡◌, length}
-use Rattle.std.specs.Prelude.{All}
-use Rattle.sqlite.specs.Held.{state}
-use Rattle.sqlite.specs.State.{HasCleanDisk}
-use Rattle.mq_request.specs.Range.{IsRow}
-use Rattle.mq_tables.specs.Inside.{LeavesCommit}
+use Rattle.std.proofs.Common.{All, length, ◌≡◌}
+use Rattle.mq_store.proofs.Words.{HasCleanDisk, IsRow, LeavesCommit, state}
 use Rattle.mq_store.specs.Taking.{Stays}
 use Rattle.mq_store.specs.Paging.{IsBegunIn}
 use Rattle.mq_store.proofs.listing.page.Given as goal

@@ -1,7 +1,5 @@
-use Rattle.std.proofs.Common.{true≢false, sym, subst, ◌∙◌}
-use Rattle.sqlite.specs.Held.{state}
-use Rattle.mq_tables.specs.Ledger.{HasLedger}
-use Rattle.mq_tables.proofs.Chain.{leaves_both, was_clean}
+use Rattle.std.proofs.Common.{subst, sym, true≢false, ◌∙◌}
+use Rattle.mq_store.proofs.Words.{HasLedger, state, was_clean}
 use Rattle.mq_store.specs.Causes.{StopsReading}
 use Rattle.mq_store.proofs.Causes.{of_rows, stops_by}
 use Rattle.mq_store.proofs.listing.reply_to_usage.Goals as goal
@@ -24,12 +22,3 @@ returns-in_err-usage_reply-clause-cause g c clean =
     let fit = c.reads_are_in_range.ensures.usage zone c.args.default H _ b c.args.login.now c.args.day c.in_ok-usage.usage c.in_ok-governing.governing
     (c.in_ok-usage.ensures.found mid b.has.tables b.has.holds) (c.in_ok-governing.ensures.found clean b.has.tables holds) in
     of_rows H c.in_err-usage_reply.field-0.0 (λ store. true≢false (sym fit ∙ c.in_err-usage_reply.ensures.store store)))
-
-pub returns-in_err-governing-clause-leaves : goal.returns-in_err-governing-clause-leaves
-returns-in_err-governing-clause-leaves g c = leaves_both c.find_usage.ensures.leaves c.find_governing.ensures.leaves
-
-pub returns-in_err-usage_reply-clause-leaves : goal.returns-in_err-usage_reply-clause-leaves
-returns-in_err-usage_reply-clause-leaves g c = leaves_both c.find_usage.ensures.leaves c.find_governing.ensures.leaves
-
-pub returns-clause-leaves : goal.returns-clause-leaves
-returns-clause-leaves g c = leaves_both c.find_usage.ensures.leaves c.find_governing.ensures.leaves

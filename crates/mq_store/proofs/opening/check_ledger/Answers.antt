@@ -1,12 +1,10 @@
-use Rattle.std.proofs.Common.{◌≡◌, inl, Ok, Err, FitsSigned, to_z, of_z, w64, ap, refl, sym, subst, arith, rules}
+use Rattle.std.proofs.Common.{Err, FitsSigned, Ok, ap, arith, inl, of_z, refl, rules, subst, sym, to_z, w64, ◌≡◌}
+use Rattle.mq_store.proofs.Words.{HasCleanDisk, Sound, state}
 use Rattle.std.proofs.lemmas.Int.{ints}
-use Rattle.sqlite.specs.Held.{state}
-use Rattle.sqlite.specs.State.{HasCleanDisk}
 use Rattle.mq_store.specs.declared.fault.OpenFault.TheVariants.{Damaged}
-use Rattle.mq_rows.specs.declared.audited.Audit.TheVariants.{Sound}
 use Rattle.mq_store.specs.Auditing.{IsAuditIn}
 use Rattle.mq_store.specs.Opening.{audit_fault, if_none, IsOf, IsSettled}
-use Rattle.mq_store.proofs.Openings.{audited_behind}
+use Rattle.mq_store.proofs.OpenChecks.{audited_behind}
 use Rattle.mq_store.proofs.opening.check_ledger.Goals as goal
 
 pub returns-in-Ok-Sound-clause-found : goal.returns-in-Ok-Sound-clause-found

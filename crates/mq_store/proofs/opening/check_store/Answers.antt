@@ -1,9 +1,7 @@
-use Rattle.std.proofs.Common.{Ok, Err, None, Some, refl, sym, ap, subst}
-use Rattle.sqlite.specs.Held.{state}
-use Rattle.sqlite.specs.Effect.{Database}
-use Rattle.sqlite.specs.State.{HasCleanDisk}
+use Rattle.std.proofs.Common.{Err, None, Ok, Some, ap, refl, subst, sym}
+use Rattle.mq_store.proofs.Words.{Database, HasCleanDisk, state}
 use Rattle.mq_store.specs.Opening.{known_version, HoldsKnown, IsOf}
-use Rattle.mq_store.proofs.Faults.{read_some, read_none, read_err, spares_both}
+use Rattle.mq_store.proofs.OpenFaults.{read_some, read_none, read_err}
 use Rattle.mq_store.proofs.opening.check_store.Goals as goal
 
 pub returns-in-Ok-Some-clause-judged : goal.returns-in-Ok-Some-clause-judged
@@ -18,11 +16,6 @@ returns-in-Ok-Some-clause-exact g c clean s rule has =
     let same = (c.in-Ok-Some.ensures.spares sure).now (c.in-Ok-Some.ensures.open sure) in
     subst (λ (db : Database). IsOf c.args.zone c.args.default db.schema s rule c.check_setting.result) same
     (c.check_setting.ensures.exact clean s rule shown (subst (λ db. HoldsKnown (known_version s.version) db rule) (sym same) has.later))
-
-pub returns-in-Ok-Some-clause-spares : goal.returns-in-Ok-Some-clause-spares
-returns-in-Ok-Some-clause-spares g c clean =
-    let sure : HasCleanDisk (state g.S.Store c.read_setting.new.connection) = c.check_setting.ensures.clean clean in
-    spares_both (state g.S.Store c.args.connection.now) (state g.S.Store c.read_setting.new.connection) (state g.S.Store c.check_setting.new.connection) (c.in-Ok-Some.ensures.spares sure) (c.check_setting.ensures.spares clean)
 
 pub returns-in-Ok-None-clause-judged : goal.returns-in-Ok-None-clause-judged
 returns-in-Ok-None-clause-judged g c clean =

@@ -1,8 +1,7 @@
-use Rattle.std.proofs.Common.{sym, subst, ◌∙◌}
-use Rattle.sqlite.specs.Held.{state}
-use Rattle.sqlite.specs.State.{HasCleanDisk}
+use Rattle.std.proofs.Common.{subst, sym, ◌∙◌}
+use Rattle.mq_store.proofs.Words.{HasCleanDisk, state}
 use Rattle.mq_store.specs.Opening.{IsFaultOf}
-use Rattle.mq_store.proofs.Faults.{spares_both, judged_some, judged_none, of_floors, of_any_rule, floors_open, has_rule_behind}
+use Rattle.mq_store.proofs.OpenFaults.{judged_some, judged_none, of_floors, of_any_rule, floors_open, has_rule_behind}
 use Rattle.mq_store.proofs.opening.fault_where_current.Goals as goal
 
 pub returns-in-Some-clause-judged : goal.returns-in-Some-clause-judged
@@ -26,8 +25,3 @@ returns-clause-exact g c clean s rule shown has =
     let there = has_rule_behind (state g.S.Store c.args.connection.now) (state g.S.Store c.read_floors-floors.new.connection) rule (c.read_floors-floors.ensures.spares sure) is_open has.0 in
     subst (IsFaultOf c.args.zone c.args.default s rule) (sym c.fault_by_any_rule.ensures)
     (of_any_rule c.args.zone c.args.default s c.args.setting.now shown rule c.read_rule-rule.result (c.read_rule-rule.ensures.row clean rule there))
-
-pub returns-clause-spares : goal.returns-clause-spares
-returns-clause-spares g c clean =
-    let sure : HasCleanDisk (state g.S.Store c.read_floors-floors.new.connection) = c.read_rule-rule.ensures.clean clean in
-    spares_both (state g.S.Store c.args.connection.now) (state g.S.Store c.read_floors-floors.new.connection) (state g.S.Store c.read_rule-rule.new.connection) (c.read_floors-floors.ensures.spares sure) (c.read_rule-rule.ensures.spares clean)

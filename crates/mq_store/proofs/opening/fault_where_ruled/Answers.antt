@@ -1,7 +1,7 @@
-use Rattle.std.proofs.Common.{sym, subst}
-use Rattle.sqlite.specs.Held.{state}
+use Rattle.std.proofs.Common.{subst, sym}
+use Rattle.mq_store.proofs.Words.{state}
 use Rattle.mq_store.specs.Opening.{IsFaultOf}
-use Rattle.mq_store.proofs.Faults.{of_ruled}
+use Rattle.mq_store.proofs.OpenFaults.{of_ruled}
 use Rattle.mq_store.proofs.opening.fault_where_ruled.Goals as goal
 
 pub returns-clause-judged : goal.returns-clause-judged

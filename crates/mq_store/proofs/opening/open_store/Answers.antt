@@ -1,8 +1,7 @@
-use Rattle.std.proofs.Common.{inl, Ok, Err}
-use Rattle.sqlite.specs.Held.{state}
-use Rattle.sqlite.specs.State.{HasCleanDisk}
+use Rattle.std.proofs.Common.{Err, Ok, inl}
+use Rattle.mq_store.proofs.Words.{HasCleanDisk, state}
 use Rattle.mq_store.specs.Opening.{IsFound, IsFoundOf}
-use Rattle.mq_store.proofs.Openings.{opens_behind, refuses_behind}
+use Rattle.mq_store.proofs.OpenChecks.{opens_behind, refuses_behind}
 use Rattle.mq_store.proofs.opening.open_store.Goals as goal
 
 pub returns-in-Err-clause-refuses : goal.returns-in-Err-clause-refuses

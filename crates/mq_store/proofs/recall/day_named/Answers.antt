@@ -1,6 +1,5 @@
-use Rattle.std.proofs.Common.{Some, None, ◌∙◌}
-use Rattle.mq_ledger.specs.Day.{day_of}
-use Rattle.mq_ledger.specs.History.{transaction}
+use Rattle.std.proofs.Common.{None, Some, ◌∙◌}
+use Rattle.mq_store.proofs.Words.{day_of, transaction}
 use Rattle.mq_store.proofs.recall.day_named.Goals as goal
 
 pub returns-in-Some-clause-named : goal.returns-in-Some-clause-named

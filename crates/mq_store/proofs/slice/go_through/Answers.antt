@@ -1,7 +1,5 @@
-use Rattle.std.proofs.Common.{◌≡◌, ◌≤◌, ap, ◌∙◌, arith, length, sym, subst}
-use Rattle.std.proofs.lemmas.Bool.{leb-true}
-use Rattle.mq_rows.specs.declared.record.SettingRecord.{SettingRecord}
-use Rattle.mq_tables.proofs.Chain.{was_clean}
+use Rattle.std.proofs.Common.{ap, arith, leb-true, length, subst, sym, ◌∙◌, ◌≡◌, ◌≤◌}
+use Rattle.mq_store.proofs.Words.{SettingRecord, was_clean}
 use Rattle.mq_store.specs.Taking.{HasBook, book_of}
 use Rattle.mq_store.proofs.slice.go_through.Goals as goal
 

@@ -1,7 +1,5 @@
-use Rattle.std.proofs.Common.{◌≡◌, arith, rules}
-use Rattle.sqlite.specs.Held.{state}
-use Rattle.sqlite.specs.State.{HasCleanDisk}
-use Rattle.sqlite.proofs.Callers.{memory_is_clean}
+use Rattle.std.proofs.Common.{arith, rules, ◌≡◌}
+use Rattle.mq_store.proofs.Words.{HasCleanDisk, memory_is_clean, state}
 use Rattle.mq_store.proofs.Renewals.{renews_still, ends}
 use Rattle.mq_store.proofs.slice.renew_store.Goals as goal
 

@@ -1,6 +1,5 @@
-use Rattle.std.proofs.Common.{arith, sym, subst}
-use Rattle.sqlite.specs.Held.{state}
-use Rattle.mq_tables.proofs.Chain.{leaves_both, was_clean}
+use Rattle.std.proofs.Common.{arith, subst, sym}
+use Rattle.mq_store.proofs.Words.{leaves_both, state, was_clean}
 use Rattle.mq_store.specs.Taking.{HasBook, book_of}
 use Rattle.mq_store.proofs.Chain.{stays_both}
 use Rattle.mq_store.proofs.slice.steps.Goals as goal

@@ -1,9 +1,5 @@
-use Rattle.std.proofs.Common.{◌≤◌, ◌+◌}
-use Rattle.std.specs.Prelude.{IsTrue}
-use Rattle.sqlite.specs.Held.{state}
-use Rattle.sqlite.specs.State.{HasCleanDisk}
-use Rattle.sqlite.specs.Steps.{over_memory}
-use Rattle.mq_tables.specs.Inside.{LeavesCommit}
+use Rattle.std.proofs.Common.{IsTrue, ◌+◌, ◌≤◌}
+use Rattle.mq_store.proofs.Words.{HasCleanDisk, LeavesCommit, over_memory, state}
 use Rattle.mq_store.specs.Renewing.{Renews}
 use Rattle.mq_store.specs.Taking.{Stays}
 use Rattle.mq_store.proofs.slice.steps.Given as goal

@@ -1,6 +1,5 @@
-use Rattle.std.proofs.Common.{◌≡◌, ℕ, arith, ap, ◌∙◌}
-use Rattle.std.proofs.lemmas.Bool.Decides.{nat_tests}
-use Rattle.std.specs.Prelude.{nat_lt, false, Some, None}
+use Rattle.std.proofs.Common.{None, Some, ap, arith, false, nat_lt, ℕ, ◌∙◌, ◌≡◌}
+use Rattle.mq_store.proofs.Words.{nat_tests}
 use Rattle.mq_store.proofs.take.is_retired.Goals as goal
 
 none_below : (n : ℕ) → false ≡ nat_lt n 0

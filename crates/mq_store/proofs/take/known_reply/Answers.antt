@@ -1,11 +1,5 @@
-use Rattle.std.proofs.Common.{◌≡◌, ℕ, rules, false, sym, subst, ◌∙◌}
-use Rattle.sqlite.specs.Effect.{Database}
-use Rattle.sqlite.specs.Held.{state}
-use Rattle.mq_ledger.specs.declared.zone.Zone.{Zone}
-use Rattle.mq_ledger.specs.Arrivals.{is_below}
-use Rattle.mq_ledger.specs.History.{requests}
-use Rattle.mq_tables.specs.Ledger.{HasLedger}
-use Rattle.mq_tables.proofs.Chain.{was_clean}
+use Rattle.std.proofs.Common.{false, rules, subst, sym, ℕ, ◌∙◌, ◌≡◌}
+use Rattle.mq_store.proofs.Words.{Database, HasLedger, Zone, is_below, requests, state, was_clean}
 use Rattle.mq_store.specs.Causes.{StopsOver}
 use Rattle.mq_store.proofs.Causes.{of_rows, stops_by}
 use Rattle.mq_store.proofs.take.known_reply.Goals as goal

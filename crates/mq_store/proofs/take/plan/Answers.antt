@@ -1,8 +1,5 @@
-use Rattle.std.proofs.Common.{◌≡◌, ◌<◌, length, true≢false, ap, sym, subst, ◌∙◌}
-use Rattle.sqlite.specs.Held.{state}
-use Rattle.mq_rows.specs.declared.record.SettingRecord.{SettingRecord}
-use Rattle.mq_tables.specs.Ledger.{HasLedger}
-use Rattle.mq_tables.proofs.Chain.{leaves_both, was_clean}
+use Rattle.std.proofs.Common.{ap, length, subst, sym, true≢false, ◌<◌, ◌∙◌, ◌≡◌}
+use Rattle.mq_store.proofs.Words.{HasLedger, SettingRecord, state, was_clean}
 use Rattle.mq_store.specs.Causes.{StopsNew}
 use Rattle.mq_store.proofs.Causes.{of_stored, stops_by}
 use Rattle.mq_store.proofs.take.plan.Goals as goal
@@ -15,15 +12,6 @@ returns-clause-planned g c clean = λ H b none.
     let law = c.new_numbers_are_planned.ensures.planned c.args.zone c.args.default H c.args.request.now c.args.id.now b.has.tables c.in_ok-found.found b.legal b.has.rows c.requires.in_range c.requires.number none (λ keyed. c.in_ok-found.ensures.found clean b.has.tables (holds, b.has.current) keyed) in
     let counted = c.in_ok-arrivals.ensures.found mid b.has.tables b.has.holds in
     rw (c.in_ok-decide.ensures.plan, counted) law
-
-pub returns-in_err-found-clause-leaves : goal.returns-in_err-found-clause-leaves
-returns-in_err-found-clause-leaves g c = leaves_both c.read_arrivals.ensures.leaves c.find.ensures.leaves
-
-pub returns-in_err-decide-clause-leaves : goal.returns-in_err-decide-clause-leaves
-returns-in_err-decide-clause-leaves g c = leaves_both c.read_arrivals.ensures.leaves c.find.ensures.leaves
-
-pub returns-clause-leaves : goal.returns-clause-leaves
-returns-clause-leaves g c = leaves_both c.read_arrivals.ensures.leaves c.find.ensures.leaves
 
 pub returns-in_err-decide-clause-cause : goal.returns-in_err-decide-clause-cause
 returns-in_err-decide-clause-cause g c clean =

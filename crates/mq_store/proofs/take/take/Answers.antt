@@ -1,8 +1,7 @@
-use Rattle.std.proofs.Common.{◌≡◌, sym, subst, ap}
-use Rattle.std.specs.Prelude.{None}
-use Rattle.mq_ledger.specs.Arrivals.{id_of}
+use Rattle.std.proofs.Common.{None, ap, subst, sym, ◌≡◌}
+use Rattle.mq_store.proofs.Words.{id_of}
 use Rattle.mq_store.specs.Taking.{HasBook, book_of}
-use Rattle.mq_store.proofs.Firsts.{unnumbered_is_not_first}
+use Rattle.mq_store.proofs.KnownNumbers.{unnumbered_is_not_first}
 use Rattle.mq_store.proofs.take.take.Goals as goal
 
 pub returns-in_ok-reply-in-Usage-clause-taken : goal.returns-in_ok-reply-in-Usage-clause-taken

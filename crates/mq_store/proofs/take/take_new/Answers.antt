@@ -1,8 +1,5 @@
-use Rattle.std.proofs.Common.{sym, subst}
-use Rattle.mq_ledger.specs.Answer.{appended}
-use Rattle.mq_ledger.specs.Day.{day_of}
-use Rattle.mq_tables.specs.Ledger.{HasLedger}
-use Rattle.mq_tables.proofs.Chain.{leaves_both, was_clean}
+use Rattle.std.proofs.Common.{subst, sym}
+use Rattle.mq_store.proofs.Words.{HasLedger, appended, day_of, leaves_both, was_clean}
 use Rattle.mq_store.specs.Taking.{book_of}
 use Rattle.mq_store.proofs.take.take_new.Goals as goal
 
@@ -19,6 +16,3 @@ returns-clause-applied g c clean = λ H b none.
 
 pub returns-in_err-write_plan-clause-leaves : goal.returns-in_err-write_plan-clause-leaves
 returns-in_err-write_plan-clause-leaves g c = leaves_both c.plan.ensures.leaves c.write_plan.ensures.leaves
-
-pub returns-clause-leaves : goal.returns-clause-leaves
-returns-clause-leaves g c = leaves_both c.plan.ensures.leaves c.write_plan.ensures.leaves

@@ -1,9 +1,7 @@
-use Rattle.std.proofs.Common.{sym, subst, ap, ◌∙◌}
-use Rattle.std.specs.Prelude.{not}
-use Rattle.mq_ledger.specs.Answer.{known_by}
-use Rattle.mq_tables.proofs.Chain.{was_clean}
+use Rattle.std.proofs.Common.{ap, not, subst, sym, ◌∙◌}
+use Rattle.mq_store.proofs.Words.{known_by, was_clean}
 use Rattle.mq_store.specs.Taking.{HasBook, book_of}
-use Rattle.mq_store.proofs.Firsts.{first_if_unknown}
+use Rattle.mq_store.proofs.KnownNumbers.{first_if_unknown}
 use Rattle.mq_store.proofs.take.take_numbered.Goals as goal
 
 pub returns-in-Some-clause-taken : goal.returns-in-Some-clause-taken

@@ -1,8 +1,8 @@
 use Rattle.mq_tables.specs.Lent.{id_key}
 use Rattle.mq_tables.proofs.Selected.{is_read}
-use Rattle.mq_tables.proofs.answers.Reads.{answer_text, answer_shape, answer_select, answer_found}
+use Rattle.mq_tables.proofs.answers.Reads.{answer_select, answer_found}
 use Rattle.mq_tables.proofs.answer.answer_rows.Goals as goal
 
 pub returns : goal.returns
 returns g c =
-    is_read answer_text answer_shape answer_select (id_key c.args.id.now) c.query_all.result c.query_all.ensures.same_reference (rw c.id_params.ensures at c.query_all.ensures.ok) (rw c.id_params.ensures at c.query_all.ensures.err) c.query_all.ensures.survives (answer_found c.args.id.now)
+    is_read answer_select (id_key c.args.id.now) c.query_all.result c.query_all.ensures.same_reference (rw c.id_params.ensures at c.query_all.ensures.ok) (rw c.id_params.ensures at c.query_all.ensures.err) c.query_all.ensures.survives (answer_found c.args.id.now)

@@ -1,9 +1,8 @@
-use Rattle.mq_tables.specs.Tables.{answer_table}
 use Rattle.mq_tables.proofs.Chain.{ran}
-use Rattle.mq_tables.proofs.making.Creating.{create_answer_text, makes_answer}
+use Rattle.mq_tables.proofs.making.Creating.{makes_answer}
 use Rattle.mq_tables.proofs.making.Makes.{makes}
 use Rattle.mq_tables.proofs.create.create_answer.Goals as goal
 
 pub returns-clause-made : goal.returns-clause-made
 returns-clause-made g c clean =
-    makes create_answer_text answer_table makes_answer _ _ c.execute.result (ran c.execute.ensures.survives c.requires.inside c.execute.ensures.runs clean)
+    makes makes_answer _ _ c.execute.result (ran c.execute.ensures.survives c.requires.inside c.execute.ensures.runs clean)

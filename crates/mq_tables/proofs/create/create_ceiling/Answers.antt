@@ -1,9 +1,8 @@
-use Rattle.mq_tables.specs.Tables.{ceiling_table}
 use Rattle.mq_tables.proofs.Chain.{ran}
-use Rattle.mq_tables.proofs.making.Creating.{create_ceiling_text, makes_ceiling}
+use Rattle.mq_tables.proofs.making.Creating.{makes_ceiling}
 use Rattle.mq_tables.proofs.making.Makes.{makes}
 use Rattle.mq_tables.proofs.create.create_ceiling.Goals as goal
 
 pub returns-clause-made : goal.returns-clause-made
 returns-clause-made g c clean =
-    makes create_ceiling_text ceiling_table makes_ceiling _ _ c.execute.result (ran c.execute.ensures.survives c.requires.inside c.execute.ensures.runs clean)
+    makes makes_ceiling _ _ c.execute.result (ran c.execute.ensures.survives c.requires.inside c.execute.ensures.runs clean)

@@ -1,14 +1,12 @@
-use Rattle.std.proofs.Common.{[]}
-use Rattle.mq_tables.specs.Tables.{retired_table}
 use Rattle.mq_tables.proofs.Chain.{ran}
-use Rattle.mq_tables.proofs.making.Creating.{create_retired_text, makes_retired}
+use Rattle.mq_tables.proofs.making.Creating.{makes_retired}
 use Rattle.mq_tables.proofs.making.Makes.{makes, was_open}
 use Rattle.mq_tables.proofs.create.create_retired.Goals as goal
 
 pub returns-clause-made : goal.returns-clause-made
 returns-clause-made g c clean =
-    makes create_retired_text retired_table makes_retired _ _ c.execute.result (ran c.execute.ensures.survives c.requires.inside c.execute.ensures.runs clean)
+    makes makes_retired _ _ c.execute.result (ran c.execute.ensures.survives c.requires.inside c.execute.ensures.runs clean)
 
 pub returns-clause-open : goal.returns-clause-open
 returns-clause-open g c clean =
-    was_open create_retired_text [] _ _ c.execute.result (ran c.execute.ensures.survives c.requires.inside c.execute.ensures.runs clean)
+    was_open _ _ _ _ c.execute.result (ran c.execute.ensures.survives c.requires.inside c.execute.ensures.runs clean)

@@ -1,9 +1,8 @@
-use Rattle.mq_tables.specs.Tables.{usage_table}
 use Rattle.mq_tables.proofs.Chain.{ran}
-use Rattle.mq_tables.proofs.making.Creating.{create_usage_text, makes_usage}
+use Rattle.mq_tables.proofs.making.Creating.{makes_usage}
 use Rattle.mq_tables.proofs.making.Makes.{makes}
 use Rattle.mq_tables.proofs.create.create_usage.Goals as goal
 
 pub returns-clause-made : goal.returns-clause-made
 returns-clause-made g c clean =
-    makes create_usage_text usage_table makes_usage _ _ c.execute.result (ran c.execute.ensures.survives c.requires.inside c.execute.ensures.runs clean)
+    makes makes_usage _ _ c.execute.result (ran c.execute.ensures.survives c.requires.inside c.execute.ensures.runs clean)

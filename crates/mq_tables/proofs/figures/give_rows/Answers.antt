@@ -1,7 +1,8 @@
 use Rattle.std.proofs.Common.{arith}
 use Rattle.mq_tables.proofs.Words.{HasCleanDisk, state, unchanged_then}
 use Rattle.mq_tables.specs.declared.figures.Table.TheVariants.{Usage, Transactions}
-use Rattle.mq_tables.proofs.audits.Rows.{all_given, left_after, on_err, unchanged}
+use Rattle.mq_lemmas.proofs.Options.{on_err}
+use Rattle.mq_tables.proofs.audits.Rows.{all_given, left_after, unchanged}
 use Rattle.mq_tables.proofs.figures.give_rows.Goals as goal
 
 pub returns-in_err-read_rows-2-clause-left : goal.returns-in_err-read_rows-2-clause-left
@@ -11,7 +12,7 @@ returns-in_err-read_rows-2-clause-left g c clean =
     let u = state g.S.Store c.read_rows-2.new.connection in
     let first : HasCleanDisk t = omega (arith, c.read_rows-2.ensures.survives.clean) in
     let one = c.in_ok-read_rows.ensures.took first in
-    on_err c.from_residual-in_err-read_rows-2.result (left_after s t u (unchanged Usage s t one.0 one.1) (c.in_err-read_rows-2.ensures.left clean))
+    on_err c.from_residual-in_err-read_rows-2.result _ (left_after s t u (unchanged Usage s t one.0 one.1) (c.in_err-read_rows-2.ensures.left clean))
 
 pub returns-in_err-read_rows-3-clause-left : goal.returns-in_err-read_rows-3-clause-left
 returns-in_err-read_rows-3-clause-left g c clean =
@@ -23,7 +24,7 @@ returns-in_err-read_rows-3-clause-left g c clean =
     let first : HasCleanDisk t = omega (arith, second, c.read_rows-2.ensures.survives.clean) in
     let one = c.in_ok-read_rows.ensures.took first in
     let two = c.in_ok-read_rows-2.ensures.took second in
-    on_err c.from_residual-in_err-read_rows-3.result (left_after s u v (unchanged_then s t u (unchanged Usage s t one.0 one.1) (unchanged Transactions t u two.0 two.1)) (c.in_err-read_rows-3.ensures.left clean))
+    on_err c.from_residual-in_err-read_rows-3.result _ (left_after s u v (unchanged_then s t u (unchanged Usage s t one.0 one.1) (unchanged Transactions t u two.0 two.1)) (c.in_err-read_rows-3.ensures.left clean))
 
 pub returns-clause-given : goal.returns-clause-given
 returns-clause-given g c clean =

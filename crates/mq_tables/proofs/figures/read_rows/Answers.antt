@@ -1,7 +1,8 @@
 use Rattle.std.proofs.Common.{◌≡◌, List, [], refl, subst, rules, arith}
 use Rattle.mq_tables.proofs.Words.{CommitsShowing, FailsToQuery, HasCleanDisk, Row, Shown, Survives, state}
 use Rattle.mq_tables.specs.Figures.{Took, text_of}
-use Rattle.mq_tables.proofs.audits.Rows.{begun, survives, shown_before, on_err, not_asked, took_none}
+use Rattle.mq_lemmas.proofs.Options.{on_err}
+use Rattle.mq_tables.proofs.audits.Rows.{begun, survives, shown_before, not_asked, took_none}
 use Rattle.mq_tables.proofs.figures.read_rows.Goals as goal
 
 pub returns-in_err-rows-clause-left : goal.returns-in_err-rows-clause-left
@@ -10,7 +11,7 @@ returns-in_err-rows-clause-left g c clean =
     let new = state g.S.Store c.query.follows.lender-at-none in
     let held = c.query.follows.holds-at-none in
     let failed : FailsToQuery c.text.result.now [] old new c.in_err-rows.field-0.0 = (rw c.in_err-rows.was at held).err clean in
-    on_err c.from_residual.result (not_asked c.args.table old new c.in_err-rows.field-0.0 (rw c.text.ensures at failed))
+    on_err c.from_residual.result _ (not_asked c.args.table old new c.in_err-rows.field-0.0 (rw c.text.ensures at failed))
 
 pub returns-in_err-rows-clause-survives : goal.returns-in_err-rows-clause-survives
 returns-in_err-rows-clause-survives g c =

@@ -1,18 +1,12 @@
 use Rattle.mq_tables.proofs.Words.{state, unchanged_then}
-use Rattle.mq_tables.proofs.Chain.{leaves_both, was_clean}
+use Rattle.mq_tables.proofs.Chain.{was_clean}
 use Rattle.mq_tables.proofs.Keyed.{named_so}
 use Rattle.mq_tables.proofs.find.find_named.Goals as goal
-
-pub returns-in_err-usage-clause-leaves : goal.returns-in_err-usage-clause-leaves
-returns-in_err-usage-clause-leaves g c = leaves_both c.find_transaction.ensures.leaves c.find_usage.ensures.leaves
 
 pub returns-clause-same : goal.returns-clause-same
 returns-clause-same g c clean =
     let mid = was_clean c.find_usage.ensures.leaves clean in
     unchanged_then _ _ _ (c.in_ok-transaction.ensures.same mid) (c.in_ok-usage.ensures.same clean)
-
-pub returns-clause-leaves : goal.returns-clause-leaves
-returns-clause-leaves g c = leaves_both c.find_transaction.ensures.leaves c.find_usage.ensures.leaves
 
 pub returns-clause-found : goal.returns-clause-found
 returns-clause-found g c clean =

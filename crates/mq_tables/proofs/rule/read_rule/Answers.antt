@@ -1,7 +1,7 @@
 use Rattle.std.proofs.Common.{arith, IsTrue}
 use Rattle.sqlite.specs.Held.{state}
 use Rattle.mq_tables.specs.Reading.{rule_text}
-use Rattle.mq_tables.proofs.settings.Rule.{rule_shape, rule_select, rule_answered}
+use Rattle.mq_tables.proofs.settings.Rule.{rule_select, rule_answered}
 use Rattle.mq_tables.proofs.SelectShape.{bare}
 use Rattle.mq_tables.proofs.Spared.{spares}
 use Rattle.mq_tables.proofs.rule.read_rule.Goals as goal
@@ -18,7 +18,7 @@ returns-clause-read g c clean = rw c.set_step_limit.ensures at (c.query_row.ensu
 pub returns-clause-spares : goal.returns-clause-spares
 returns-clause-spares g c clean =
     let autocommit : IsTrue c.is_autocommit-settled.result = rw (c.is_autocommit-settled.ensures.value, c.set_step_limit.ensures, c.requires.autocommit) in
-    spares rule_text (bare rule_text rule_shape rule_select) (state g.S.Store c.args.connection.now) (state g.S.Store c.query_row.new.self) c.query_row.result
+    spares rule_text (bare rule_select) (state g.S.Store c.args.connection.now) (state g.S.Store c.query_row.new.self) c.query_row.result
     (rw c.set_step_limit.ensures at (c.is_autocommit-settled.ensures.settled autocommit)) (rw c.set_step_limit.ensures at (c.query_row.ensures.row clean)) (rw c.set_step_limit.ensures at c.query_row.ensures.survives) clean
 
 pub returns-clause-row : goal.returns-clause-row

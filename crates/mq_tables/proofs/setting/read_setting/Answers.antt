@@ -1,55 +1,30 @@
-use Rattle.std.proofs.Common.{arith, IsTrue, Ok, Err, refl, ap}
-use Rattle.sqlite.specs.Held.{state}
+use Rattle.std.proofs.Common.{arith, IsTrue}
+use Rattle.mq_tables.proofs.Words.{state}
 use Rattle.mq_tables.specs.Reading.{setting_text}
-use Rattle.mq_tables.proofs.settings.Reads.{setting_bare, of_setting}
-use Rattle.mq_tables.proofs.Spared.{spares, answers_open}
+use Rattle.mq_tables.proofs.settings.Reads.{setting_bare, of_setting, read_open}
+use Rattle.mq_tables.proofs.Spared.{spares}
 use Rattle.mq_tables.proofs.setting.read_setting.Goals as goal
 
-pub returns-in-Ok-clause-autocommit : goal.returns-in-Ok-clause-autocommit
-returns-in-Ok-clause-autocommit g c = c.in-Ok.ensures.mode (rw c.set_step_limit.ensures c.requires.autocommit)
+pub returns-clause-autocommit : goal.returns-clause-autocommit
+returns-clause-autocommit g c = c.query_row-answer.ensures.mode (rw c.set_step_limit.ensures c.requires.autocommit)
 
-pub returns-in-Ok-clause-unlimited : goal.returns-in-Ok-clause-unlimited
-returns-in-Ok-clause-unlimited g c = rw c.set_step_limit.ensures at c.in-Ok.ensures.survives.limit
+pub returns-clause-unlimited : goal.returns-clause-unlimited
+returns-clause-unlimited g c = rw c.set_step_limit.ensures at c.query_row-answer.ensures.survives.limit
 
-pub returns-in-Ok-clause-read : goal.returns-in-Ok-clause-read
-returns-in-Ok-clause-read g c clean = record { answer = Ok c.in-Ok.row; queried = rw c.set_step_limit.ensures at (c.in-Ok.ensures.row clean); read_is = ap Ok c.setting_of.ensures }
+pub returns-clause-read : goal.returns-clause-read
+returns-clause-read g c clean = record { answer = c.query_row-answer.result; queried = rw c.set_step_limit.ensures at (c.query_row-answer.ensures.row clean); read_is = c.reading.ensures }
 
-pub returns-in-Ok-clause-spares : goal.returns-in-Ok-clause-spares
-returns-in-Ok-clause-spares g c clean =
+pub returns-clause-spares : goal.returns-clause-spares
+returns-clause-spares g c clean =
     let autocommit : IsTrue c.is_autocommit-settled.result = rw (c.is_autocommit-settled.ensures.value, c.set_step_limit.ensures, c.requires.autocommit) in
-    spares setting_text setting_bare (state g.S.Store c.args.connection.now) (state g.S.Store c.query_row.new.self) (Ok c.in-Ok.row) (rw c.set_step_limit.ensures at (c.is_autocommit-settled.ensures.settled autocommit))
-    (rw c.set_step_limit.ensures at (c.in-Ok.ensures.row clean)) (rw c.set_step_limit.ensures at c.in-Ok.ensures.survives) clean
+    spares setting_text setting_bare (state g.S.Store c.args.connection.now) (state g.S.Store c.query_row-answer.new.self) c.query_row-answer.result (rw c.set_step_limit.ensures at (c.is_autocommit-settled.ensures.settled autocommit))
+    (rw c.set_step_limit.ensures at (c.query_row-answer.ensures.row clean)) (rw c.set_step_limit.ensures at c.query_row-answer.ensures.survives) clean
 
-pub returns-in-Ok-clause-open : goal.returns-in-Ok-clause-open
-returns-in-Ok-clause-open g c clean = answers_open setting_text setting_bare (state g.S.Store c.set_step_limit.new.self) (state g.S.Store c.query_row.new.self) c.in-Ok.row (c.in-Ok.ensures.row clean)
+pub returns-clause-open : goal.returns-clause-open
+returns-clause-open g c clean = read_open (state g.S.Store c.set_step_limit.new.self) (state g.S.Store c.query_row-answer.new.self) c.query_row-answer.result c.reading.result c.reading.ensures (c.query_row-answer.ensures.row clean)
 
-pub returns-in-Ok-clause-row : goal.returns-in-Ok-clause-row
-returns-in-Ok-clause-row g c clean =
-    of_setting (state g.S.Store c.args.connection.now) (state g.S.Store c.query_row.new.self) (Ok c.setting_of.result)
-    (record { answer = Ok c.in-Ok.row; queried = rw c.set_step_limit.ensures at (c.in-Ok.ensures.row clean); read_is = ap Ok c.setting_of.ensures })
+pub returns-clause-row : goal.returns-clause-row
+returns-clause-row g c clean = of_setting (state g.S.Store c.args.connection.now) (state g.S.Store c.query_row-answer.new.self) c.reading.result (returns-clause-read g c clean)
 
-pub returns-in-Err-clause-autocommit : goal.returns-in-Err-clause-autocommit
-returns-in-Err-clause-autocommit g c = c.in-Err.ensures.mode (rw c.set_step_limit.ensures c.requires.autocommit)
-
-pub returns-in-Err-clause-unlimited : goal.returns-in-Err-clause-unlimited
-returns-in-Err-clause-unlimited g c = rw c.set_step_limit.ensures at c.in-Err.ensures.survives.limit
-
-pub returns-in-Err-clause-read : goal.returns-in-Err-clause-read
-returns-in-Err-clause-read g c clean = record { answer = Err c.in-Err.error; queried = rw c.set_step_limit.ensures at (c.in-Err.ensures.row clean); read_is = refl }
-
-pub returns-in-Err-clause-spares : goal.returns-in-Err-clause-spares
-returns-in-Err-clause-spares g c clean =
-    let autocommit : IsTrue c.is_autocommit-settled.result = rw (c.is_autocommit-settled.ensures.value, c.set_step_limit.ensures, c.requires.autocommit) in
-    spares setting_text setting_bare (state g.S.Store c.args.connection.now) (state g.S.Store c.query_row.new.self) (Err c.in-Err.error) (rw c.set_step_limit.ensures at (c.is_autocommit-settled.ensures.settled autocommit))
-    (rw c.set_step_limit.ensures at (c.in-Err.ensures.row clean)) (rw c.set_step_limit.ensures at c.in-Err.ensures.survives) clean
-
-pub returns-in-Err-clause-row : goal.returns-in-Err-clause-row
-returns-in-Err-clause-row g c clean =
-    of_setting (state g.S.Store c.args.connection.now) (state g.S.Store c.query_row.new.self) (Err c.in-Err.error)
-    (record { answer = Err c.in-Err.error; queried = rw c.set_step_limit.ensures at (c.in-Err.ensures.row clean); read_is = refl })
-
-pub returns-in-Ok-clause-clean : goal.returns-in-Ok-clause-clean
-returns-in-Ok-clause-clean g c clean = omega (arith, rw c.set_step_limit.ensures at c.in-Ok.ensures.survives.clean)
-
-pub returns-in-Err-clause-clean : goal.returns-in-Err-clause-clean
-returns-in-Err-clause-clean g c clean = omega (arith, rw c.set_step_limit.ensures at c.in-Err.ensures.survives.clean)
+pub returns-clause-clean : goal.returns-clause-clean
+returns-clause-clean g c clean = omega (arith, rw c.set_step_limit.ensures at c.query_row-answer.ensures.survives.clean)

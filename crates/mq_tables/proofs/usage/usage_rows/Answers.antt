@@ -1,8 +1,8 @@
 use Rattle.mq_tables.specs.Lent.{key_params}
-use Rattle.mq_tables.proofs.ByKey.{usage_text, usage_shape, usage_select, usage_found}
+use Rattle.mq_tables.proofs.ByKey.{usage_select, usage_found}
 use Rattle.mq_tables.proofs.Selected.{is_read}
 use Rattle.mq_tables.proofs.usage.usage_rows.Goals as goal
 
 pub returns : goal.returns
 returns g c =
-    is_read usage_text usage_shape usage_select (key_params c.args.login.now c.args.day) c.query_all.result c.query_all.ensures.same_reference (rw c.key_params.ensures at c.query_all.ensures.ok) (rw c.key_params.ensures at c.query_all.ensures.err) c.query_all.ensures.survives (usage_found c.args.login.now c.args.day)
+    is_read usage_select (key_params c.args.login.now c.args.day) c.query_all.result c.query_all.ensures.same_reference (rw c.key_params.ensures at c.query_all.ensures.ok) (rw c.key_params.ensures at c.query_all.ensures.err) c.query_all.ensures.survives (usage_found c.args.login.now c.args.day)

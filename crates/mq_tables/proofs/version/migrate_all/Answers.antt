@@ -1,22 +1,16 @@
-use Rattle.sqlite.specs.Held.{state}
-use Rattle.mq_tables.proofs.Chain.{leaves_both, was_clean}
-use Rattle.mq_tables.proofs.making.Adding.{migrates_indexed, opened}
-use Rattle.mq_tables.proofs.making.WithRule.{index_inside_ok}
+use Rattle.mq_tables.proofs.Words.{state}
+use Rattle.mq_tables.proofs.Chain.{any_ok, on_ok, was_clean}
+use Rattle.mq_tables.proofs.making.Adding.{migrated_indexed}
+use Rattle.mq_tables.proofs.making.WithRule.{index_inside}
 use Rattle.mq_tables.proofs.version.migrate_all.Goals as goal
-
-pub returns-clause-leaves : goal.returns-clause-leaves
-returns-clause-leaves g c = leaves_both c.migrate_tables.ensures.leaves c.add_index.ensures.leaves
 
 pub returns-clause-migrated : goal.returns-clause-migrated
 returns-clause-migrated g c clean =
-    let one = was_clean c.add_index.ensures.leaves clean in
-    migrates_indexed c.args.indexed c.args.has_rule_table (state g.S.Store c.args.tx.now.conn.now) (state g.S.Store c.migrate_tables.new.tx.conn.now) (state g.S.Store c.add_index.new.tx.conn.now)
-    c.add_index.result (c.in_ok-migrate_tables.ensures.migrated one) (c.add_index.ensures.made clean)
+    on_ok c.add_index.result (c.add_index.ensures.made clean)
+    (migrated_indexed c.args.indexed c.args.has_rule_table (state g.S.Store c.args.tx.now.conn.now) (state g.S.Store c.migrate_tables.new.tx.conn.now) (state g.S.Store c.add_index.new.tx.conn.now) (c.in_ok-migrate_tables.ensures.migrated (was_clean c.add_index.ensures.leaves clean)))
 
 pub returns-clause-inside : goal.returns-clause-inside
-returns-clause-inside g c clean = index_inside_ok c.args.indexed (state g.S.Store c.migrate_tables.new.tx.conn.now) (state g.S.Store c.add_index.new.tx.conn.now) c.add_index.result (c.add_index.ensures.made clean)
+returns-clause-inside g c clean = on_ok c.add_index.result (c.add_index.ensures.made clean) (index_inside c.args.indexed (state g.S.Store c.migrate_tables.new.tx.conn.now) (state g.S.Store c.add_index.new.tx.conn.now))
 
 pub returns-clause-open : goal.returns-clause-open
-returns-clause-open g c clean =
-    let one = was_clean c.add_index.ensures.leaves clean in
-    opened c.add_index.result (λ is_open. is_open) (c.in_ok-migrate_tables.ensures.open one)
+returns-clause-open g c clean = any_ok c.add_index.result (c.in_ok-migrate_tables.ensures.open (was_clean c.add_index.ensures.leaves clean))

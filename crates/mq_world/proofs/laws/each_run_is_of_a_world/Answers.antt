@@ -1,5 +1,5 @@
 -- One run goes on through worlds, as its contract says.
-use Rattle.mq_world.proofs.Words.{Action, AfterReady, Answers, ArePlayed, Asks, BeforeReady, Bool, Closes, Closing, ComeInTurn, Drain, Ended, EndsWith, Exchange, FilterLine, Filters, Goes, HasText, Holding, IsDecision, IsInHand, IsPlayed, IsUnderway, List, MakesAll, Meaning, None, Option, Outside}
+use Rattle.mq_world.proofs.Words.{Action, AfterReady, Answers, ArePlayed, Asks, BeforeReady, Bool, Closes, Closing, ComeInTurn, Drain, RunEnd, EndsWith, Exchange, FilterLine, Filters, Goes, HasText, Holding, IsDecision, IsInHand, IsPlayed, IsUnderway, List, MakesAll, Meaning, None, Option, Outside}
 use Rattle.mq_world.proofs.Words.{Passes, Plays, Query, Refuses, Request, Some, Source, Stage, State, Step, StopsAt, Takes, [], action_of, ap, asking_of, at_line, close_of, closing, drained, exchanges_in, false, fault, held_back, held_for, inl, inr, is_some, next, next_of, none_some, option_map}
 use Rattle.mq_world.proofs.Words.{push, query, queue_of, refl, request_frame, subst, sym, tries_in, true, view, ℕ, ◌++◌, ◌∙◌, ◌∷◌, ◌≡◌, ◌⊎◌}
 use Rattle.std.proofs.lemmas.List.{append-nil}
@@ -203,7 +203,7 @@ module _ (T : InTurn) (site : Site) (s : Source) (y : site.is_run s ≡ true) wh
       let played : IsPlayed old.source old.tries steps = played_alone old.source old.tries steps (made.plays [] n.stands) in
       subst (λ u. IsPlayed u (site.tries s) steps) n.source (subst (λ k. IsPlayed old.source k steps) n.tries played)
 
-  whole_goes : (w later : World) (o : Outside) (bytes : List ℕ) (now : Outside) (e : Ended) (h : EndsWith o bytes now e) → IsNew site w s o.client → GoesOnAround site s w (exchanges_in (drained h.group h.steps)) later
+  whole_goes : (w later : World) (o : Outside) (bytes : List ℕ) (now : Outside) (e : RunEnd) (h : EndsWith o bytes now e) → IsNew site w s o.client → GoesOnAround site s w (exchanges_in (drained h.group h.steps)) later
       → Reaches site w (with_run later s (ran h.after_ready (drained h.group h.steps) true))
   whole_goes w later o bytes now e h n around =
       let played = all_played w o.client now.client (drained h.group h.steps) n h.made in

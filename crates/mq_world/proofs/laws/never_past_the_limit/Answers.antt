@@ -1,5 +1,5 @@
 -- Where nothing is forgotten: no day is before day 0.
-use Rattle.mq_world.proofs.Words.{Held, Some, Transaction, ap, arith, inl, inr, option_cases, ℕ, ◌≡◌, ◌≤◌}
+use Rattle.mq_world.proofs.Words.{HeldTransaction, Some, Transaction, ap, arith, inl, inr, option_cases, ℕ, ◌≡◌, ◌≤◌}
 use Rattle.mq_world.specs.World.{Site, World, Reaches}
 use Rattle.mq_world.specs.Law.{standing_of, counting, granted_of, let_by}
 use Rattle.mq_world.specs.Forgetting.{ReachesForgetting, FromStart}
@@ -10,7 +10,7 @@ forgets_nothing : (site : Site) (start w : World) → Reaches site start w → R
 forgets_nothing site start w r = with_steps site 0 start start w FromStart r
 
 -- what counts not, lets nothing through
-none_or : (w : World) (t : Transaction) (n : ℕ) → ((h : Held) → counting (standing_of w t) ≡ Some h → let_by (standing_of w t) ≤ n) → let_by (standing_of w t) ≤ n
+none_or : (w : World) (t : Transaction) (n : ℕ) → ((h : HeldTransaction) → counting (standing_of w t) ≡ Some h → let_by (standing_of w t) ≤ n) → let_by (standing_of w t) ≤ n
 none_or w t n each = elim (option_cases (counting (standing_of w t))) [
   | inl none ↦ (let z : let_by (standing_of w t) ≡ 0 = ap granted_of none in omega (arith, z))
   | inr p ↦ each p.0 p.1

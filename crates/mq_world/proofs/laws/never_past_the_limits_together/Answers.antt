@@ -1,5 +1,5 @@
 -- Every state of the world, step by step, and what follows in each.
-use Rattle.mq_world.proofs.Words.{Action, AllByRecursion, Answered, AreDistinct, AreUnderway, Book, Bool, Drain, Entry, Exchange, Faulted, Held, In, IsDecision, IsLegalBook, IsPlayed, IsReply, List, Meaning, Never, None, NoneReturns, Option, Outcome, Request, Reserve, Some, Source, SpellsRequest}
+use Rattle.mq_world.proofs.Words.{Action, AllByRecursion, Answered, AreDistinct, AreUnderway, Book, Bool, Drain, Entry, Exchange, Faulted, HeldTransaction, In, IsDecision, IsLegalBook, IsPlayed, IsReply, List, Meaning, Never, None, NoneReturns, Option, ExchangeOutcome, Request, Reserve, Some, Source, SpellsRequest}
 use Rattle.mq_world.proofs.Words.{Standing, Step, Transaction, Zone, [], action_of, actions, actions_of, all_at, ap, arith, begin_count, clash, day_of, decides, either, false, fault, frame, history_of, id_of, inl, inr, ledger_id, none_some, option_map, push, refl, reply, reply_body, request_body}
 use Rattle.mq_world.proofs.Words.{request_frame, requests, slice_get, standing_in, subst, sum_by, sum_by-le-sum_by, sym, true, view, weaker, with_arrival, ℕ, ◌++◌, ◌∙◌, ◌∷◌, ◌≡◌, ◌≤◌}
 use Rattle.mq_world.specs.World.{Site, Run, World, fresh, IsOfOthers, IsFrameOfOthers, IsReplyToOthers, IsStart, IsUp, ReadsOn, begun, after_line, after_end, next_request, with_on_way, with_exchange, after_exchange, after_stop, MayCome, same_source, with_run, with_sent, after_arrival, Next, Reads, ReadsEnd, Sends, Ends, Takes, OthersSend, Stops}
@@ -59,7 +59,7 @@ neither_decides (Reserve id txn moment login count) = (refl, refl)
 neither_decides q = (refl, refl)
 
 -- what comes and decides was written
-brought : OfFrames → (written : List (List ℕ)) (o : Outcome) (q : Request) → MayCome written o → Comes written q o
+brought : OfFrames → (written : List (List ℕ)) (o : ExchangeOutcome) (q : Request) → MayCome written o → Comes written q o
 brought F written (Faulted f) q may = λ a b d. absurd b
 brought F written (Answered body) q (inl retry) = λ a b d.
     let same : a ≡ reply.Retry = F.one_body body a reply.Retry b (record { bytes = retry; in_range = tt }) in
@@ -316,7 +316,7 @@ idle f r t n e none = let F : Run → Type 0 = λ x. f (standing_in x.past t) �
 all_legal : {F : ℕ} → (site : Site) (w : World) (bs : List Book) → AreSound site F w bs → AllByRecursion IsLegalBook (w.ledger ∷ bs)
 all_legal site w bs h = (h.sound.ledger, h.legal)
 
-sound_each : {F : ℕ} → Known → (site : Site) (w : World) (bs : List Book) → AreSound site F w bs → (t : Transaction) (k : Held) → counting (standing_of w t) ≡ Some k → F ≤ day_of w.ledger.zone k.moment
+sound_each : {F : ℕ} → Known → (site : Site) (w : World) (bs : List Book) → AreSound site F w bs → (t : Transaction) (k : HeldTransaction) → counting (standing_of w t) ≡ Some k → F ≤ day_of w.ledger.zone k.moment
     → let_by (standing_of w t) ≤ sum_by (kept_of t) (w.ledger ∷ bs)
 sound_each {F = F} K site w bs h t = elim (either (site.is_run (run_of t))) [
   | inr n ↦ λ k is on. idle let_by (w.runs (run_of t)) t.txn _ (h.sound.idle (run_of t) n) refl
@@ -331,7 +331,7 @@ sound_each {F = F} K site w bs h t = elim (either (site.is_run (run_of t))) [
       let now : F ≤ day (at_of st) → let_by st ≤ sum_by (kept_of t) (w.ledger ∷ bs) = λ on. standing_each s (w.ledger ∷ bs) K.ledgers suits t.txn st
       (was_granted day F K.ledgers.itself s (site.tries s) H P own.steps.underway own.ground t.txn on)
       (entry_suits K.clients K.ledgers s (site.tries s) P H w.sent w.written own t.txn) in
-      let S : Standing → Type 0 = λ x. (k : Held) → counting x ≡ Some k → F ≤ day k.moment → let_by x ≤ sum_by (kept_of t) (w.ledger ∷ bs) in
+      let S : Standing → Type 0 = λ x. (k : HeldTransaction) → counting x ≡ Some k → F ≤ day k.moment → let_by x ≤ sum_by (kept_of t) (w.ledger ∷ bs) in
       subst S (K.clients.standing s r.past t.txn) (λ k is on. counts_at ((view s r.past).standing t.txn) st _ k (counts_so_far s (site.tries s) r.on_way r.past own.steps.underway own.steps.returns t.txn) is
       (λ same. now (subst (λ m. F ≤ day m) (sym same) on))))
 ]

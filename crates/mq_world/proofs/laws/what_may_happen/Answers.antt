@@ -1,5 +1,5 @@
 -- A world of two runs, step by step.
-use Rattle.mq_world.proofs.Words.{All-from_recursion, AllByRecursion, Answered, Ask, Book, Bool, ByOffset, Close, Drain, Ended, EndsWith, Exchange, FilterLine, Filters, Held, Id, IsCount, IsHost, IsHostByte, IsId, IsLegalBook, IsMoment, IsOffset, IsOrdinal, IsPlayed, IsRead, IsReady, IsReply}
+use Rattle.mq_world.proofs.Words.{All-from_recursion, AllByRecursion, Answered, Ask, Book, Bool, ByOffset, Close, Drain, RunEnd, EndsWith, Exchange, FilterLine, Filters, HeldTransaction, Id, IsCount, IsHost, IsHostByte, IsId, IsLegalBook, IsMoment, IsOffset, IsOrdinal, IsPlayed, IsRead, IsReady, IsReply}
 use Rattle.mq_world.proofs.Words.{IsRequest, IsRun, IsStamp, IsTry, IsZone, List, MakesAll, Meaning, None, NoneYet, Outside, Reply, ReportLine, Request, Retire, SendsAll, SendsUpTo, Settle, Some, Source, SpellsReply, State, Step, TimedOut, Transaction, [], all_of, ap, arith, cap}
 use Rattle.mq_world.proofs.Words.{clash, clock, codes, count_by, day_of, decides, drained, either, either_of, exchanges_in, false, fault, floor, frame, held, id_of, if◌then◌else◌, inl, inr, ledger_reply, length, list_any, nat_le, nat_lt, nat_tests, ne_eqb, nothing_held, number_is}
 use Rattle.mq_world.proofs.Words.{number_itself, pos, refl, reply_body, request_body, request_frame, requests, reserve_of, same_text, settled_in, slice_get, some_is, subst, sym, told_steps, true, ℕ, ℤ, ◌*◌, ◌++◌, ◌+◌, ◌<ℤ◌, ◌<◌, ◌==◌, ◌||◌, ◌∙◌, ◌∷◌, ◌≡◌, ◌≢◌, ◌≤ℤ◌, ◌≤◌}
@@ -478,7 +478,7 @@ holds_back b legal le = reachable b legal WasHeldBack (settled_at_end b) (joined
 abbrev pub new_client : State
 new_client = record { source = here; tries = 3; spans = record { pause = 0; hold = 0 }; held = []; numbers = 0; waiting = [] }
 
-abbrev pub let_one : Held
+abbrev pub let_one : HeldTransaction
 let_one = record { login = codes "u"; moment = noon; granted = 1 }
 
 -- the same after it let one recipient through
@@ -603,7 +603,7 @@ is_new b = record { is_run = refl; run = refl; source = refl; tries = refl; stan
 
 -- each run is of a world
 abbrev pub WholeRuns : Type 0
-WholeRuns = (site : Site) (w later : World) (s : Source) (o : Outside) (bytes : List ℕ) (now : Outside) (e : Ended) (h : EndsWith o bytes now e) → IsNew site w s o.client
+WholeRuns = (site : Site) (w later : World) (s : Source) (o : Outside) (bytes : List ℕ) (now : Outside) (e : RunEnd) (h : EndsWith o bytes now e) → IsNew site w s o.client
     → GoesOnAround site s w (exchanges_in (drained h.group h.steps)) later → Reaches site w (with_run later s (ran h.after_ready (drained h.group h.steps) true))
 
 runs_to_its_end : WholeRuns → (b : Book) → IsLegalBook (unused b) → 1 ≤ b.default → IsReachable b HasRunToItsEnd

@@ -1,5 +1,5 @@
 use Rattle.std.proofs.Common.{◌≡◌, ℕ, ◌+◌, List, [], ◌∷◌, ◌++◌, refl, ap, ◌∙◌, subst, rules, arith, None, Some}
-use Rattle.mq_client.proofs.Words.{Close, Framed, Makes, Request, Sends, State, closing_of, find, map-append, requests_of, state_of}
+use Rattle.mq_client.proofs.Words.{Close, FramedRequest, Makes, Request, Sends, State, closing_of, find, map-append, requests_of, state_of}
 use Rattle.mq_client.proofs.Telling.{Tells-none}
 use Rattle.mq_client.proofs.Making.{closed, closed_nothing}
 use Rattle.mq_client.proofs.Keeping.{closed_in_range}
@@ -38,7 +38,7 @@ returns-clause-ok g c =
     let i = c.self.inside in
     let d : State = record (state_of i) { held = c.release.new.self; numbers = i.numbers + 1; waiting = requests_of c.send_all-timed_out.new.outbox.items } in
     let there : find i.held c.args.closing.txn ≡ Some c.in-Some.known.now = search rules in
-    let pushed = ap requests_of c.in_ok-push_back.ensures.items ∙ map-append (λ (framed : Framed). framed.request) i.outbox.items _ ∙ ap (λ q. requests_of i.outbox.items ++ q ∷ []) (c.in_ok-framed.ensures.request) in
+    let pushed = ap requests_of c.in_ok-push_back.ensures.items ∙ map-append (λ (framed : FramedRequest). framed.request) i.outbox.items _ ∙ ap (λ q. requests_of i.outbox.items ++ q ∷ []) (c.in_ok-framed.ensures.request) in
     let q = closing_of d.source (i.numbers + 1) c.args.closing.txn c.args.closing.end c.in-Some.known.now in (
       group,
       told,

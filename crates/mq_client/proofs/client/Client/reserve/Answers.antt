@@ -1,5 +1,5 @@
 use Rattle.std.proofs.Common.{◌≡◌, ℕ, ◌+◌, ◌==◌, [], length, refl, sym, ◌∙◌, subst, rules, true, false, Some, if◌then◌else◌}
-use Rattle.mq_client.proofs.Words.{AllHeld, Ask, Framed, Makes, State, answer_by, find, length-map, let_through, opened, refuses, state_of}
+use Rattle.mq_client.proofs.Words.{AllHeld, Ask, FramedRequest, Makes, State, answer_by, find, length-map, let_through, opened, refuses, state_of}
 use Rattle.mq_client.proofs.Telling.{Tells-none}
 use Rattle.mq_client.proofs.Making.{refused, asked, answer_of_tries, held_and_counted}
 use Rattle.mq_client.proofs.Keeping.{has_room, asked_in_range}
@@ -10,7 +10,7 @@ returns-in-Some-clause-ok g c =
     let action = Ask c.args.txn c.args.moment c.args.login.now in
     let i = c.self.inside in
     let h : refuses (find i.held c.args.txn) (length i.held) i.numbers (length i.outbox.items) c.args.moment c.args.login.now ≡ true = search rules in
-    let stays = subst (λ (s : State). Makes s s (record { action = action; group = []; quiet = false })) c.self.view_is (refused (state_of i) c.args.txn c.args.moment c.args.login.now (rw (length-map i.outbox.items (λ (framed : Framed). framed.request)) h)) in
+    let stays = subst (λ (s : State). Makes s s (record { action = action; group = []; quiet = false })) c.self.view_is (refused (state_of i) c.args.txn c.args.moment c.args.login.now (rw (length-map i.outbox.items (λ (framed : FramedRequest). framed.request)) h)) in
     ([], Tells-none _, refl, subst (λ (s : State). Makes c.args.self.now s (record { action = action; group = []; quiet = false })) (sym c.warn_refused.ensures) stays, refl)
 
 pub invariant_of-self : goal.invariant_of-self
@@ -49,7 +49,7 @@ returns-clause-ok g c =
       group,
       told,
       answer ∙ sym (answer_of_tries i.tries _ group decided tries),
-      subst (λ (s : State). Makes s d (record { action = Ask c.args.txn c.args.moment c.args.login.now; group = group; quiet = false })) c.self.view_is (asked (state_of i) d c.args.txn c.args.moment c.args.login.now group decided c.self.invariant.tries.from refl refl (rw (length-map i.outbox.items (λ (framed : Framed). framed.request)) free) tries_of by
+      subst (λ (s : State). Makes s d (record { action = Ask c.args.txn c.args.moment c.args.login.now; group = group; quiet = false })) c.self.view_is (asked (state_of i) d c.args.txn c.args.moment c.args.login.now group decided c.self.invariant.tries.from refl refl (rw (length-map i.outbox.items (λ (framed : FramedRequest). framed.request)) free) tries_of by
           (c.count.ensures.len ∙ c.in_ok-hold.ensures.len) refl refl),
       late,
     )

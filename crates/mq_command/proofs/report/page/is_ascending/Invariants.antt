@@ -1,5 +1,4 @@
-use Rattle.std.proofs.Common.{drop}
-use Rattle.mq_command.specs.Report.{IsAscendingAbove}
+use Rattle.mq_command.proofs.Words.{IsAscendingAbove, drop}
 use Rattle.mq_command.proofs.report.page.is_ascending.Given as goal
 
 -- what is left decides it

@@ -1,4 +1,4 @@
-use Rattle.std.proofs.Common.{◌≡◌, ◌++◌, replicate, string_bytes}
+use Rattle.mq_command.proofs.Words.{replicate, string_bytes, ◌++◌, ◌≡◌}
 use Rattle.mq_command.proofs.report.row.push_spaces.Given as goal
 
 -- the spaces so far are pushed

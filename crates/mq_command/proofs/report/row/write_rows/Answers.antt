@@ -1,5 +1,4 @@
-use Rattle.std.proofs.Common.{sym}
-use Rattle.mq_command.specs.Report.{row_line}
+use Rattle.mq_command.proofs.Words.{row_line, sym}
 use Rattle.mq_command.proofs.Fronts.{front_of_item, one_more_item}
 use Rattle.mq_command.proofs.report.row.write_rows.Goals as goal
 

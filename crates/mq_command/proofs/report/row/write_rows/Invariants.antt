@@ -1,6 +1,4 @@
-use Rattle.std.proofs.Common.{take}
-use Rattle.std.specs.Io.KnownBytes.{Appends}
-use Rattle.mq_command.specs.Report.{report_lines}
+use Rattle.mq_command.proofs.Words.{Appends, report_lines, take}
 use Rattle.mq_command.proofs.report.row.write_rows.Given as goal
 
 -- the lines so far are written

@@ -1,10 +1,4 @@
-use Rattle.std.proofs.Common.{◌≡◌, of_calls, rules}
-use Rattle.std.specs.Cmp.{IsStrictWeakOrder}
-use Rattle.std.specs.Ordering.{is_lt, nat_cmp}
-use Rattle.std.proofs.lemmas.Cmp.{nat_cmp_total}
-use Rattle.std.proofs.lemmas.Fn.{always_returns_same}
-use Rattle.std.proofs.lemmas.List.MinMax.{IsStrictWeakOrder-flip, ranks_by}
-use Rattle.mq_command.specs.Top.{used_of, uses_more}
+use Rattle.mq_command.proofs.Words.{IsStrictWeakOrder, IsStrictWeakOrder-flip, always_returns_same, is_lt, nat_cmp, nat_cmp_total, of_calls, ranks_by, rules, used_of, uses_more, ◌≡◌}
 use Rattle.mq_command.proofs.report.top.top_of.Goals as goal
 
 uses_more_orders : IsStrictWeakOrder uses_more

@@ -1,10 +1,4 @@
-use Rattle.std.proofs.Common.{◌≡◌, ◌∙◌, ℕ, List, ap, sym, arith, inl, inr}
-use Rattle.std.proofs.lemmas.Result.{IfOk-weaker}
-use Rattle.mq_lemmas.proofs.Options.{option_cases}
-use Rattle.mq_request.specs.declared.message.Id.{Id}
-use Rattle.mq_ledger.specs.declared.entry.Entry.{Entry}
-use Rattle.mq_ledger.specs.Answer.{if_open, granted_or_full}
-use Rattle.mq_ledger.specs.History.{transaction, IsOpenTo}
+use Rattle.mq_ledger.proofs.Words.{Entry, Id, IsOpenTo, List, ap, arith, granted_or_full, if_open, inl, inr, option_cases, sym, transaction, ℕ, ◌∙◌, ◌≡◌}
 use Rattle.mq_ledger.proofs.Books.{book_used, open_answer}
 use Rattle.mq_ledger.proofs.plain.PlainLedger.answer_reserve.Goals as goal
 
@@ -23,11 +17,11 @@ answered H id txn moment login count n limit n' limit' open_so used_is cap_is =
     ap (λ m. granted_or_full id m limit count) used_is ∙ ap (λ m. granted_or_full id n' m count) cap_is ∙ sym (open_answer H id txn moment login (granted_or_full id n' limit' count) open_so)
 
 pub returns : goal.returns
-returns c = elim (option_cases c.in_ok-refused.field-0) [
+returns c = elim (option_cases c.refusal.result) [
   | inr p ↦ absurd (c.in_default.not-Some p.0 p.1)
-  | inl none ↦ IfOk-weaker c.granted_or_full.result _ _ (λ r told. told ∙ (rw (← c.self.view_is)
+  | inl none ↦ c.granted_or_full.ensures c.args.id.now ∙ (rw (← c.self.view_is)
       (answered _ c.args.id.now c.args.txn c.args.moment c.args.login.now c.args.count c.used-used.result c.cap-cap.result _ _
-      (rw (none, c.deref.ensures.value) at c.in_ok-refused.ensures)
+      (rw (none, c.deref.ensures.value) at c.refusal.ensures)
       (rw (c.deref-2.ensures.value, c.day_at-day.ensures.value) at c.used-used.ensures)
-      (rw (c.deref-3.ensures.value, c.day_at-day.ensures.value) at c.cap-cap.ensures)))) c.granted_or_full.ensures
+      (rw (c.deref-3.ensures.value, c.day_at-day.ensures.value) at c.cap-cap.ensures)))
 ]

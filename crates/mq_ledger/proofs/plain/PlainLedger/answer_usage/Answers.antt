@@ -1,6 +1,5 @@
-use Rattle.std.proofs.Common.{ap, arith}
+use Rattle.mq_ledger.proofs.Words.{UsageRow, ap, arith}
 use Rattle.mq_request.specs.declared.message.Reply.TheVariants.{Usage}
-use Rattle.mq_request.specs.declared.usage.UsageRow.{UsageRow}
 use Rattle.mq_ledger.proofs.Books.{book_used}
 use Rattle.mq_ledger.proofs.plain.PlainLedger.answer_usage.Goals as goal
 

@@ -1,16 +1,8 @@
-use Rattle.std.proofs.Common.{◌≡◌, ◌∙◌, List, Some, None, Option, true, false, ap, sym, refl, inl, inr}
-use Rattle.std.specs.Prelude.{is_some}
+use Rattle.mq_ledger.proofs.Words.{Book, Entry, List, None, Option, Some, answer, ap, day_of, false, id_of, inl, inr, is_some, known_by, option_cases, option_copied, refl, sym, true, with_arrival, ◌∙◌, ◌≡◌}
 use Rattle.std.specs.Borrow.{Bor}
-use Rattle.std.specs.Option.{option_copied}
-use Rattle.mq_lemmas.proofs.Options.{option_cases}
-use Rattle.mq_ledger.specs.declared.entry.Entry.{Entry}
-use Rattle.mq_ledger.specs.Answer.{answer, known_by, with_arrival}
-use Rattle.mq_ledger.specs.Arrivals.{id_of}
-use Rattle.mq_ledger.specs.Day.{day_of}
-use Rattle.mq_ledger.specs.Legal.{Book}
 use Rattle.mq_ledger.proofs.Books.{arrival_of_known, arrival_unnumbered, book_arrival, book_reply, book_history, book_appended, book_fresh_reply}
-use Rattle.mq_ledger.proofs.plain.PlainLedgerLedger.apply.Goals as goal
 use Rattle.mq_ledger.proofs.plain.PlainLedgerLedger.apply.Goals.{then-is_some+in_ok-append, else-is_some}
+use Rattle.mq_ledger.proofs.plain.PlainLedgerLedger.apply.Goals as goal
 
 pub returns-in-Some-clause-in_range : goal.returns-in-Some-clause-in_range
 returns-in-Some-clause-in_range c =

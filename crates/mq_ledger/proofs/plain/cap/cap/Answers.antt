@@ -1,8 +1,7 @@
-use Rattle.std.proofs.Common.{sym}
-use Rattle.std.proofs.lemmas.List.{take_more}
+use Rattle.mq_ledger.proofs.Words.{sym, take_more}
 use Rattle.mq_ledger.proofs.LimitFacts.{newest_other, newest_newer, newest_older}
-use Rattle.mq_ledger.proofs.plain.cap.cap.Goals as goal
 use Rattle.mq_ledger.proofs.plain.cap.cap.Goals.{then-governs+then-latest-from_of, else-governs, else-governs-via-then-governs+else-latest-from_of, else-governs-via-else-governs}
+use Rattle.mq_ledger.proofs.plain.cap.cap.Goals as goal
 
 pub loop-entry-preserved : goal.loop-entry-preserved
 loop-entry-preserved c =

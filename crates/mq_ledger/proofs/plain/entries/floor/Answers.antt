@@ -1,9 +1,5 @@
-use Rattle.std.proofs.Common.{◌∙◌, ap, sym, List, ◌∷◌, [], take}
-use Rattle.std.proofs.lemmas.List.{map-append, take_more, take_all}
-use Rattle.mq_request.specs.declared.message.Request.{Request}
-use Rattle.mq_ledger.specs.declared.entry.Entry.{Entry}
-use Rattle.mq_ledger.specs.Arrivals.{raised, greater, floor}
-use Rattle.mq_ledger.specs.History.{requests}
+use Rattle.mq_ledger.proofs.Words.{Entry, List, Request, [], ap, floor, greater, map-append, raised, requests, sym, take, take_more, ◌∙◌, ◌∷◌}
+use Rattle.std.proofs.lemmas.List.{take_all}
 use Rattle.mq_ledger.proofs.Transactions.{floor_push, floor_none}
 use Rattle.mq_ledger.proofs.plain.entries.floor.Goals as goal
 

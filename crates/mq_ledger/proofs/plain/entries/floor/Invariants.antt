@@ -1,6 +1,4 @@
-use Rattle.std.proofs.Common.{◌≡◌, take}
-use Rattle.mq_ledger.specs.Arrivals.{floor}
-use Rattle.mq_ledger.specs.History.{requests}
+use Rattle.mq_ledger.proofs.Words.{floor, requests, take, ◌≡◌}
 use Rattle.mq_ledger.proofs.plain.entries.floor.Given as goal
 
 -- the floor by the entries so far

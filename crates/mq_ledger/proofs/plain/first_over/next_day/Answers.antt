@@ -1,14 +1,7 @@
-use Rattle.std.proofs.Common.{◌∙◌, ℕ, Option, take, ap, sym, Some, None, IfSome, inl, inr}
-use Rattle.std.specs.Prelude.{nat_lt}
-use Rattle.std.proofs.lemmas.List.{take_more}
-use Rattle.mq_lemmas.proofs.Booleans.{either}
-use Rattle.mq_lemmas.proofs.Options.{option_cases}
-use Rattle.mq_request.specs.Range.{IsDay}
-use Rattle.mq_ledger.specs.Day.{day_of}
-use Rattle.mq_ledger.specs.Over.{lesser}
+use Rattle.mq_ledger.proofs.Words.{IfSome, IsDay, None, Option, Some, ap, day_of, either, inl, inr, lesser, nat_lt, option_cases, sym, take, take_more, ℕ, ◌∙◌}
 use Rattle.mq_ledger.proofs.Overs.{next_other, next_more}
-use Rattle.mq_ledger.proofs.plain.first_over.next_day.Goals as goal
 use Rattle.mq_ledger.proofs.plain.first_over.next_day.Goals.{in-Some, in_default}
+use Rattle.mq_ledger.proofs.plain.first_over.next_day.Goals as goal
 
 lesser_day : (d : ℕ) (o : Option ℕ) → IsDay d → IfSome o IsDay → IsDay (lesser d o)
 lesser_day d None h k = h

@@ -1,7 +1,4 @@
-use Rattle.std.proofs.Common.{◌≡◌, take, IfSome}
-use Rattle.mq_request.specs.Range.{IsDay}
-use Rattle.mq_ledger.specs.Day.{day_of}
-use Rattle.mq_ledger.specs.Over.{days_from, least}
+use Rattle.mq_ledger.proofs.Words.{IfSome, IsDay, day_of, days_from, least, take, ◌≡◌}
 use Rattle.mq_ledger.proofs.plain.first_over.next_day.Given as goal
 
 abbrev pub invariant-loop-entry : goal.invariant-loop-entry

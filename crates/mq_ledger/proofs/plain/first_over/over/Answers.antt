@@ -1,10 +1,4 @@
-use Rattle.std.proofs.Common.{◌≡◌, ◌∙◌, ◌<◌, ◌≤◌, sym, Some, None, arith, inl, inr}
-use Rattle.mq_lemmas.proofs.Options.{option_cases}
-use Rattle.mq_lemmas.proofs.Numbers.{le_or_lt}
-use Rattle.mq_request.specs.Range.{IsDay}
-use Rattle.mq_ledger.specs.Day.{day_of}
-use Rattle.mq_ledger.specs.History.{used}
-use Rattle.mq_ledger.specs.Over.{days_from, least}
+use Rattle.mq_ledger.proofs.Words.{IsDay, None, Some, arith, day_of, days_from, inl, inr, le_or_lt, least, option_cases, sym, used, ◌<◌, ◌∙◌, ◌≡◌, ◌≤◌}
 use Rattle.mq_ledger.proofs.Overs.{nothing_before, nothing_on, next_after, least_is_over}
 use Rattle.mq_ledger.proofs.plain.first_over.over.Goals as goal
 

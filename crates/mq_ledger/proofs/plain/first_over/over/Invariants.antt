@@ -1,6 +1,4 @@
-use Rattle.std.proofs.Common.{ℕ, ◌<◌, ◌≤◌, ◌-◌}
-use Rattle.mq_ledger.specs.Day.{day_of}
-use Rattle.mq_ledger.specs.History.{used}
+use Rattle.mq_ledger.proofs.Words.{day_of, used, ℕ, ◌-◌, ◌<◌, ◌≤◌}
 use Rattle.mq_ledger.proofs.plain.first_over.over.Given as goal
 
 abbrev pub invariant-days : goal.invariant-days

@@ -1,12 +1,7 @@
-use Rattle.std.proofs.Common.{◌≡◌, ◌∙◌, ap, sym, refl, take, true, false, Some, None, inl, inr}
-use Rattle.std.specs.Option.{option_copied}
-use Rattle.std.proofs.lemmas.List.{take_more}
-use Rattle.mq_lemmas.proofs.Options.{option_cases}
-use Rattle.mq_ledger.specs.Day.{day_of}
-use Rattle.mq_ledger.specs.Page.{below, login_on, nearer, logins_above}
+use Rattle.mq_ledger.proofs.Words.{None, Some, ap, below, day_of, false, inl, inr, login_on, logins_above, nearer, option_cases, option_copied, refl, sym, take, take_more, true, ◌∙◌, ◌≡◌}
 use Rattle.mq_ledger.proofs.Pages.{head_push_none, head_push_not_above, head_push_above}
-use Rattle.mq_ledger.proofs.plain.listing.next_login.Goals as goal
 use Rattle.mq_ledger.proofs.plain.listing.next_login.Goals.{in-Some+then-below, in-Some+else-below, in_default}
+use Rattle.mq_ledger.proofs.plain.listing.next_login.Goals as goal
 
 pub loop-entry-init : goal.loop-entry-init
 unfolding logins_above

@@ -1,8 +1,4 @@
-use Rattle.std.proofs.Common.{◌≡◌, take}
-use Rattle.std.specs.Prelude.{slice_get}
-use Rattle.std.specs.Option.{option_copied}
-use Rattle.mq_ledger.specs.Day.{day_of}
-use Rattle.mq_ledger.specs.Page.{logins_above}
+use Rattle.mq_ledger.proofs.Words.{day_of, logins_above, option_copied, slice_get, take, ◌≡◌}
 use Rattle.mq_ledger.proofs.plain.listing.next_login.Given as goal
 
 abbrev pub invariant-loop-entry : goal.invariant-loop-entry

@@ -1,8 +1,4 @@
-use Rattle.std.proofs.Common.{◌≡◌, Some, ap, sym, ◌∙◌, arith}
-use Rattle.std.specs.Option.{option_copied}
-use Rattle.std.specs.Prelude.{slice_get}
-use Rattle.mq_ledger.specs.Day.{day_of}
-use Rattle.mq_ledger.specs.Page.{row, logins_above}
+use Rattle.mq_ledger.proofs.Words.{Some, ap, arith, day_of, logins_above, option_copied, row, slice_get, sym, ◌∙◌, ◌≡◌}
 use Rattle.mq_ledger.proofs.Pages.{rows_page, rows_more, rows_all}
 use Rattle.mq_ledger.proofs.plain.listing.page.Goals as goal
 

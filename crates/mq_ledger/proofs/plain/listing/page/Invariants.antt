@@ -1,7 +1,4 @@
-use Rattle.std.proofs.Common.{◌≡◌, ◌++◌, ◌-◌}
-use Rattle.std.specs.Prelude.{map}
-use Rattle.mq_ledger.specs.Day.{day_of}
-use Rattle.mq_ledger.specs.Page.{page, row}
+use Rattle.mq_ledger.proofs.Words.{day_of, map, page, row, ◌++◌, ◌-◌, ◌≡◌}
 use Rattle.mq_ledger.proofs.Pages.{rows_of}
 use Rattle.mq_ledger.proofs.plain.listing.page.Given as goal
 

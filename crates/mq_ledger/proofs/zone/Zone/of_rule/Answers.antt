@@ -1,6 +1,5 @@
-use Rattle.std.proofs.Common.{◌∙◌, ◌-◌, ◌++◌, List, ℕ, length, ap, rules}
-use Rattle.std.specs.Prelude.{replicate, IsOk}
-use Rattle.mq_ledger.specs.Day.{IsRule}
+use Rattle.mq_ledger.proofs.Words.{IsRule, List, ap, length, replicate, rules, ℕ, ◌++◌, ◌-◌, ◌∙◌}
+use Rattle.std.specs.Prelude.{IsOk}
 use Rattle.mq_ledger.proofs.Keeping.{kept}
 use Rattle.mq_ledger.proofs.zone.Zone.of_rule.Goals as goal
 

@@ -1,10 +1,5 @@
-use Rattle.std.proofs.Common.{◌≡◌, ◌∙◌, ap, arith, to_z, of_z, w64}
-use Rattle.std.specs.Prelude.{cond, Some, unwrap_or}
-use Rattle.std.specs.BTreeMap.{get}
-use Rattle.std.specs.Ordering.{is_eq}
-use Rattle.std.proofs.lemmas.Int.{ints}
-use Rattle.mq_rows.specs.declared.audited.LimitFigures.{LimitFigures}
-use Rattle.mq_rows.specs.Pair.{pair_cmp}
+use Rattle.std.proofs.Common.{◌≡◌, ◌∙◌, ap, arith, to_z, of_z, w64, cond, Some, unwrap_or, is_eq}
+use Rattle.mq_rows.proofs.Words.{LimitFigures, get, ints, pair_cmp}
 use Rattle.mq_rows.proofs.Booking.{one_more_first}
 use Rattle.mq_rows.proofs.auditing.Books.add_limit.Goals as goal
 

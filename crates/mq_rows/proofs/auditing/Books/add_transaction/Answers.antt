@@ -1,16 +1,6 @@
-use Rattle.std.proofs.Common.{◌≡◌, ◌∙◌, ◌++◌, ap, sym, map, rules, ◌+◌, [], ◌∷◌}
-use Rattle.std.specs.BTreeMap.{get}
-use Rattle.std.specs.List.{list_any}
-use Rattle.std.proofs.lemmas.List.{map-append}
-use Rattle.mq_ledger.specs.Day.{day_of}
-use Rattle.mq_ledger.specs.declared.zone.Zone.{Zone}
-use Rattle.mq_rows.specs.declared.audited.TransactionFigures.{TransactionFigures}
-use Rattle.mq_rows.specs.declared.audited.UsageFigures.{UsageFigures}
-use Rattle.mq_rows.specs.declared.books.Day.{Day}
-use Rattle.mq_rows.specs.Audit.{pairs}
-use Rattle.mq_rows.specs.Books.{day_or, with_row, with_transaction}
-use Rattle.mq_rows.specs.Pair.{pair_cmp, same_pair}
-use Rattle.mq_rows.proofs.Booking.{one_more_sum, part_put, part_kept, pairs_put, any_end, length_more}
+use Rattle.std.proofs.Common.{◌≡◌, ◌∙◌, ◌++◌, ap, sym, map, rules, ◌+◌, [], ◌∷◌, length-append}
+use Rattle.mq_rows.proofs.Words.{Day, TransactionFigures, UsageFigures, Zone, day_of, day_or, get, list_any, map-append, pair_cmp, pairs, same_pair, with_row, with_transaction}
+use Rattle.mq_rows.proofs.Booking.{one_more_sum, part_put, part_kept, pairs_put, any_end}
 use Rattle.mq_rows.proofs.auditing.Books.add_transaction.Goals as goal
 
 pub returns-clause-ok : goal.returns-clause-ok
@@ -35,5 +25,5 @@ returns-clause-ok c = λ zone default f books.
           ∙ any_end (same_pair p) (map (λ (u : UsageFigures). u.pair) f.usage) (map (λ (t : TransactionFigures). t.pair) f.transactions) x.pair) books.known;
       caps = books.caps;
       usage_rows = books.usage_rows;
-      transaction_rows = rows ∙ ap (λ n. n + 1) books.transaction_rows ∙ sym (length_more f.transactions x);
+      transaction_rows = rows ∙ ap (λ n. n + 1) books.transaction_rows ∙ sym (length-append f.transactions (x ∷ []));
     }

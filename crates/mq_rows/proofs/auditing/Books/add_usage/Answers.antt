@@ -1,17 +1,6 @@
-use Rattle.std.proofs.Common.{◌≡◌, ◌∙◌, ◌++◌, ap, sym, map, arith, rules, ℤ, to_z, of_z, w64, ◌+◌, [], ◌∷◌}
-use Rattle.std.specs.Prelude.{Some, unwrap_or}
-use Rattle.std.specs.BTreeMap.{get}
-use Rattle.std.specs.List.{list_any}
-use Rattle.std.proofs.lemmas.Int.{ints}
-use Rattle.std.proofs.lemmas.List.{map-append}
-use Rattle.mq_rows.specs.declared.audited.TransactionFigures.{TransactionFigures}
-use Rattle.mq_rows.specs.declared.audited.UsageFigures.{UsageFigures}
-use Rattle.mq_rows.specs.declared.books.Amounts.{Amounts}
-use Rattle.mq_rows.specs.declared.books.Day.{Day}
-use Rattle.mq_rows.specs.Audit.{pairs}
-use Rattle.mq_rows.specs.Books.{amounts_of, day_or, with_usage}
-use Rattle.mq_rows.specs.Pair.{pair_cmp, same_pair}
-use Rattle.mq_rows.proofs.Booking.{one_more_first, part_put, part_kept, pairs_put, any_middle, length_more}
+use Rattle.std.proofs.Common.{◌≡◌, ◌∙◌, ◌++◌, ap, sym, map, arith, rules, ℤ, to_z, of_z, w64, ◌+◌, [], ◌∷◌, Some, unwrap_or, length-append}
+use Rattle.mq_rows.proofs.Words.{Amounts, Day, TransactionFigures, UsageFigures, amounts_of, day_or, get, ints, list_any, map-append, pair_cmp, pairs, same_pair, with_usage}
+use Rattle.mq_rows.proofs.Booking.{one_more_first, part_put, part_kept, pairs_put, any_middle}
 use Rattle.mq_rows.proofs.auditing.Books.add_usage.Goals as goal
 
 abbrev amounts : ℤ → ℤ → Amounts
@@ -40,6 +29,6 @@ returns-clause-ok c = λ zone default f books.
           (λ p. ap (λ ps. list_any (same_pair p) (ps ++ map (λ (t : TransactionFigures). t.pair) f.transactions)) (map-append (λ (u : UsageFigures). u.pair) f.usage (x ∷ []))
           ∙ any_middle (same_pair p) (map (λ (u : UsageFigures). u.pair) f.usage) (map (λ (t : TransactionFigures). t.pair) f.transactions) x.pair) books.known;
       caps = books.caps;
-      usage_rows = rows ∙ ap (λ n. n + 1) books.usage_rows ∙ sym (length_more f.usage x);
+      usage_rows = rows ∙ ap (λ n. n + 1) books.usage_rows ∙ sym (length-append f.usage (x ∷ []));
       transaction_rows = books.transaction_rows;
     }

@@ -1,8 +1,5 @@
 use Rattle.std.proofs.Common.{◌≡◌, ◌∙◌, sym, subst, ℤ, to_z, of_z, w64, FitsSigned, arith, rules}
-use Rattle.std.specs.BTreeMap.{keys}
-use Rattle.std.proofs.lemmas.Int.{ints}
-use Rattle.mq_ledger.specs.Day.{day_of}
-use Rattle.mq_rows.specs.Audit.{is_right, pairs, IsLeastWrong}
+use Rattle.mq_rows.proofs.Words.{IsLeastWrong, day_of, ints, is_right, keys, pairs}
 use Rattle.mq_rows.proofs.Booking.{keys_in_rows, rows_in_keys}
 use Rattle.mq_rows.proofs.Scanning.{all_right, least_of}
 use Rattle.mq_rows.proofs.auditing.Books.audit.Goals as goal

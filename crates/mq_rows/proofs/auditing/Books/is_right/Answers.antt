@@ -1,13 +1,7 @@
-use Rattle.std.proofs.Common.{◌≡◌, ◌∙◌, ap, pos, refl, to_z, of_z, w64, arith}
-use Rattle.std.specs.Prelude.{find, Option, Some, None, option_map, unwrap_or}
-use Rattle.std.proofs.lemmas.Int.{ints}
-use Rattle.mq_ledger.specs.Day.{day_of}
-use Rattle.mq_rows.specs.declared.audited.UsageFigures.{UsageFigures}
-use Rattle.mq_rows.specs.declared.books.Amounts.{Amounts}
-use Rattle.mq_rows.specs.Audit.{settled_by, reserved_by, cap_or, governing, transactions_of}
-use Rattle.mq_rows.specs.Books.{amounts_of, sums_of}
+use Rattle.std.proofs.Common.{◌≡◌, ◌∙◌, ap, pos, refl, to_z, of_z, w64, arith, find, Option, Some, None, option_map, unwrap_or}
+use Rattle.mq_rows.proofs.Words.{Amounts, UsageFigures, amounts_of, cap_or, day_of, governing, ints, same_pair, sums_of, transactions_of}
+use Rattle.mq_rows.specs.Audit.{settled_by, reserved_by}
 use Rattle.mq_rows.specs.Inside.{are_right}
-use Rattle.mq_rows.specs.Pair.{same_pair}
 use Rattle.mq_rows.proofs.auditing.Books.is_right.Goals as goal
 
 abbrev no_amounts : Amounts

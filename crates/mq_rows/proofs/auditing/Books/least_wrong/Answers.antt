@@ -1,12 +1,7 @@
 use Rattle.std.proofs.Common.{◌≡◌, ◌∙◌, ap, sym, map, ◌∷◌, [], List, Bool}
+use Rattle.mq_rows.proofs.Words.{Day, Pair, day_of, day_or, is_right, least_wrong, pair_cmp_total}
 use Rattle.std.specs.Map.Iter.{deref_pair}
 use Rattle.std.proofs.lemmas.Map.Iter.{btree_map_turn, rest_more, rest_all}
-use Rattle.mq_ledger.specs.Day.{day_of}
-use Rattle.mq_rows.specs.declared.audited.Pair.{Pair}
-use Rattle.mq_rows.specs.declared.books.Day.{Day}
-use Rattle.mq_rows.specs.Audit.{is_right}
-use Rattle.mq_rows.specs.Books.{day_or, least_wrong}
-use Rattle.mq_rows.specs.Pair.{pair_cmp_total}
 use Rattle.mq_rows.proofs.auditing.Books.least_wrong.Goals as goal
 
 abbrev pairs_in : List (Pair × Day) → List Pair

@@ -1,11 +1,5 @@
 use Rattle.std.proofs.Common.{◌≡◌, ℕ, map, None}
-use Rattle.std.specs.BTreeMap.{keys}
-use Rattle.mq_ledger.specs.Day.{day_of}
-use Rattle.mq_ledger.specs.declared.zone.Zone.{Zone}
-use Rattle.mq_rows.specs.declared.audited.Pair.{Pair}
-use Rattle.mq_rows.specs.declared.books.Day.{Day}
-use Rattle.mq_rows.specs.Audit.{Figures, is_right}
-use Rattle.mq_rows.specs.Books.{AreBooksOf, least_wrong}
+use Rattle.mq_rows.proofs.Words.{AreBooksOf, Day, Figures, Pair, Zone, day_of, is_right, keys, least_wrong}
 use Rattle.mq_rows.proofs.auditing.Books.least_wrong.Given as goal
 
 -- with the pairs that are left, the least of all

@@ -1,8 +1,5 @@
 use Rattle.std.proofs.Common.{◌≡◌, ◌∙◌, ℤ, Bool, refl, arith, to_z, of_z, w64}
-use Rattle.std.proofs.lemmas.Int.{ints}
-use Rattle.mq_ledger.specs.Day.{day_of}
-use Rattle.mq_rows.specs.Audit.{is_moment_of}
-use Rattle.mq_rows.specs.declared.books.Sums.{Sums}
+use Rattle.mq_rows.proofs.Words.{Sums, day_of, ints, is_moment_of}
 use Rattle.mq_rows.proofs.books.Sums.with.Goals as goal
 
 abbrev sums : ℤ → ℤ → Bool → Sums

@@ -1,5 +1,5 @@
-use Rattle.std.proofs.Common.{◌≡◌, None}
-use Rattle.mq_ledger.specs.Leaving.{LeavesLedger}
+use Rattle.std.proofs.Common.{None, ◌≡◌}
+use Rattle.mq_server.proofs.Words.{LeavesLedger}
 use Rattle.mq_server.proofs.Advance.{Advances, AllAnswered}
 use Rattle.mq_server.proofs.connection.Connection.answer.Given as goal
 

@@ -1,4 +1,4 @@
-use Rattle.sqlite.specs.Held.{state}
+use Rattle.mq_store.proofs.Words.{state}
 use Rattle.mq_store.specs.Soundness.{book_in}
 use Rattle.mq_store.proofs.ledger.SqlLedger.audit.Goals as goal
 

@@ -1,7 +1,8 @@
-use Rattle.sqlite.specs.Held.{state}
-use Rattle.mq_ledger.specs.Legal.{Book}
-use Rattle.mq_store.specs.Taking.{HasBook}
-use Rattle.mq_store.proofs.Filling.{remembered_by, found_filled, found_filled_or}
+use Rattle.mq_store.proofs.Words.{state}
+use Rattle.mq_store.specs.Soundness.{book_in}
+use Rattle.mq_store.proofs.Filling.{found_filled, found_filled_or}
+use Rattle.mq_store.proofs.Renewals.{renewed}
+use Rattle.mq_store.proofs.Sound.{book_had}
 use Rattle.mq_store.proofs.ledger.SqlLedger.carry_over.Goals as goal
 
 pub returns-clause-remembered : goal.returns-clause-remembered
@@ -9,8 +10,8 @@ returns-clause-remembered g c = rw (← c.old.view_is) (λ clean clean_new sound
     let l = c.old.inside in
     let old = state g.T.Store l.connection in
     let new = state g.S.Store c.fill_store.new.into in
-    remembered_by (λ (b : Book) db (has : HasBook b db). c.tables_mean_their_book.ensures b has.has.tables db has.legal has.has.holds has.has.rows) l.zone l.default c.args.day old new (state g.S.Store c.args.connection).now
-    (record { clean = clean_new; is_open = c.in-Ok.ensures.open clean_new }) sound free (rw c.set_step_limit.ensures at (c.in-Ok.ensures.filled clean clean_new)))
+    renewed l.zone l.default c.args.day c.tables_mean_their_book.ensures old new (record { clean = clean_new; is_open = c.in-Ok.ensures.open clean_new })
+    ((rw c.set_step_limit.ensures at (c.in-Ok.ensures.filled clean clean_new)) (book_in l.zone l.default old.now).history (book_had l.zone l.default old sound) free))
 
 pub returns-clause-found_ok : goal.returns-clause-found_ok
 returns-clause-found_ok g c = rw (← c.old.view_is) (λ clean clean_new.

@@ -1,6 +1,5 @@
 use Rattle.std.proofs.Common.{ap, ◌∙◌}
-use Rattle.sqlite.specs.Held.{state}
-use Rattle.mq_rows.specs.declared.record.SettingRecord.{SettingRecord}
+use Rattle.mq_store.proofs.Words.{SettingRecord, state}
 use Rattle.mq_store.proofs.Sound.{sound_still}
 use Rattle.mq_store.proofs.ledger.SqlLedger.count_answers.Goals as goal
 

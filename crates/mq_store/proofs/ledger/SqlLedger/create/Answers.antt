@@ -1,7 +1,9 @@
-use Rattle.sqlite.specs.Held.{state}
+use Rattle.std.proofs.Common.{[]}
+use Rattle.mq_store.proofs.Words.{state}
 use Rattle.mq_store.specs.Opening.{made_with}
-use Rattle.mq_store.proofs.Recovery.{found_made, found_made_over}
-use Rattle.mq_store.proofs.Sound.{made_new}
+use Rattle.mq_store.specs.Taking.{book_of}
+use Rattle.mq_store.proofs.Recovery.{finds_book, found_made_over}
+use Rattle.mq_store.proofs.Sound.{made_new, new_book}
 use Rattle.mq_store.proofs.ledger.SqlLedger.create.Goals as goal
 
 pub returns-in-Ok-clause-sound : goal.returns-in-Ok-clause-sound
@@ -11,7 +13,8 @@ returns-in-Ok-clause-sound g c clean counters unnamed =
 
 pub returns-in-Ok-clause-found_ok : goal.returns-in-Ok-clause-found_ok
 returns-in-Ok-clause-found_ok g c clean counters unnamed =
-    found_made c.trees_have_one_schema.ensures c.args.zone c.args.default (state g.S.Store c.make_ledger.new.conn) (returns-in-Ok-clause-sound g c clean counters unnamed) (c.in-Ok.ensures.crash_ok clean)
+    let new = state g.S.Store c.make_ledger.new.conn in
+    finds_book c.trees_have_one_schema.ensures (book_of c.args.zone c.args.default []) new (new_book c.args.zone c.args.default new (returns-in-Ok-clause-sound g c clean counters unnamed)) (c.in-Ok.ensures.crash_ok clean)
 
 pub returns-in-Err-clause-found_err : goal.returns-in-Err-clause-found_err
 returns-in-Err-clause-found_err g c clean =

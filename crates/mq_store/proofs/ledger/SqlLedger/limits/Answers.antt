@@ -1,5 +1,4 @@
-use Rattle.sqlite.specs.Held.{state}
-use Rattle.mq_rows.specs.Figured.{figures}
+use Rattle.mq_store.proofs.Words.{figures, state}
 use Rattle.mq_store.proofs.Audits.{has_figures}
 use Rattle.mq_store.proofs.ledger.SqlLedger.limits.Goals as goal
 

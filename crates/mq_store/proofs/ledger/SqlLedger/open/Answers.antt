@@ -1,6 +1,7 @@
-use Rattle.sqlite.specs.Held.{state}
+use Rattle.mq_store.proofs.Words.{state}
 use Rattle.mq_store.specs.Opening.{IsFound}
-use Rattle.mq_store.proofs.Opened.{opens, opens_book, refuses, finds_opened, finds_refused, same_refused, spares_refused, leaves_refused}
+use Rattle.mq_store.specs.Soundness.{book_in}
+use Rattle.mq_store.proofs.OpenedBooks.{opens_book, refuses, finds_opened, finds_refused, same_refused, spares_refused, leaves_refused}
 use Rattle.mq_store.proofs.ledger.SqlLedger.open.Goals as goal
 
 pub returns-in-Ok-clause-rows : goal.returns-in-Ok-clause-rows
@@ -9,7 +10,7 @@ returns-in-Ok-clause-rows g c kept =
 
 pub returns-in-Ok-clause-sound : goal.returns-in-Ok-clause-sound
 returns-in-Ok-clause-sound g c kept =
-    opens c.args.zone c.args.default (state g.S.Store c.args.connection) (state g.S.Store c.open_store.new.connection) (returns-in-Ok-clause-rows g c kept)
+    record { opened = λ z d. returns-in-Ok-clause-rows g c kept (book_in z d (state g.S.Store c.args.connection).now) }
 
 pub returns-in-Ok-clause-found_ok : goal.returns-in-Ok-clause-found_ok
 returns-in-Ok-clause-found_ok g c kept =

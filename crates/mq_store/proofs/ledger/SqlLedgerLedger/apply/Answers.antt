@@ -1,10 +1,9 @@
 use Rattle.std.proofs.Common.{ap}
-use Rattle.sqlite.specs.Held.{state}
-use Rattle.mq_ledger.specs.Legal.{Book}
+use Rattle.mq_store.proofs.Words.{Book, state}
 use Rattle.mq_store.specs.Soundness.{book_in}
 use Rattle.mq_store.specs.Taking.{book_after}
 use Rattle.mq_store.proofs.Recovery.{found_new}
-use Rattle.mq_store.proofs.Sound.{book_had, sound_with}
+use Rattle.mq_store.proofs.Sound.{book_had, means_book, sound_book}
 use Rattle.mq_store.proofs.ledger.SqlLedgerLedger.apply.Goals as goal
 
 pub returns-in-Ok-clause-history : goal.returns-in-Ok-clause-history
@@ -13,16 +12,15 @@ returns-in-Ok-clause-history g c = rw (← c.self.view_is) (λ kept sound.
     let old = state g.S.Store l.connection in
     let H = (book_in l.zone l.default old.now).history in
     let over = (c.in-Ok.ensures.applied kept H (book_had l.zone l.default old sound)).1 in
-    ap (λ (b : Book). b.history) (c.tables_mean_their_book.ensures (book_after l.zone l.default H c.args.request.now) over.has.tables _ over.legal over.has.holds over.has.rows))
+    ap (λ (b : Book). b.history) (means_book c.tables_mean_their_book.ensures (book_after l.zone l.default H c.args.request.now) _ over))
 
 pub returns-in-Ok-clause-sound : goal.returns-in-Ok-clause-sound
 returns-in-Ok-clause-sound g c = rw (← c.self.view_is) (λ kept sound.
     let l = c.self.inside in
     let old = state g.S.Store l.connection in
     let H = (book_in l.zone l.default old.now).history in
-    let b : Book = book_after l.zone l.default H c.args.request.now in
     let over = (c.in-Ok.ensures.applied kept H (book_had l.zone l.default old sound)).1 in
-    sound_with b (state g.S.Store c.apply.new.connection) kept over (c.tables_mean_their_book.ensures b over.has.tables _ over.legal over.has.holds over.has.rows))
+    sound_book c.tables_mean_their_book.ensures (book_after l.zone l.default H c.args.request.now) (state g.S.Store c.apply.new.connection) kept over)
 
 pub returns-in-Ok-clause-crash_new : goal.returns-in-Ok-clause-crash_new
 returns-in-Ok-clause-crash_new g c = rw (← c.self.view_is) c.in-Ok.ensures.crash_new

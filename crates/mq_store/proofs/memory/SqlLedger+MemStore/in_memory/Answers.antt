@@ -1,7 +1,5 @@
-use Rattle.std.proofs.Common.{ap, sym, subst}
-use Rattle.sqlite.specs.Does.{lacks_sequence}
-use Rattle.sqlite.proofs.Callers.{memory_is_clean}
-use Rattle.mq_tables.specs.Making.{AreUnnamed}
+use Rattle.std.proofs.Common.{ap, subst, sym}
+use Rattle.mq_store.proofs.Words.{AreUnnamed, lacks_sequence, memory_is_clean}
 use Rattle.mq_store.proofs.memory.SqlLedger+MemStore.in_memory.Goals as goal
 
 pub returns-in-Ok-create-clause-new : goal.returns-in-Ok-create-clause-new

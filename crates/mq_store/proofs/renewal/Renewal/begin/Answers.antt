@@ -1,4 +1,5 @@
-use Rattle.mq_store.proofs.Renewals.{new_book, carried_none}
+use Rattle.mq_store.proofs.Renewals.{carried_none}
+use Rattle.mq_store.proofs.Sound.{new_book}
 use Rattle.mq_store.proofs.renewal.Renewal.begin.Goals as goal
 
 pub returns-in-Ok-create-clause-begun : goal.returns-in-Ok-create-clause-begun

@@ -1,7 +1,5 @@
-use Rattle.sqlite.specs.Held.{state}
-use Rattle.mq_ledger.specs.Legal.{Book}
+use Rattle.mq_store.proofs.Words.{state}
 use Rattle.mq_store.specs.Soundness.{book_in}
-use Rattle.mq_store.specs.Taking.{HasBook}
 use Rattle.mq_store.proofs.Renewals.{renewed}
 use Rattle.mq_store.proofs.Sound.{book_had, sound_still}
 use Rattle.mq_store.proofs.renewal.Renewal.go_on.Goals as goal
@@ -10,8 +8,7 @@ pub returns-clause-remembered : goal.returns-clause-remembered
 returns-clause-remembered g c = rw (← c.old.view_is, ← c.self.view_is) (λ through kept kept_made sound carried.
     let l = c.old.inside in
     let old = state g.T.Store l.connection in
-    renewed l.zone l.default _ (λ (b : Book) db (has : HasBook b db). c.tables_mean_their_book.ensures b has.has.tables db has.legal has.has.holds has.has.rows)
-    old (state g.S.Store c.renew_store.new.into) kept_made
+    renewed l.zone l.default _ c.tables_mean_their_book.ensures old (state g.S.Store c.renew_store.new.into) kept_made
     (c.in-Ok.ensures.ends kept kept_made through (book_in l.zone l.default old.now).history (book_had l.zone l.default old sound) carried))
 
 pub returns-clause-old_sound : goal.returns-clause-old_sound

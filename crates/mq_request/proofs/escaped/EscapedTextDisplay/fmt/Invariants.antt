@@ -1,7 +1,7 @@
 use Rattle.std.proofs.Common.{take}
 use Rattle.std.specs.Fmt.{HasWritten, IsPlainFormatter}
 use Rattle.mq_request.specs.Escaped.{escaped}
-use Rattle.mq_request.proofs.escaped.EscapedDisplay.fmt.Given as goal
+use Rattle.mq_request.proofs.escaped.EscapedTextDisplay.fmt.Given as goal
 
 -- the text of the bytes so far
 abbrev pub invariant-loop-byte : goal.invariant-loop-byte

@@ -1,5 +1,5 @@
 use Rattle.std.proofs.Common.{◌≡◌}
-use Rattle.mq_watch.proofs.watched.Watched.take.Goals as goal
+use Rattle.mq_watch.proofs.watched.WatchedLedger.take.Goals as goal
 
 pub returns-clause-put : goal.returns-clause-put
 returns-clause-put g c = λ not.

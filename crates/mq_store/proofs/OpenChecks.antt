@@ -1,23 +1,14 @@
 -- What is found of a store, one check after another, and what becomes of it.
-use Rattle.std.proofs.Common.{◌≡◌, inl, inr, true, false, nat_le, refl, sym, subst, ◌∙◌}
-use Rattle.std.specs.Prelude.{◌⊎◌, ℕ, Bool, Option, Some, None, Result, Ok, Err, IsTrue, IfOk, OnOk, IfErr}
-use Rattle.sqlite.specs.Effect.{Database}
-use Rattle.sqlite.specs.State.{State}
-use Rattle.sqlite.specs.Tree.{Trees}
-use Rattle.mq_ledger.specs.declared.zone.Zone.{Zone}
-use Rattle.mq_rows.specs.declared.audited.Audit.{Audit}
-use Rattle.mq_tables.specs.Ledger.{Since}
-use Rattle.mq_tables.specs.Indexing.{lacks_index, IsIndexed, AreIndexed}
-use Rattle.mq_tables.specs.Migrating.{IsMigrated, AreMigrated}
-use Rattle.mq_tables.specs.Reading.{Spares}
+use Rattle.std.proofs.Common.{Bool, Err, IfErr, IfOk, IsTrue, None, Ok, OnOk, Option, Result, Some, false, inl, inr, nat_le, refl, subst, sym, true, ℕ, ◌∙◌, ◌≡◌, ◌⊎◌}
+use Rattle.mq_store.proofs.Words.{AreIndexed, AreMigrated, Audit, Database, IsIndexed, IsMigrated, Since, Spares, State, Trees, Zone, lacks_index}
 use Rattle.mq_store.specs.declared.fault.OpenFault.{OpenFault}
-use Rattle.mq_store.specs.declared.fault.Refused.{Refused}
+use Rattle.mq_store.specs.declared.fault.Refusal.{Refusal}
 use Rattle.mq_store.specs.Auditing.{IsAuditIn}
 use Rattle.mq_store.specs.Opening.{IsStop, audit_fault, if_none, IsChecked, IsInTurn, IsKeptUp, IsBroughtUp, AreBroughtUp, IsLeftBehind, Opens, Refuses}
-use Rattle.mq_store.proofs.Faults.{spares_both}
+use Rattle.mq_store.proofs.Chain.{spares_both}
 
 -- an audit after a reading that wrote nothing is one of the rows before it
-checked : (zone : Zone) (default : ℕ) (old mid : State) (found : Result Audit Refused) → Spares old mid → OnOk found (IsTrue mid.is_open) → IfOk found (IsAuditIn zone default mid.now)
+checked : (zone : Zone) (default : ℕ) (old mid : State) (found : Result Audit Refusal) → Spares old mid → OnOk found (IsTrue mid.is_open) → IfOk found (IsAuditIn zone default mid.now)
     → IsChecked zone default old.now (audit_fault found)
 checked zone default old mid (Ok a) spares is_open is_audit = record { found = Ok a; is_audit = subst (λ db. IsAuditIn zone default db a) (spares.now is_open) is_audit; fault_is = refl }
 checked zone default old mid (Err e) spares is_open is_audit = record { found = Err e; is_audit = tt; fault_is = refl }
@@ -27,7 +18,7 @@ in_turn First Second version None first second = (first, second)
 in_turn First Second version (Some f) first second = inr (version, first, second)
 
 -- the settings are this ledger's, and after them the audit found this
-pub audited_behind : (zone : Zone) (default : ℕ) (old mid : State) (First : Result ℕ OpenFault → Type 0) (version : ℕ) (found : Result Audit Refused) (r : Result ℕ OpenFault) → r ≡ if_none version (audit_fault found) → First (Ok version)
+pub audited_behind : (zone : Zone) (default : ℕ) (old mid : State) (First : Result ℕ OpenFault → Type 0) (version : ℕ) (found : Result Audit Refusal) (r : Result ℕ OpenFault) → r ≡ if_none version (audit_fault found) → First (Ok version)
     → Spares old mid → OnOk found (IsTrue mid.is_open) → IfOk found (IsAuditIn zone default mid.now) → IsInTurn First (IsChecked zone default old.now) r
 audited_behind zone default old mid First version found r is first spares is_open is_audit =
     subst (IsInTurn First (IsChecked zone default old.now)) (sym is) (in_turn First (IsChecked zone default old.now) version (audit_fault found) first (checked zone default old mid found spares is_open is_audit))

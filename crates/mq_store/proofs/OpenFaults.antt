@@ -1,41 +1,28 @@
 -- The fault of what was read of our rows.
-use Rattle.std.proofs.Common.{◌≡◌, inl, inr, ℕ, true, false, List, Option, Some, None, Result, Ok, Err, refl, ap, sym, subst, ◌∙◌}
-use Rattle.std.specs.Prelude.{Vec, OnOk, IsTrue}
-use Rattle.std.specs.declared.alloc.Global.{Global}
+use Rattle.std.proofs.Common.{Err, Global, IsTrue, List, None, Ok, OnOk, Option, Result, Some, Vec, ap, inl, inr, refl, subst, sym, ℕ, ◌∙◌, ◌≡◌}
+use Rattle.mq_store.proofs.Words.{AreFloorsRead, Database, HasRule, Held, IsRuleOf, IsRuleRead, Row, Schema, Setting, SettingRow, Spares, State, Zone, shown_of, state}
 use Rattle.sqlite_trees.specs.declared.store.Store.{Ghosts}
-use Rattle.sqlite.specs.Effect.{Database}
-use Rattle.sqlite.specs.Held.{Held, state}
-use Rattle.sqlite.specs.Order.{Row}
-use Rattle.sqlite.specs.Schema.{Schema}
-use Rattle.sqlite.specs.State.{State}
 use Rattle.sqlite.specs.declared.error.Error.{Error}
 use Rattle.sqlite_trees.specs.declared.error.StoreError.TheVariants.{OutOfMemory, Io, Corrupt, Full, Broken, Unstorable}
-use Rattle.mq_ledger.specs.declared.zone.Zone.{Zone}
-use Rattle.mq_tables.specs.declared.setting.Setting.{Setting}
 use Rattle.mq_tables.specs.Floors.{AreFloorsOf}
-use Rattle.mq_tables.specs.Ledger.{HasRule}
-use Rattle.mq_tables.specs.Making.{has_later_table}
-use Rattle.mq_tables.specs.Settings.{SettingRow, IsRuleOf, shown_of}
 use Rattle.mq_tables.specs.Settings as settings
-use Rattle.mq_tables.specs.Reading.{IsRuleRead, AreFloorsRead, Spares}
 use Rattle.mq_store.specs.declared.fault.OpenFault.{OpenFault}
-use Rattle.mq_store.specs.declared.fault.OpenFault.TheVariants.{NotOurs}
-use Rattle.mq_store.specs.Opening.{fault_of, fault_in, fault_by_rule, fault_by_any_rule, fault_by_floors, if_none, known_version, IsJudgedCurrent, IsRuled, IsFaultOf, IsStopped, IsOf}
+use Rattle.mq_store.specs.Opening.{fault_of, fault_in, fault_by_rule, fault_by_any_rule, fault_by_floors, IsJudgedCurrent, IsRuled, IsFaultOf, IsStop, IsOf}
 
 -- memory or the disk stopped the reading
-pub of_store : (zone : Zone) (default : ℕ) (s : SettingRow) (rule : Option (List ℕ)) (e : Error) → settings.IsStop e → IsFaultOf zone default s rule (Some (fault_of e))
-of_store zone default s rule e (OutOfMemory, is) = rw is (inr tt)
-of_store zone default s rule e (Io, is) = rw is (inr tt)
-of_store zone default s rule e (Corrupt, is) = rw is (inr tt)
-of_store zone default s rule e (Full, is) = rw is (inr tt)
-of_store zone default s rule e (Broken, is) = rw is (inr tt)
-of_store zone default s rule e (Unstorable, is) = rw is (inr tt)
+stops : (zone : Zone) (default : ℕ) (setting : Setting) (e : Error) → settings.IsStop e → IsStop (fault_of e) × (fault_by_any_rule zone default setting (Err e) ≡ Some (fault_of e))
+stops zone default setting e (OutOfMemory, is) = rw is (tt, refl)
+stops zone default setting e (Io, is) = rw is (tt, refl)
+stops zone default setting e (Corrupt, is) = rw is (tt, refl)
+stops zone default setting e (Full, is) = rw is (tt, refl)
+stops zone default setting e (Broken, is) = rw is (tt, refl)
+stops zone default setting e (Unstorable, is) = rw is (tt, refl)
 
 module _ (zone : Zone) (default : ℕ) (s : SettingRow) (setting : Setting) (shown : shown_of s ≡ setting) where
   -- the settings were read, and then the row of the rule, which there is
   pub of_rule : (text : List ℕ) (read : Result Row Error) → IsRuleOf (Some text) read → IsFaultOf zone default s (Some text) (fault_by_rule zone default setting read)
   of_rule text (Ok row) is = inl (ap (λ r. fault_by_rule zone default setting (Ok r)) is ∙ ap (λ x. fault_in zone default x (Some text)) (sym shown))
-  of_rule text (Err e) stopped = of_store zone default s (Some text) e stopped
+  of_rule text (Err e) stopped = inr (stops zone default setting e stopped).0
 
   pub of_ruled : (db : Database) (rule : Option (List ℕ)) (read : Result Row Error) → IsRuled db rule → ((known : Option (List ℕ)) → HasRule db known → IsRuleOf known read) → IsFaultOf zone default s rule (fault_by_rule zone default setting read)
   of_ruled db None read has is = absurd has
@@ -43,12 +30,7 @@ module _ (zone : Zone) (default : ℕ) (s : SettingRow) (setting : Setting) (sho
 
   -- the same where there may be none
   stopped_any : (rule : Option (List ℕ)) (e : Error) → settings.IsStop e → IsFaultOf zone default s rule (fault_by_any_rule zone default setting (Err e))
-  stopped_any rule e (OutOfMemory, is) = rw is (inr tt)
-  stopped_any rule e (Io, is) = rw is (inr tt)
-  stopped_any rule e (Corrupt, is) = rw is (inr tt)
-  stopped_any rule e (Full, is) = rw is (inr tt)
-  stopped_any rule e (Broken, is) = rw is (inr tt)
-  stopped_any rule e (Unstorable, is) = rw is (inr tt)
+  stopped_any rule e stopped = (let so = stops zone default setting e stopped in subst (IsFaultOf zone default s rule) (sym so.1) (inr so.0))
 
   pub of_any_rule : (rule : Option (List ℕ)) (read : Result Row Error) → IsRuleOf rule read → IsFaultOf zone default s rule (fault_by_any_rule zone default setting read)
   of_any_rule None (Ok row) is = absurd is
@@ -60,7 +42,7 @@ module _ (zone : Zone) (default : ℕ) (s : SettingRow) (setting : Setting) (sho
 -- a fault that was found in the floors stopped the reading
 pub of_floors : (zone : Zone) (default : ℕ) (s : SettingRow) (rule : Option (List ℕ)) (read : Result (Vec Row Global) Error) (f : OpenFault) → AreFloorsOf read → fault_by_floors read ≡ Some f → IsFaultOf zone default s rule (Some f)
 of_floors zone default s rule (Ok rows) f are is = absurd (let none : fault_by_floors (Ok rows) ≡ None = rw are refl in let both : ◌≡◌ {A = Option OpenFault} None (Some f) = sym none ∙ is in cc)
-of_floors zone default s rule (Err e) f stopped is = subst (IsFaultOf zone default s rule) is (of_store zone default s rule e stopped)
+of_floors zone default s rule (Err e) f stopped is = subst (IsFaultOf zone default s rule) is (inr (stops zone default (shown_of s) e stopped).0)
 
 -- what was judged after the floors
 module _ {S : Type 0} (g : Ghosts S) (zone : Zone) (default : ℕ) (s : Setting) where
@@ -88,37 +70,6 @@ pub read_none : (s : SettingRow) (found : Option Setting) → settings.IsOf s (O
 read_none s found (inl is) none = absurd cc
 read_none s found (inr stopped) none = absurd stopped
 
-stops : (e : Error) → settings.IsStop e → IsStopped (Err (fault_of e))
-stops e (OutOfMemory, is) = rw is tt
-stops e (Io, is) = rw is tt
-stops e (Corrupt, is) = rw is tt
-stops e (Full, is) = rw is tt
-stops e (Broken, is) = rw is tt
-stops e (Unstorable, is) = rw is tt
-
 pub read_err : (zone : Zone) (default : ℕ) (schema : Schema) (s : SettingRow) (rule : Option (List ℕ)) (e : Error) → settings.IsOf s (Err e) → IsOf zone default schema s rule (Err (fault_of e))
 read_err zone default schema s rule e (inl is) = absurd cc
-read_err zone default schema s rule e (inr stopped) = inr (stops e stopped)
-
--- ---- by the version
-
-pub of_known : (zone : Zone) (default : ℕ) (schema : Schema) (s : SettingRow) (rule : Option (List ℕ)) (version : ℕ) (fault : Option OpenFault) → known_version s.version ≡ Some version → has_later_table version schema ≡ false → IsFaultOf zone default s rule fault
-    → IsOf zone default schema s rule (if_none version fault)
-of_known zone default schema s rule version fault known free (inl is) = inl (ap (if_none version) is ∙ rw (known, free) refl)
-of_known zone default schema s rule version (Some f) known free (inr stopped) = inr stopped
-of_known zone default schema s rule version None known free (inr stopped) = absurd stopped
-
-pub of_later : (zone : Zone) (default : ℕ) (schema : Schema) (s : SettingRow) (rule : Option (List ℕ)) (version : ℕ) → known_version s.version ≡ Some version → has_later_table version schema ≡ true → IsOf zone default schema s rule (Err NotOurs)
-of_later zone default schema s rule version known taken = inl (rw (known, taken) refl)
-
-pub of_unknown : (zone : Zone) (default : ℕ) (schema : Schema) (s : SettingRow) (rule : Option (List ℕ)) → known_version s.version ≡ None → IsOf zone default schema s rule (Err NotOurs)
-of_unknown zone default schema s rule unknown = inl (rw unknown refl)
-
--- one reading after another
-pub spares_both : (a b c : State) → Spares a b → Spares b c → Spares a c
-spares_both a b c p q = record {
-  was_open = λ o. p.was_open (q.was_open o);
-  now = λ o. q.now o ∙ p.now (q.was_open o);
-  committed = λ o. q.committed o ∙ p.committed (q.was_open o);
-  crash = λ db may. p.crash db (q.crash db may);
-}
+read_err zone default schema s rule e (inr stopped) = inr (stops zone default (shown_of s) e stopped).0

@@ -1,52 +1,33 @@
 -- What becomes of a store that holds the rows of a history, in whatever version, where it is opened.
-use Rattle.std.proofs.Common.{◌≡◌, ◌⊎◌, inl, inr, ℕ, ℤ, pos, ◌==◌, nat_le, true≢false, Option, Ok, Err, Result, List, Bool, true, false, Some, None, refl, sym, ap, ap₂, subst, ◌∙◌}
-use Rattle.std.proofs.lemmas.Bool.{eqb-true}
+use Rattle.std.proofs.Common.{Bool, Err, IfOk, IsTrue, List, None, Ok, Option, Result, Some, ap, ap₂, eqb-true, false, if◌then◌else◌, inl, inr, int_eq, nat_le, pos, refl, subst, sym, true, true≢false, ℕ, ℤ, ◌&&◌, ◌==◌, ◌∙◌, ◌≡◌, ◌⊎◌}
+use Rattle.mq_store.proofs.Words.{AreRows, Audit, Book, ByOffset, ByRule, Database, Entry, HasLedger, HasRule, IsDatabase, IsIndexed, IsLegalBook, IsMigrated, Schema, Setting, SettingRecord, SettingRow, Since, Sound, Spares, State, Tables, Trees, Wrong, Zone, has_later_table, is_version, migrated, minutes_in, older_version, or_cases, rule_in, setting_in, shown_of}
 use Rattle.std.proofs.lemmas.Slice.Eq.{bytes_eq-Decides}
-use Rattle.std.specs.Prelude.{◌&&◌, ◌||◌, if◌then◌else◌, IfOk, IsTrue}
-use Rattle.std.specs.Ordering.{int_eq}
 use Rattle.std.specs.Cmp.{signed_Decides}
-use Rattle.sqlite.specs.Effect.{Database, IsDatabase}
-use Rattle.sqlite.specs.Schema.{Schema}
-use Rattle.sqlite.specs.State.{State}
-use Rattle.sqlite.specs.Tree.{Trees}
-use Rattle.mq_ledger.specs.declared.entry.Entry.{Entry}
-use Rattle.mq_ledger.specs.declared.zone.Zone.{Zone}
-use Rattle.mq_ledger.specs.Day.{ByOffset, ByRule, minutes_in, rule_in}
-use Rattle.mq_ledger.specs.Legal.{Book, IsLegalBook}
-use Rattle.mq_rows.specs.declared.audited.Audit.{Audit}
-use Rattle.mq_rows.specs.declared.audited.Audit.TheVariants.{Sound, Wrong}
-use Rattle.mq_rows.specs.declared.record.SettingRecord.{SettingRecord}
-use Rattle.mq_rows.specs.Rows.{is_version, older_version}
-use Rattle.mq_rows.specs.Tables.{Tables, AreRows}
-use Rattle.mq_tables.specs.Ledger.{HasLedger, HasRule, Since, setting_in}
-use Rattle.mq_tables.specs.Making.{has_later_table}
-use Rattle.mq_tables.specs.Indexing.{IsIndexed}
-use Rattle.mq_tables.specs.Migrating.{IsMigrated, migrated}
-use Rattle.mq_tables.specs.Reading.{Spares}
-use Rattle.mq_tables.specs.declared.setting.Setting.{Setting}
-use Rattle.mq_tables.specs.Settings.{SettingRow, shown_of}
 use Rattle.mq_tables.proofs.Changes.{is_since}
 use Rattle.mq_store.specs.declared.fault.OpenFault.{OpenFault}
 use Rattle.mq_store.specs.declared.fault.OpenFault.TheVariants.{NotOurs, ZoneDiffers, DefaultDiffers, Memory, Store}
-use Rattle.mq_store.specs.declared.fault.Refused.{Refused}
-use Rattle.mq_store.specs.declared.fault.Refused.TheVariants as stop
+use Rattle.mq_store.specs.declared.fault.Refusal.{Refusal}
 use Rattle.mq_store.specs.Auditing.{IsAuditIn, IsRightAnswer}
 use Rattle.mq_store.specs.Crash.{LeavesBy, FindsOnly, FindsOpened}
 use Rattle.mq_store.specs.Opening.{fault_in, same_rule, audit_fault, known_version, judged_as, if_none, HasCurrent, HoldsKnown, HasSettings, IsStop, IsOf, IsFoundOf, IsKeptUp, IsBroughtUp, AreBroughtUp, Opens, Refuses}
 use Rattle.mq_store.specs.Taking.{HasBook, book_of}
-use Rattle.mq_store.specs.Soundness.{book_in, HasKept, HasStored, IsSound, MeansBook, IsOpened}
-use Rattle.mq_store.proofs.Sound.{sound_with}
-use Rattle.mq_store.proofs.Versions.{not_since}
+use Rattle.mq_store.specs.Soundness.{book_in, HasKept, HasStored, IsSound, MeansBook}
+use Rattle.mq_store.specs.declared.fault.Refusal.TheVariants as stop
+use Rattle.mq_store.proofs.Recovery.{AreOne, book_again, finds_book}
+use Rattle.mq_store.proofs.Sound.{Means, means_book, sound_book}
 
 -- ---- the version
 
+-- what held before some version
+not_since : (Now Before : Type 0) (b : Bool) → b ≡ false → Since b Now Before → Before
+not_since Now Before true e h = absurd cc
+not_since Now Before false e h = h
+
 versions : (z : Zone) (v : ℕ) → is_version z v ≡ true → (v ≡ 3) ⊎ (v ≡ older_version z)
-versions z v h = go (v == 3) (v == older_version z) refl refl h
-  where
-    go : (a b : Bool) → (v == 3) ≡ a → (v == older_version z) ≡ b → (a || b) ≡ true → (v ≡ 3) ⊎ (v ≡ older_version z)
-    go true b p q e = inl (eqb-true v 3 p)
-    go false true p q e = inr (eqb-true v (older_version z) q)
-    go false false p q e = absurd cc
+versions z v h = elim (or_cases (v == 3) (v == older_version z) h) [
+  | inl current ↦ inl (eqb-true v 3 current)
+  | inr older ↦ inr (eqb-true v (older_version z) older)
+]
 
 older_is : (z : Zone) → nat_le 3 (older_version z) ≡ false
 older_is (ByOffset minutes) = refl
@@ -61,6 +42,11 @@ known_is z v h = elim (versions z v h) [
   | inl current ↦ subst (λ k. known_version (pos k) ≡ Some k) (sym current) refl
   | inr older ↦ subst (λ k. known_version (pos k) ≡ Some k) (sym older) (known_older z)
 ]
+
+-- nothing was found against the version
+found_none : (version n : ℕ) (fault : Option OpenFault) → Ok version ≡ if_none n fault → (version ≡ n) × (fault ≡ None)
+found_none version n None e = ((let same : ◌≡◌ {A = Result ℕ OpenFault} (Ok version) (Ok n) = e in cc), refl)
+found_none version n (Some f) e = absurd cc
 
 -- ---- the row of settings agrees
 
@@ -139,10 +125,6 @@ module _ (b : Book) (db : Database) (has : HasStored b db) where
   judged_is : (zone : Zone) (default : ℕ) → judged_as (known_version (pos v)) zone default db.schema (shown_of (setting_in t.setting)) (rule_in b.zone) ≡ if_none v (fault_of_book zone default b)
   judged_is zone default = rw (known_is b.zone v has.rows.setting.version, free) (ap (if_none v) (fault_is zone default))
 
-  found_none : (version n : ℕ) (fault : Option OpenFault) → Ok version ≡ if_none n fault → (version ≡ n) × (fault ≡ None)
-  found_none version n None e = ((let same : ◌≡◌ {A = Result ℕ OpenFault} (Ok version) (Ok n) = e in cc), refl)
-  found_none version n (Some f) e = absurd cc
-
   -- what was found is the version, and the zone and the default are the book's
   found_as : (zone : Zone) (default version : ℕ) → IsOf zone default db.schema (setting_in t.setting) (rule_in b.zone) (Ok version) → (version ≡ v) × (b.zone ≡ zone) × (b.default ≡ default)
   found_as zone default version (inl e) = let it = found_none version v (fault_of_book zone default b) (e ∙ judged_is zone default) in let same = agrees zone default b it.1 in (it.0, same.0, same.1)
@@ -172,16 +154,13 @@ module _ (b : Book) (db : Database) (has : HasStored b db) where
   kept_book new current same = record { legal = has.legal; has = record { tables = t; holds = subst (λ x. HasLedger x t) (sym same) has.holds; rows = has.rows; current = current } }
 
 -- so is each database whose trees are what was to be written
-module _ (one : (a b : Database) → IsDatabase a → IsDatabase b → a.trees ≡ b.trees → a ≡ b) (b : Book) (old db : Database) (has : HasStored b old) (sound : IsDatabase db) where
-  again_book : (made : Database) → made.trees ≡ db.trees → HasBook b made → HasBook b db
-  again_book made same there = subst (HasBook b) (one made db there.has.holds.sound sound same) there
-
+module _ (one : AreOne) (b : Book) (old db : Database) (has : HasStored b old) (sound : IsDatabase db) where
   pub written_book : AreBroughtUp has.tables.setting.version old db.trees → HasBook b db
   written_book up = elim (versions b.zone has.tables.setting.version has.rows.setting.version) [
-    | inl current ↦ (let made = is_since _ _ (nat_le 3 has.tables.setting.version) (ap (nat_le 3) current) up in again_book made.new made.trees_are (indexed_book b old has made.new current made.made))
+    | inl current ↦ (let made = is_since _ _ (nat_le 3 has.tables.setting.version) (ap (nat_le 3) current) up in book_again one b made.new db sound made.trees_are (indexed_book b old has made.new current made.made))
     | inr older ↦ (let below = ap (nat_le 3) older ∙ older_is b.zone in
         let made = not_since _ _ (nat_le 3 has.tables.setting.version) below up in
-        again_book made.new made.trees_are (migrated_book b old has made.new below made.made))
+        book_again one b made.new db sound made.trees_are (migrated_book b old has made.new below made.made))
   ]
 
 module _ (b : Book) (old new : State) (has : HasStored b old.now) where
@@ -197,9 +176,6 @@ module _ (b : Book) (old new : State) (has : HasStored b old.now) where
     | inr older ↦ (let below = ap (nat_le 3) older ∙ older_is b.zone in migrated_book b old.now has new.now below (not_since _ _ (nat_le 3 v') below up).0)
   ]
 
-abbrev pub Means : Type 0
-Means = (b : Book) (t : Tables) (db : Database) → IsLegalBook b → HasLedger db t → AreRows b t → book_in b.zone b.default db ≡ b
-
 module _ (zone : Zone) (default : ℕ) (old new : State) (exact : (s : SettingRow) (rule : Option (List ℕ)) → HasSettings old.now s rule → Opens (IsFoundOf zone default old.now s rule) old new) where
   -- the version that was found is that of the rows
   found_of : (b : Book) (has : HasStored b old.now) → (b.zone ≡ zone) × (b.default ≡ default) × IsBroughtUp has.tables.setting.version old new
@@ -212,37 +188,30 @@ module _ (zone : Zone) (default : ℕ) (old new : State) (exact : (s : SettingRo
   opens_book meaning kept b has =
       let it = found_of b has in
       let there = brought_book b old new has kept.is_open it.2 in
-      let means : book_in b.zone b.default new.now ≡ b = meaning b there.has.tables new.now there.legal there.has.holds there.has.rows in
-      let zoned : IsSound zone b.default new = subst (λ k. IsSound k b.default new) it.0 (sound_with b new kept there means) in
-      (it.0, it.1, subst (λ k. IsSound zone k new) it.1 zoned, ap₂ (λ k n. book_in k n new.now) (sym it.0) (sym it.1) ∙ means)
+      let zoned : IsSound zone b.default new = subst (λ k. IsSound k b.default new) it.0 (sound_book meaning b new kept there) in
+      (it.0, it.1, subst (λ k. IsSound zone k new) it.1 zoned, ap₂ (λ k n. book_in k n new.now) (sym it.0) (sym it.1) ∙ means_book meaning b new.now there)
 
-  pub finds_opened : ((a b : Database) → IsDatabase a → IsDatabase b → a.trees ≡ b.trees → a ≡ b) → HasKept new → FindsOpened old new
+  pub finds_opened : AreOne → HasKept new → FindsOpened old new
   finds_opened one kept b has =
       let it = found_of b has in
       let there = brought_book b old new has kept.is_open it.2 in
       go there (nat_le 3 has.tables.setting.version) it.2
     where
-      again : HasBook b new.now → ((db : Trees) → new.may_leave db → db ≡ new.now.trees) → FindsOnly new (HasBook b)
-      again there leaves = λ db sound left. subst (HasBook b) (one new.now db there.has.holds.sound sound (sym (leaves db.trees left))) there
-
       kept_up : HasBook b new.now → IsKeptUp old new → FindsOnly new (λ db. old.may_leave db.trees ⊎ HasBook b db)
       kept_up there (inl left) = λ db sound may. inl (left.0.crash db.trees may)
-      kept_up there (inr made) = λ db sound may. inr (again there made.2 db sound may)
+      kept_up there (inr made) = λ db sound may. inr (finds_book one b new there made.2 db sound may)
 
       go : HasBook b new.now → (is : Bool) → Since is (IsKeptUp old new) (IsMigrated (nat_le 2 has.tables.setting.version) old.now new.now × ((db : Trees) → new.may_leave db → db ≡ new.now.trees))
           → Since is (FindsOnly new (λ db. old.may_leave db.trees ⊎ HasBook b db)) (FindsOnly new (HasBook b))
       go there true up = kept_up there up
-      go there false up = again there up.1
-
-pub opens : (zone : Zone) (default : ℕ) (old new : State) → MeansBook zone default old.now new → IsOpened zone default old new
-opens zone default old new means = record { opened = λ z d has. means (book_in z d old.now) has }
+      go there false up = finds_book one b new there up.1
 
 -- ---- what refuses such rows
 
 abbrev pub AreRight : Type 0
 AreRight = (b : Book) (t : Tables) (db : Database) (a : Audit) → IsLegalBook b → HasLedger db t → AreRows b t → IsAuditIn b.zone b.default db a → IsRightAnswer a
 
-stopped_audit : (b : Book) (db : Database) (f : OpenFault) (found : Result Audit Refused) → AreRight → HasStored b db → IfOk found (IsAuditIn b.zone b.default db) → Some f ≡ audit_fault found → IsStop f
+stopped_audit : (b : Book) (db : Database) (f : OpenFault) (found : Result Audit Refusal) → AreRight → HasStored b db → IfOk found (IsAuditIn b.zone b.default db) → Some f ≡ audit_fault found → IsStop f
 stopped_audit b db f (Ok (Sound days transactions)) right has is_audit is = absurd cc
 stopped_audit b db f (Ok (Wrong login day)) right has is_audit is = absurd (right b has.tables db (Wrong login day) has.legal has.holds has.rows is_audit)
 stopped_audit b db f (Err stop.Memory) right has is_audit is = (let same : f ≡ Memory = cc in subst IsStop (sym same) tt)
@@ -259,7 +228,7 @@ module _ (zone : Zone) (default : ℕ) (old new : State) (f : OpenFault) (exact 
         | inr left ↦ left.2.fault
       ]
 
-  pub finds_refused : ((a b : Database) → IsDatabase a → IsDatabase b → a.trees ≡ b.trees → a ≡ b) → (b : Book) → HasStored b old.now → FindsOnly new (λ db. old.may_leave db.trees ⊎ HasBook b db)
+  pub finds_refused : AreOne → (b : Book) → HasStored b old.now → FindsOnly new (λ db. old.may_leave db.trees ⊎ HasBook b db)
   finds_refused one b has = λ db sound left.
       elim (exact _ _ (settings_had b old.now has)) [
         | inl found ↦ inl (found.1.crash db.trees left)
@@ -282,17 +251,13 @@ module _ (old new : State) (f : OpenFault) (Found : Result ℕ OpenFault → Typ
 
 -- ---- what a refusal leaves where the settings are of this version
 
-of_version : (version n : ℕ) (fault : Option OpenFault) → Ok version ≡ if_none n fault → n ≡ version
-of_version version n None e = (let same : ◌≡◌ {A = Result ℕ OpenFault} (Ok version) (Ok n) = e in let is : version ≡ n = cc in sym is)
-of_version version n (Some f) e = absurd cc
-
 known_of : (k : Option ℕ) (zone : Zone) (default : ℕ) (schema : Schema) (s : Setting) (rule : Option (List ℕ)) (version : ℕ) → Ok version ≡ judged_as k zone default schema s rule → k ≡ Some version
 known_of None zone default schema s rule version e = absurd cc
 known_of (Some n) zone default schema s rule version e = go (has_later_table n schema) e
   where
     go : (later : Bool) → Ok version ≡ (if later then Err NotOurs else if_none n (fault_in zone default s rule)) → Some n ≡ Some version
     go true e = absurd cc
-    go false e = ap Some (of_version version n (fault_in zone default s rule) e)
+    go false e = ap Some (sym (found_none version n (fault_in zone default s rule) e).0)
 
 -- the version that was judged is that of the settings
 known_as : (zone : Zone) (default : ℕ) (schema : Schema) (s : SettingRow) (rule : Option (List ℕ)) (version : ℕ) → IsOf zone default schema s rule (Ok version) → known_version s.version ≡ Some version
@@ -316,8 +281,3 @@ module _ (old new : State) (f : OpenFault) (Found : Result ℕ OpenFault → Typ
 pub leaves_refused : (zone : Zone) (default : ℕ) (old new : State) (f : OpenFault) (s : SettingRow) (rule : Option (List ℕ)) → Refuses (IsFoundOf zone default old.now s rule) old new f → LeavesBy (known_version s.version) old new
 leaves_refused zone default old new f s rule refused =
     by_version old new f (IsFoundOf zone default old.now s rule) refused (known_version s.version) (λ version found. known_as zone default old.now.schema s rule version found.0)
-
--- a store that was left alone leaves what it left before
-pub leaves_same : (k : Option ℕ) (s : State) → LeavesBy k s s
-leaves_same None s = λ db left. left
-leaves_same (Some n) s = λ db left. inl left

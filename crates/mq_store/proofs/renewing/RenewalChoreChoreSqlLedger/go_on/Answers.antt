@@ -1,13 +1,10 @@
-use Rattle.std.proofs.Common.{◌≡◌, sym, subst, rules, None}
-use Rattle.sqlite.specs.Effect.{Database}
-use Rattle.sqlite.specs.Held.{state}
-use Rattle.sqlite.specs.Steps.{over_memory}
-use Rattle.mq_ledger.specs.Legal.{Book}
+use Rattle.std.proofs.Common.{None, rules, subst, sym, ◌≡◌}
+use Rattle.mq_store.proofs.Words.{Book, Database, over_memory, state}
 use Rattle.mq_store.specs.Renewing.{HasCarried}
 use Rattle.mq_store.specs.Soundness.{book_in}
 use Rattle.mq_store.proofs.Beside.{carried_since, carried_later, done_later, same_book}
 use Rattle.mq_store.proofs.Sound.{book_had}
-use Rattle.mq_store.proofs.renewing.RenewingChoreSqlLedger.go_on.Goals as goal
+use Rattle.mq_store.proofs.renewing.RenewalChoreChoreSqlLedger.go_on.Goals as goal
 
 pub returns-in-Ok-clause-fits : goal.returns-in-Ok-clause-fits
 returns-in-Ok-clause-fits g c = λ kept sound f none kept_made.

@@ -1,32 +1,14 @@
 -- The rows of answers and of transactions, read one by one, and the entries of a history one after another.
-use Rattle.std.proofs.Common.{◌≡◌, ℕ, suc, ◌+◌, ◌<◌, List, [], ◌∷◌, ◌++◌, length, get_or, take, drop, map, filter, Bool, true, false, refl, ◌∙◌, ap, sym, subst, inl, inr, arith, add-one, drop-cons}
-use Rattle.std.specs.Prelude.{Option, Some, None, All, if◌then◌else◌}
-use Rattle.std.specs.List.{AllByRecursion, enumerate_from}
-use Rattle.std.proofs.lemmas.List.{get_or_default, map-append, take-append-drop, take_more}
-use Rattle.sqlite_rules.specs.Lists.{Has}
-use Rattle.mq_request.specs.declared.message.Id.{Id}
-use Rattle.mq_request.specs.declared.message.Request.{Request}
-use Rattle.mq_request.specs.declared.message.Request.TheVariants.{Reserve, Settle, Release, Limit, Usage, List as ListRequest, Retire}
-use Rattle.mq_request.specs.declared.message.Reply.{Reply}
-use Rattle.mq_request.specs.declared.message.Reply.TheVariants.{Retry}
-use Rattle.mq_request.specs.Range.{IsRequest, IsReply}
+use Rattle.std.proofs.Common.{All, Bool, List, None, Option, Some, [], add-one, ap, arith, drop, drop-cons, false, get_or, if◌then◌else◌, inl, inr, length, map, refl, subst, suc, sym, take, take-append-drop, true, ℕ, ◌++◌, ◌+◌, ◌<◌, ◌∙◌, ◌∷◌, ◌≡◌}
+use Rattle.mq_store.proofs.Words.{AnswerRecord, AreTransactions, Entry, Has, Id, IsLegal, IsOneOf, IsReply, IsRequest, Limit, Release, Reply, Request, Reserve, Retire, Retry, Settle, Transaction, TransactionRecord, Usage, answer, answer_row, answer_rows, day_named, enumerate_from, filter_none, get_or_default, history_of, id_of, is_below, is_transaction, known_by, map-append, moment_of, named, number_of, reply, reply_by, reply_to, requests, take_more, those, transaction_of, transaction_row}
 use Rattle.mq_frame.specs.Spelling.{SpellsRequest, SpellsReply, reply_body}
-use Rattle.mq_ledger.specs.declared.entry.Entry.{Entry}
-use Rattle.mq_ledger.specs.Answer.{answer, history_of, known_by, reply, reply_to, reply_by}
-use Rattle.mq_ledger.specs.Arrivals.{id_of, is_below}
-use Rattle.mq_ledger.specs.History.{Transaction, requests, named}
-use Rattle.mq_ledger.specs.Legal.{IsLegal}
-use Rattle.mq_rows.specs.declared.record.AnswerRecord.{AnswerRecord}
-use Rattle.mq_rows.specs.declared.record.TransactionRecord.{TransactionRecord}
-use Rattle.mq_rows.specs.Rows.{answer_row, answer_rows, number_of, transaction_row, transaction_of, is_transaction, moment_of}
-use Rattle.mq_rows.specs.Tables.{AreTransactions, those}
-use Rattle.mq_forget.specs.Remembered.{day_named, moment_of as moment_in}
 use Rattle.mq_forget.specs.Carried.{IsAt}
 use Rattle.mq_tables.specs.declared.entry.Bodies.{Bodies}
 use Rattle.mq_tables.specs.Entries.{AreBodiesAt}
-use Rattle.mq_tables.specs.Records.{IsOneOf}
+use Rattle.mq_request.specs.declared.message.Request.TheVariants.{List as ListRequest}
+use Rattle.mq_forget.specs.Remembered.{moment_of as moment_in}
 use Rattle.mq_store.specs.Carrying.{day_by, SpellsWhereKnown, IsWhereKnown, IsAnswered}
-use Rattle.mq_store.proofs.Firsts.{not_below, not_stored}
+use Rattle.mq_store.proofs.KnownNumbers.{not_known}
 use Rattle.mq_store.proofs.Keyed.{has_filtered}
 
 -- Answers.
@@ -73,10 +55,6 @@ entry_is one_request one_reply H answers place b r o requests_in replies_in rows
 
 -- Transactions.
 
-none_left : {R : Type 0} (p : R → Bool) (rows : List R) → AllByRecursion (λ r. p r ≡ false) rows → filter p rows ≡ []
-none_left p [] all = refl
-none_left p (r ∷ rows) all = rw all.0 (none_left p rows all.1)
-
 same_moment : (r : Request) → moment_of r ≡ moment_in r
 same_moment (Reserve id txn moment login count) = refl
 same_moment (Settle id txn moment login count) = refl
@@ -100,7 +78,7 @@ named_day day H t moment row (Some e) h there =
     ]
 
 pub day_is : (day : ℕ → ℕ) (H : List Entry) (rows : List TransactionRecord) (t : Transaction) (moment : ℕ) (found : Option TransactionRecord) → AreTransactions day H rows → IsOneOf (is_transaction t) rows found → day_by day moment found ≡ day_named day moment (named H t)
-day_is day H rows t moment None are none = unnamed_day day H t moment (named H t) refl (sym (are t) ∙ none_left (is_transaction t) rows none)
+day_is day H rows t moment None are none = unnamed_day day H t moment (named H t) refl (sym (are t) ∙ filter_none (is_transaction t) rows none)
 day_is day H rows t moment (Some row) are found = named_day day H t moment row (named H t) refl (subst (λ all. Has all row) (are t) (has_filtered (is_transaction t) rows row found.0 found.1))
 
 -- The next entry.
@@ -108,7 +86,7 @@ day_is day H rows t moment (Some row) are found = named_day day H t moment row (
 -- a new number's reply is its answer
 new_reply : (day : ℕ → ℕ) (default : ℕ) (H : List Entry) (r : Request) (o : Option Id) → known_by H o ≡ false → reply_to day default H r o ≡ answer day default H r
 new_reply day default H r None new = refl
-new_reply day default H r (Some id) new = rw (not_below H id new) (ap (reply_by day default H r id) (not_stored H id new))
+new_reply day default H r (Some id) new = (let unknown = not_known H id new in rw unknown.0 (ap (reply_by day default H r id) unknown.1))
 
 module _ (day : ℕ → ℕ) (default : ℕ) (H : List Entry) (place : ℕ) (e : Entry) (at : IsAt H place e) (legal : IsLegal day default H)
     (fronts : (F S : List Entry) → IsLegal day default (F ++ S) → IsLegal day default F) where
@@ -127,9 +105,3 @@ module _ (day : ℕ → ℕ) (default : ℕ) (H : List Entry) (place : ℕ) (e :
   replied next =
       let n = next (take place H) (drop (place + 1) H) e (subst (IsLegal day default) (sym split) legal) in
       new_reply day default (take place H) e.request (id_of e.request) n.0 ∙ sym n.1
-
--- Cases.
-
-pub take_all : {X : Type 0} (xs : List X) → take (length xs) xs ≡ xs
-take_all [] = refl
-take_all (x ∷ xs) = ap (λ ys. x ∷ ys) (take_all xs)
