@@ -16,6 +16,7 @@ where any failed.
 import argparse
 import collections
 import contextlib
+import functools
 import hashlib
 import os
 import re
@@ -343,6 +344,12 @@ def words_of(group, program, name, function=None):
     return [f"{KIT}/bin/rattle-test", "--seconds", str(LONGEST), "--filter", name, program]
 
 
+@functools.lru_cache(maxsize=None)
+def alone(*words):
+    """What a run of one function of a group comes to without a body."""
+    return outcomes(words, 0)
+
+
 def is_failing(name, found, count=1):
     """Whether a case fails of this name, or the run ends before as many have come as are to."""
     named = [it.is_good for it in found if it.name.startswith(name)]
@@ -361,12 +368,12 @@ def unseen(body, programs, without):
             )
             continue
         functions = {it.function for it in named}
-        words = words_of(
-            group,
-            programs[target_of(group)],
-            name,
-            functions.pop() if len(functions) == 1 else None,
-        )
+        function = functions.pop() if len(functions) == 1 else None
+        words = words_of(group, programs[target_of(group)], name, function)
+        # (it may want what another function leaves)
+        if function and is_failing(name, alone(*words), len(named)):
+            missed.append(f"{group}: {name} (alone its function fails without the body)")
+            continue
         found = outcomes(words, body.number, lambda found: is_failing(name, found, len(named)))
         if not is_failing(name, found, len(named)):
             others = [it.name[:100] for it in found if not it.is_good][:3]

@@ -1,10 +1,11 @@
 #!/usr/bin/env python3
-"""Tries wrong texts of contrib and docs, each over the case of tests/program that is to fail.
+"""Tries wrong texts of contrib, debian, docs and man, each over the case of tests/program that is
+to fail.
 
-A text is a file tests/bodies/contrib/NAME.edit or tests/bodies/docs/NAME.edit, written as a
-must-fail edit over the files of that folder, with a line 'case: GROUP: NAME' for each case that
-begins so and is to fail. It is tried in a copy of what the cases read. What is to fail has to pass
-without it. The last line is 'N passed, M failed', and the status 1 where any failed.
+A text is a file tests/bodies/FOLDER/NAME.edit, written as a must-fail edit over the files of that
+folder, with a line 'case: GROUP: NAME' for each case that begins so and is to fail. It is tried in
+a copy of what the cases read. What is to fail has to pass without it. The last line is
+'N passed, M failed', and the status 1 where any failed.
 """
 import argparse
 import os
@@ -18,11 +19,26 @@ HERE = os.path.dirname(os.path.realpath(__file__))
 TOP = os.path.dirname(os.path.dirname(HERE))
 sys.path[:0] = [f"{TOP}/scripts", f"{TOP}/gate"]
 
-from bodies import cases_in, is_failing, outcomes
+from bodies import alone, cases_in, is_failing, outcomes
 from edit import edits_in
 
-FOLDERS = ("contrib", "docs")
-READ = ("contrib", "docs", "examples", "man", "scripts", "tests/model", "tests/program", "Makefile")
+FOLDERS = ("contrib", "debian", "docs", "man")
+READ = (
+    "contrib",
+    "debian",
+    "docs",
+    "examples",
+    "man",
+    "scripts",
+    "tests/model",
+    "tests/program",
+    "Makefile",
+    "README.md",
+    "CHANGELOG",
+    "LICENSE",
+    "NOTICE",
+    "SECURITY.md",
+)
 
 
 def copied(place):
@@ -66,8 +82,8 @@ def words_of(place, group, program, function=None):
     ]
 
 
-def unseen(place, program, cases, without):
-    """Of what is to fail over the text in this copy, what doesn't."""
+def unseen(place, program, cases, without, plain):
+    """Of what is to fail over the text in this copy, what doesn't; `plain` is one without it."""
     for group, name in cases:
         named = [it for it in without[group] if it.name.startswith(name)]
         if not named or not all(it.is_good for it in named):
@@ -77,7 +93,14 @@ def unseen(place, program, cases, without):
             )
             continue
         functions = {it.function for it in named}
-        words = words_of(place, group, program, functions.pop() if len(functions) == 1 else None)
+        function = functions.pop() if len(functions) == 1 else None
+        words = words_of(place, group, program, function)
+        # (it may want what another function leaves)
+        if function and is_failing(
+            name, alone(*words_of(plain, group, program, function)), len(named)
+        ):
+            yield f"{group}: {name} (alone its function fails without the text)"
+            continue
         if not is_failing(
             name,
             outcomes(
@@ -116,14 +139,14 @@ def parsed():
 def main():
     program, files = parsed()
     with tempfile.TemporaryDirectory(prefix="texts-") as root:
-        place = copied(f"{root}/without")
+        place = plain = copied(f"{root}/without")
         groups = dict.fromkeys(group for _, file in files for group, _ in cases_in(file))
         without = {group: outcomes(words_of(place, group, program), 0) for group in groups}
         good = 0
         for number, (folder, file) in enumerate(files):
             place = copied(f"{root}/{number}")
             change(place, folder, file)
-            missed = list(unseen(place, program, cases_in(file), without))
+            missed = list(unseen(place, program, cases_in(file), without, plain))
             shutil.rmtree(place)
             good += not missed
             cases = "; ".join(missed or (": ".join(it) for it in cases_in(file)))
