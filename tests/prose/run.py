@@ -18,6 +18,10 @@
 - No lemma or definition of two lines or more stands twice.
 - The program's version is that of CHANGELOG's first release, and of the package.
 - NOTICE lists the kit's libraries in the program.
+- The figures of the pages are those of the program, as tests/prose/figures.txt lists both.
+- Each line of the log that the manual shows, and each that it says is printed, is one that the
+  program has a text for, and so is each that docs/OPERATING.md tells an administrator to look for,
+  at that level where its text has one.
 
 A test of these checks comes first: over small trees with one thing wrong, each has to find it. The
 last line is 'N passed, M failed', and the status 1 where anything failed.
@@ -94,6 +98,18 @@ BEHIND = {
 }
 VERSION = "crates/mailquota/src/version.rt"
 WORDS = 7_000
+# The page that says for which lines of the log to look, and what the pages show for a value: of a
+# number, a name, an address, a path, a session, and what the system and the store say.
+WATCHED = "docs/OPERATING.md"
+VALUE = re.compile(
+    r"""-?\d[\d,]* | alice | mx\d(?:\.example\.org)? | [0-9a-f]{16}
+    | (?:192\.0\.2\.\d|localhost|\[2001:db8::7\])(?::\d+)? | (?:/var/lib/mailquota/)?ledger
+    | Connection\ refused\ \(os\ error\ 111\) | Too\ many\ open\ files\ \(os\ error\ 24\)
+    | No\ such\ file\ or\ directory | no\ such\ table | unable\ to\ open\ database\ file
+    | database\ (?:or\ disk\ is\ full|disk\ image\ is\ malformed)
+    | file\ is\ not\ a\ database\ that\ obeys\ its\ schema""",
+    re.VERBOSE,
+)
 
 TOKEN = re.compile(
     r"""//[^\n]* | "(?:\\.|[^"\\])*" | '(?:\\.[^']*|[^'\\])' | [^/"']+ | .""",
@@ -401,8 +417,13 @@ def manual(tree):
 def diagnostics_in(page):
     """The diagnostics that a manual page lists: a word in capitals stands for what differs, and
     '..' for how it goes on."""
-    lines = re.findall(r"^\.It Li (.*)$", section_of(page, "DIAGNOSTICS"), re.MULTILINE)
-    return [it.replace('"', "") for line in lines for it in line.split(" , ")]
+    return [it.replace('"', "") for it in items_of(section_of(page, "DIAGNOSTICS"))]
+
+
+def items_of(section):
+    """The literal items of a section of a page of the manual, of which a line may have several."""
+    lines = re.findall(r"^\.It Li (.*)$", section, re.MULTILINE)
+    return [it for line in lines for it in line.split(" , ")]
 
 
 def errors_of(tree):
@@ -517,6 +538,156 @@ def noticed(tree):
     ]
 
 
+def figure(text):
+    """The number of a text that has commas or underscores between its digits."""
+    return int(re.sub(r"\D", "", text))
+
+
+def told(page, words):
+    """The figures that a page has in these words, each time that they stand there: N is one, and ..
+    anything."""
+    page = re.sub(r"^\.(?:It (?:Fl |Va |Cm )?|[A-Z][a-z] )", "", page, flags=re.MULTILINE)
+    wanted = re.escape(words).replace(r"\.\.", ".{,80}?")
+    found = re.finditer(re.sub(r"\bN\b", r"(\\d[\\d,]*\\b)", wanted), " ".join(page.split()))
+    return [[figure(it) for it in one.groups()] for one in found]
+
+
+def had(source, what):
+    """The figures that a source has in its place: those of a constant, or of the groups of a
+    text."""
+    name, _, less = what.partition(" - ")
+    if re.fullmatch(r"[A-Z_]+", name):
+        found = re.search(rf"const {name}: \w+ = (\d[\d_]*);", source)
+        return found and [figure(found[1]) - int(less or 0)]
+    found = re.search(what, source)
+    return found and [figure(it) for it in found.groups()]
+
+
+def figures(tree):
+    """Yields of each page which of its figures aren't the program's."""
+    wrong = {}
+    for row in read(tree, "tests/prose/figures.txt").splitlines():
+        if not row or row[0] == "#":
+            continue
+        page, words, file, what = row.split(" | ")
+        its = wrong.setdefault(page, [])
+        said, is_so = told(read(tree, page), words), had(read(tree, f"crates/{file}"), what)
+        if not is_so:
+            its.append(f"crates/{file} hasn't {what}")
+        elif not said:
+            its.append(f"it doesn't say {words!r}")
+        elif any(it != is_so for it in said):
+            its.append(f"of {words!r} it says {said}, and the program has {is_so}")
+    for page, its in wrong.items():
+        yield f"the figures of {page}", its
+
+
+def texts_of(tree):
+    """The texts in the program's sources, as they stand there but for a source's escapes, and those
+    of them that are logged where they stand, each with its levels."""
+    found, levels = set(), {}
+    for file in files(tree, SOURCES):
+        if file.split("/")[1] in OF_TESTS:
+            continue
+        tokens = TOKEN.findall(read(tree, file))
+        for before, token in zip(["", *tokens], tokens):
+            if token.startswith('"') and len(token) > 2:
+                text = re.sub(r"\\(.)", r"\1", re.sub(r"\\\n\s*", "", token[1:-1]))
+                found.add(text)
+                level = re.search(r"\b(error|warn|info)!\(\s*[\w.]+;\s*\Z", before)
+                if level:
+                    levels.setdefault(text, set()).add(level[1].upper())
+    return found, levels
+
+
+def patterns_of(texts):
+    """What lines come of these texts, or of what stands in them behind what they are about: of each
+    the patterns, in which a group stands for values that follow one another."""
+    found = []
+    for text in {*texts, *(it.partition("}: ")[2] for it in texts)}:
+        parts = re.split(r"(?:\{[^{}]*\})+", text)
+        if re.search(r"[^\W\d_]|: ", "".join(parts)):
+            found += [re.compile(group.join(map(re.escape, parts))) for group in ("(.+)", "(.+?)")]
+    return found
+
+
+def comes_of(line, patterns, known):
+    """Whether a line comes of these texts: what stands for a value in one is a value of the pages,
+    or comes of another, behind which a third may stand that begins with a comma. What is known
+    isn't looked for again."""
+    if line not in known:
+        known[line] = bool(VALUE.fullmatch(line)) or any(
+            all(comes_of(it, patterns, known) for it in found.groups())
+            for pattern in patterns
+            if (found := pattern.fullmatch(line))
+        )
+    if not known[line]:
+        known[line] = any(
+            comes_of(line[: it.start()], patterns, known)
+            and comes_of(line[it.start() :], patterns, known)
+            for it in re.finditer(r"(?<=.), ", line)
+        )
+    return known[line]
+
+
+def quoted_in(section):
+    """What a section of a page of the manual has in quotation marks."""
+    quoted = re.findall(r"\\\(lq(.*?)\\\(rq", section, re.DOTALL)
+    return [" ".join(it.replace("\\&", "").split()) for it in quoted]
+
+
+def shown_in(page):
+    """The lines of the log that a page of the manual shows: the items and the lines of its section
+    of the log, the lines beside its diagnostics, and what both have in quotation marks."""
+    log, diagnostics = section_of(page, "LOG"), section_of(page, "DIAGNOSTICS")
+    both = f"{log}\n{diagnostics}"
+    blocks = re.findall(r"^\.Bd -literal.*\n((?:.*\n)*?)\.Ed$", both, re.MULTILINE)
+    return [
+        *items_of(log),
+        *re.findall(r"^\.Dl (.*)$", both, re.MULTILINE),
+        *(it for block in blocks for it in block.splitlines()),
+        *quoted_in(both),
+    ]
+
+
+def is_printed(line, texts):
+    """Whether each part of a line stands in one of these texts; a word in capitals stands for what
+    differs."""
+    parts = [it for it in re.split(r"\b[A-Z]+\b", line) if it.strip()]
+    return all(any(part in it for it in texts) for part in parts)
+
+
+def logged(tree):
+    """Yields of each page which of the lines that it says are logged or printed, or of the log that
+    it has one look for, the program hasn't."""
+    texts, levels = texts_of(tree)
+    patterns, known = patterns_of(texts), {}
+    for page in files(tree, ["man/*"]):
+        text = read(tree, page)
+        wrong = [it for it in shown_in(text) if not comes_of(it, patterns, known)]
+        wrong += [
+            it
+            for it in quoted_in(section_of(text, "DESCRIPTION"))
+            if not VALUE.fullmatch(it) and not is_printed(it, texts)
+        ]
+        yield f"the lines of the log in {page}", [
+            f"no text of the program gives {it!r}" for it in wrong
+        ]
+    words = re.findall(
+        r"(ERROR|WARN|INFO)\b[^`;:]{,40}\bwith\s+`([^`]*)`"
+        r"(?:(?:\s+or|,\s+in\s+smtpd's\s+with)\s+`([^`]*)`)?",
+        read(tree, WATCHED),
+    )
+    wrong = []
+    for level, word in ((level, " ".join(it.split())) for level, *its in words for it in its if it):
+        its = {it for it in texts if word in it}
+        if not its:
+            wrong.append(f"no text of the program has {word!r}")
+        elif its <= {*levels} and not any(level in levels[it] for it in its):
+            wrong.append(f"{word!r} isn't logged as {level}")
+    yield f"the lines of the log in {WATCHED}", wrong
+
+
 CHECKS = [
     pages,
     listed,
@@ -531,6 +702,8 @@ CHECKS = [
     standing_twice,
     versions,
     noticed,
+    figures,
+    logged,
 ]
 
 # A tree with nothing wrong, and what each of these changes makes of it: the file, the text there,
@@ -590,7 +763,23 @@ TREE = {
     "man/mailquota-go.8": (
         ".Sh NAME\n.Nm mailquota-go\n.Sh SYNOPSIS\n.Nm mailquota\n.Cm go\n.Op Fl -far\n.Nm"
         " mailquota\n.Cm go\n.Op Fl -far-off\n.Nm mailquota\n.Cm stay\n.Sh DESCRIPTION\n.It Fl"
-        " -far\nfar\n.It Fl -far-off\nfarther\n"
+        " -far\nfar\n.It Fl -far-off\nfarther,\n.Ar steps ,\n2 to 1,000, by default 20\n\\(lqgone"
+        " by N\nsteps\\(rq.\n.Sh LOG\n\\(lqhost mx3\\(rq\n.It Li host mx1: gone by 3 steps, at"
+        " last , gone by 1 steps\n.Dl host mx2: gone by 2 steps\n.Sh DIAGNOSTICS\n.Bd -literal"
+        " -compact\ngone by 5 steps\n.Ed\n"
+    ),
+    "crates/mq_high/src/log.rt": (
+        '//! What is logged.\nfn tell() {\n    warn!(self.log; "{whom}: gone by {steps} steps");\n}'
+        '\n\nfn say() {\n    write(f, "host {host}", ", at last")\n}\n'
+    ),
+    WATCHED: "- **The log:** any ERROR; WARN with `gone\n  by` or ` steps`.\n",
+    "crates/mq_high/src/steps.rt": (
+        "//! Steps.\npub const STEPS: u32 = 1_001;\nfn steps() -> u32 {\n    read(2, 20)\n}\n"
+    ),
+    "tests/prose/figures.txt": (
+        "# The figures.\n\nman/mailquota-go.8 | steps , .. to N, | mq_high/src/steps.rt | STEPS -"
+        " 1\nman/mailquota-go.8 | steps , N to .. by default N | mq_high/src/steps.rt | read\\((\\d+),"
+        " (\\d+)\\)\n"
     ),
     "crates/mq_high/specs/Done.antt": "-- done\nIsDone n = n ≡ 1\n",
     "crates/mq_lemmas/src/lib.rt": (
@@ -672,6 +861,25 @@ WRONG = [
     ("CHANGELOG", "1.2.3", "1.2.4", versions),
     ("debian/changelog", "1.2.3", "1.2.4", versions),
     ("NOTICE", "thiserror", "another", noticed),
+    ("man/mailquota-go.8", "1,000", "1,001", figures),
+    ("man/mailquota-go.8", "default 20", "default 2", figures),
+    ("man/mailquota-go.8", "by default", "usually", figures),
+    ("crates/mq_high/src/steps.rt", "1_001", "1_000", figures),
+    ("crates/mq_high/src/steps.rt", "read(2", "read(3", figures),
+    ("crates/mq_high/src/steps.rt", "const STEPS", "const PACES", figures),
+    ("man/mailquota-go.8", "mx1: gone by", "mx1: gone in", logged),
+    ("man/mailquota-go.8", "Li host mx1", "Li hosts mx1", logged),
+    ("man/mailquota-go.8", "at last", "at least", logged),
+    ("man/mailquota-go.8", ", gone by 1", ", gone by some", logged),
+    ("man/mailquota-go.8", "mx2: gone by", "mx2: gone in", logged),
+    ("man/mailquota-go.8", "by 5 steps", "by 5 paces", logged),
+    ("man/mailquota-go.8", "gone by N", "gone in N", logged),
+    ("man/mailquota-go.8", "lqhost", "lqhosts", logged),
+    ("crates/mq_high/src/log.rt", "host {host}", "{host}", logged),
+    ("crates/mq_high/src/log.rt", "warn!", "info!", logged),
+    (WATCHED, "gone\n  by", "gone\n  in", logged),
+    (WATCHED, "` steps`", "` paces`", logged),
+    (WATCHED, "; WARN", "; INFO", logged),
     ("crates/mq_low/src/lib.rt", "pub fn low(at: u8)", "pub fn low(seq: u8)", names),
     ("crates/mq_low/src/lib.rt", "pub fn low(at: u8)", "pub fn low(at: u64)", names),
     ("crates/mq_high/specs/Done.antt", "IsDone n = n", "IsDone txn at login = txn", names),
