@@ -59,7 +59,7 @@ ONLY = re.compile(r"only=(\d+) proved=(\d+)\Z")
 # What no case of tests/program reads: the cases run where there is none of it.
 READ_BY_NO_CASE = re.compile(
     r"crates/|crates\.txt\Z|HANDLES\Z|bench/|gate/.*\.py\Z|tests/(near_the_end|prose|smtpd|refusals|takeover|bodies)/"
-    r"|docs/(?!INSTALL\.md\Z|OPERATING\.md\Z)|\.ci/|\.git(/|\Z|ignore\Z)|README\.md\Z|CONTRIBUTING\.md\Z|pyproject\.toml\Z"
+    r"|docs/(?!INSTALL\.md\Z|OPERATING\.md\Z)|\.ci/|\.git(/|\Z|ignore\Z)|CONTRIBUTING\.md\Z|pyproject\.toml\Z"
 )
 # The crates of tests, which are run without their proofs, and what of each is proved all the same:
 # that there are sources, sinks, links, ledgers and networks of which contracts say all that they

@@ -44,6 +44,7 @@ def run(world, checks):
     hands_on_its_words(world, checks)
     a_backup(world, checks)
     a_backup_by_its_recipe(world, checks)
+    backups_by_other_spellings(world, checks)
     backups_that_fail(world, checks)
     how_long_the_server_stands(world, checks)
     a_group_that_is_killed(world, checks)
@@ -220,6 +221,11 @@ def hands_on_its_words(world, checks):
         )
 
 
+def with_programs(folder):
+    """The environment, with the programs of this folder before those of the machine."""
+    return {**os.environ, "PATH": f"{folder}/bin{os.pathsep}{os.environ['PATH']}"}
+
+
 class Backup:
     """The script of a backup over this server's ledger, with a systemctl that says which process
     the server is."""
@@ -255,19 +261,20 @@ class Backup:
             world.new_file(toml(settings)),
             path,
         ]
-        self.environment = {
-            **os.environ,
-            "PATH": f"{self.folder}/bin{os.pathsep}{os.environ['PATH']}",
-        }
+        self.environment = with_programs(self.folder)
+        # (without a server it ends at once)
+        self.longest = SECONDS if server else SECONDS / 10
 
     def run(self, *words):
+        # (a wrong script may stop all that are in its session)
         run = subprocess.run(
             [*self.words, *words],
             env=self.environment,
             stdin=subprocess.DEVNULL,
             capture_output=True,
             text=True,
-            timeout=SECONDS,
+            timeout=self.longest,
+            start_new_session=True,
         )
         return run.returncode, run.stdout, run.stderr
 
@@ -501,6 +508,62 @@ def a_backup_by_its_recipe(world, checks):
             server.ask(b"".join(frames)),
             b"".join(kept),
         )
+
+
+def backups_by_other_spellings(world, checks):
+    """However the settings spell what they say, the copy is audited, and not the file that the
+    server has open, and its status asks no server."""
+    path, settings = f"{world.folder}/spelled", {"default": 3, "offset": 0}
+    with Server(world, words=["--create"], store=path, **settings) as server:
+        server.ask(wire.reserve(1))
+        for name, text in (
+            ("without spaces", f'store="{path}"\nlisten="{server.address}"\n'),
+            ("with tabs", f'\tstore\t=\t"{path}"\n\tlisten\t=\t"{server.address}"\n'),
+            ("in single quotes", f"  store = '{path}'\n  listen = '{server.address}' # own\n"),
+            (
+                "behind remarks",
+                (
+                    '# store = "memory", listen = "0.0.0.0:7025"\n'
+                    f'listen = "{server.address}"\nstore = "{path}"\n'
+                ),
+            ),
+        ):
+            backup = Backup(world, server, path, {})
+            backup.words[3] = world.new_file(toml(settings) + text)
+            # (the server, which is another user's, reads them where they are copied back)
+            os.chmod(backup.words[3], 0o644)
+            status, output, errors = backup.run()
+            part = re.escape(f"{backup.into}.part/ledger")
+            wanted = (
+                rf"sound days=1 transactions=1\nledger {part}: version 3, \d+ bytes\ndefault 3,"
+                r" offset 0\nanswers=1 days=1 transactions=1 limits=0\na start takes up to about"
+                r" 1 s and 14 MB\n"
+            )
+            checks.holds(
+                f"a backup by settings {name}: status, what it prints and says",
+                (status, errors) == (0, "") and re.fullmatch(wanted, output),
+                "those of its copy",
+                (status, output, errors),
+            )
+            checks.equal(
+                f"a backup by settings {name}: what is there",
+                (backup.left(), sorted(os.listdir(backup.folder + "/copy") if status == 0 else [])),
+                (["copy"], ["ledger", "ledger-wal", "server.toml"]),
+            )
+            checks.equal(
+                f"a backup by settings {name}: what it has of them, and who may read it",
+                settings_at(f"{backup.into}/server.toml"),
+                (toml(settings) + text, 0o644),
+            )
+            shutil.rmtree(backup.folder)
+
+
+def settings_at(path):
+    """What a file of settings says, and its mode, if it is there."""
+    if os.path.exists(path):
+        with open(path, encoding="ascii") as file:
+            return file.read(), stat.S_IMODE(os.stat(path).st_mode)
+    return None
 
 
 def in_folder(world, folder, text):
@@ -742,11 +805,14 @@ class Machine:
 
     def run(self, lines):
         """What these lines of a page come to: the status, what is printed, and what is said."""
-        environment = {**os.environ, "PATH": f"{self.folder}/bin{os.pathsep}{os.environ['PATH']}"}
+        return self.started(["sh", "-e"], self.here("".join(f"{it}\n" for it in lines)))
+
+    def started(self, words, text=""):
+        """What these words come to here, with this text as their input."""
         run = subprocess.run(
-            ["sh", "-e"],
-            input=self.here("".join(f"{it}\n" for it in lines)),
-            env=environment,
+            words,
+            input=text,
+            env=with_programs(self.folder),
             capture_output=True,
             text=True,
             timeout=SECONDS,
@@ -844,6 +910,11 @@ def a_server_without_systemd(world, checks):
         0o700,
     )
     calls = machine.read("calls").splitlines()
+    checks.equal(
+        "a server without systemd: its user, who is none that logs in",
+        calls[0],
+        "useradd --system mailquota",
+    )
     checks.equal(
         "a server without systemd: whose folder it is, and who makes the ledger",
         (calls[1].split()[:6], calls[2].split()[:4]),

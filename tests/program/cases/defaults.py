@@ -3,13 +3,17 @@
 import os
 import subprocess
 import time
+from concurrent.futures import ThreadPoolExecutor
 
-from cases.stopping import LAST_DAY, caps
+import clocks
+from cases.rules import CENTRAL_EUROPE
+from cases.stopping import LAST_DAY, caps, not_today, nothing_sent
 from ends import (
     NO_FILE,
     SECONDS,
     Server,
     fault,
+    ledger_settings,
     loopback_of_6,
     of_settings,
     toml,
@@ -61,7 +65,11 @@ def run(world, checks):
     over_ipv6(world, checks)
     without_settings(world, checks)
     wrong_settings(world, checks)
+    words_that_say_all(world, checks)
     retires(world, checks)
+    by_a_clock(world, checks)
+    days_of_odd_minutes(world, checks)
+    days_ago_over_a_change(world, checks)
 
 
 def server_settings(address, **more):
@@ -148,11 +156,7 @@ def by_the_servers_settings(world, checks):
         checks.equal(
             "stop of yesterday",
             with_settings(world, "stop", "--login", "u", "--ago", "1", **found),
-            (
-                2,
-                b"",
-                f"mailquota: day {today - 1} is not today, which is day {today}; use --force\n",
-            ),
+            not_today(today - 1, today),
         )
         checks.equal(
             "stop of yesterday by force",
@@ -184,6 +188,15 @@ def by_the_filters_settings(world, checks):
             (["stop", "--login", "u"], NO_DAY),
             (["resume", "--login", "u", "--cap", "1"], NO_DAY),
             (["resume", "--login", "u", "--cap", "1", "--ago", "3"], NO_DAY),
+            (
+                ["resume", "--login", "v", "--cap", "1", "--day", "1"],
+                (0, b"resumed: v may use 1 on day 1\n", ""),
+            ),
+            (
+                ["stop", "--login", "v", "--day", "1", "--force"],
+                (0, b"stopped: v used 0 on day 1\nlimit before: 1\n", ""),
+            ),
+            (["retire", "--host", "mx2"], (0, b"retired\n", "")),
         ]:
             checks.equal(
                 f"{' '.join(words)}, by the filter's settings in their place",
@@ -308,27 +321,19 @@ def days_by_the_zone(world, checks):
         checks.equal(
             "a stop of that day by its number, of a login that sent nothing",
             came,
-            fault(
-                f"nothing sent on day {theirs} or the two before; check the login, or use --force"
-            ),
+            fault(nothing_sent(theirs)),
         )
         came = with_settings(world, "stop", "later", "--day", str(theirs - 1), *named, **in_place)
         checks.equal(
             "a stop of the day before by its number",
             came,
-            (
-                2,
-                b"",
-                f"mailquota: day {theirs - 1} is not today, which is day {theirs}; use --force\n",
-            ),
+            not_today(theirs - 1, theirs),
         )
         came = with_settings(world, "stop", "later", "--ago", "0", *named, **in_place)
         checks.equal(
             "a stop of no days ago by settings that the words name",
             came,
-            fault(
-                f"nothing sent on day {theirs} or the two before; check the login, or use --force"
-            ),
+            fault(nothing_sent(theirs)),
         )
         came = with_settings(world, "report", "--ago", str(theirs), "--config", config)
         checks.equal("a report of day 0, by how many days ago it was", came, (0, b"", ""))
@@ -433,6 +438,49 @@ def wrong_settings(world, checks):
     )
 
 
+def words_that_say_all(world, checks):
+    """Where the words say whom and which day, settings in their places aren't read, so it is all
+    the same that they are wrong."""
+    wrong = {"server": "listen = 1\n", "filter_": "host = 1\n"}
+    with Server(world, default=9) as first, Server(world, default=9) as second:
+        for servers in ([first], [first, second]):
+            at = [word for it in servers for word in ("--server", it.address)]
+            for name, words, done in [
+                ("status", [], "quota server {} answers\n"),
+                (
+                    "status",
+                    ["--host", "mx1"],
+                    "quota server {} answers\nrequests of host mx1 are taken\n",
+                ),
+                ("limit", ["u", "7", "--from", "1"], "set\n"),
+                ("report", ["u", "--day", "1"], "      0       0       7 u\n"),
+                (
+                    "stop",
+                    ["u", "--day", "1", "--force"],
+                    "stopped: u used 0 on day 1\nlimit before: 7\n",
+                ),
+                (
+                    "resume",
+                    ["u", "--day", "1", "--cap", "7"],
+                    "resumed: u may use 7 on day 1\n",
+                ),
+            ]:
+                printed = "".join(
+                    f"server {it.address}:\n" * (len(servers) > 1) + done.format(it.address)
+                    for it in servers
+                )
+                checks.equal(
+                    f"{' '.join([name, *words])} at {len(servers)}, beside wrong settings",
+                    with_settings(world, name, *words, *at, **wrong),
+                    (0, printed.encode(), ""),
+                )
+        checks.equal(
+            "retire of a host at a server, beside wrong settings",
+            with_settings(world, "retire", "--server", first.address, "--host", "mx1", **wrong),
+            (0, b"retired\n", ""),
+        )
+
+
 def retires(world, checks):
     """`retire` without a host gives up the runs of the filter of this host, at the server that this
     one asks."""
@@ -511,4 +559,133 @@ def retires(world, checks):
     )
     checks.equal(
         "retire with a host alone", with_settings(world, "retire", "--host", "mx1"), NO_SERVER
+    )
+
+
+# moments about the ends of a day, noon, and the hour until which a night belongs to the day before
+TIMES = {"0:00:20": 20, "2:30": 9_000, "12:00": 43_200, "23:57": 86_220}
+# a day of 2026 and one beyond the seconds that have 31 bits
+DAYS = 20_784, 40_000
+
+
+def by_a_clock(world, checks):
+    """Today is the settings' at each hour of a day, also of one after 2038."""
+    zones = {f"{it} minutes east": {"offset": it} for it in (0, 600, -600)}
+    zones["a rule"] = {"offset": None, "rule": "<+10>-10"}
+    east = [0, 600, -600, 600]
+    with Server(world, default=9) as server, ThreadPoolExecutor(4) as pool:
+        asked = [
+            (f"{day} at {time_of}, {what}", day, 86_400 * day + second - 60 * minutes, zone)
+            for (what, zone), minutes in zip(zones.items(), east)
+            for time_of, second in TIMES.items()
+            for day in DAYS
+        ]
+        told = pool.map(lambda it: told_on(world, server, *it[1:]), asked)
+        for (what, day, *_), came in zip(asked, told):
+            checks.equal(f"what commands mean by today: day {what}", came, told_of(day))
+
+
+def run_at(world, moment, *words):
+    """What a command comes to whose clock shows this moment."""
+    return world.run(*words, limit=clocks.limit(int(moment - time.time())))
+
+
+def told_on(world, server, day, moment, zone):
+    """What `day`, `limit` and `stop` come to at this moment: the day that is printed, the first of
+    these days from which a limit governs, and whether a day is one to stop a login on."""
+    config = ledger_settings(world, f"{world.folder}/nowhere/ledger", **zone)
+
+    def run(*words):
+        return run_at(world, moment, *words)
+
+    asks = ["--config", config, "--server", server.address]
+    login = f"u{moment}{zone.get('rule', zone['offset'])}"
+    return (
+        run("day", "--config", config),
+        run("limit", *asks, "--ago", "1", "--login", login, "--cap", "4"),
+        caps(server, login.encode(), day - 2, day - 1),
+        run("stop", *asks, "--login", login, "--day", str(day)),
+        run("stop", *asks, "--login", login, "--day", str(day - 1)),
+    )
+
+
+def told_of(day):
+    """The same, where this day is today."""
+    return (
+        (0, f"{day}\n".encode(), ""),
+        (0, b"set\n", ""),
+        [9, 4],
+        fault(nothing_sent(day)),
+        not_today(day - 1, day),
+    )
+
+
+def days_of_odd_minutes(world, checks):
+    """A day begins and ends at its own minute, also where that is at no quarter of an hour."""
+    with Server(world, default=9) as server, ThreadPoolExecutor(4) as pool:
+        asked = [
+            (f"{minutes} minutes east, {what}", 86_400 * DAYS[0] + second - 60 * minutes, minutes)
+            for minutes in (7, -1_439)
+            for what, second in (("20 seconds after it begins", 20), ("before it ends", 86_380))
+        ]
+        told = pool.map(lambda it: told_on(world, server, DAYS[0], it[1], {"offset": it[2]}), asked)
+        for (what, *_), came in zip(asked, told):
+            checks.equal(f"what commands mean by today: {what}", came, told_of(DAYS[0]))
+
+
+# on which days by the rule of docs/LEDGER.md, at which moments, how many days ago are asked for:
+# about a day of 23 hours (18,350) and one of 25 (18,560)
+DAYS_AGO = [
+    (18_350, 1_585_436_400, 0),
+    (18_351, 1_585_519_200 + 600, 1),
+    (18_351, 1_585_519_200 + 600, 2),
+    (18_560, 1_603_666_800 - 600, 1),
+    (18_561, 1_603_753_200 - 600, 2),
+    (18_561, 1_603_666_800 + 600, 212),
+]
+
+
+def days_ago_over_a_change(world, checks):
+    """So many days ago is counted in days, also where the clocks were put forward or back since."""
+    with Server(world, default=9) as server, ThreadPoolExecutor(4) as pool:
+        days = sorted({day - ago + more for day, _, ago in DAYS_AGO for more in (-1, 0, 1)})
+        sent = [reserve(it, txn=it, login=b"d%d" % it, at=86_400 * it) for it in days]
+        server.ask(b"".join(sent))
+        told = pool.map(lambda it: told_days_ago(world, server, *it), DAYS_AGO)
+        for (day, moment, ago), came in zip(DAYS_AGO, told):
+            checks.equal(
+                f"what commands mean by {ago} days ago, at {moment} of day {day}",
+                came,
+                told_of_days_ago(day - ago, ago, moment),
+            )
+
+
+def told_days_ago(world, server, day, moment, ago):
+    """What the commands come to that name a day by how many days ago it was, at this moment, and
+    the limits then."""
+    config = ledger_settings(
+        world, f"{world.folder}/nowhere/ledger", offset=None, rule=CENTRAL_EUROPE
+    )
+    login, words = f"u{moment}-{ago}", ["--config", config, "--server", server.address]
+
+    def run(*asks):
+        return run_at(world, moment, *asks, *words, "--ago", str(ago))
+
+    return (
+        run("report"),
+        run("limit", login, "4"),
+        caps(server, login.encode(), day - ago - 1, day - ago),
+        run("resume", login, "--cap", "3"),
+        run("stop", login),
+    )
+
+
+def told_of_days_ago(day, ago, moment):
+    """The same, where that was this day."""
+    return (
+        (0, b"      0       1       9 d%d\n" % day, ""),
+        (0, b"set\n", ""),
+        [9, 4],
+        (0, f"resumed: u{moment}-{ago} may use 3 on day {day}\n".encode(), ""),
+        not_today(day, day + ago) if ago else fault(nothing_sent(day)),
     )

@@ -3,12 +3,40 @@ or a server says of it, and that it prints nothing."""
 import errno
 import os
 import re
+from concurrent.futures import ThreadPoolExecutor
 
 import wire
+from cases.audits import audit
 from cases.costs import Noted
+from cases.damage import sound
 from cases.forgetting import left_by_a_server
+from cases.nights import (
+    DEFAULT,
+    KEEP,
+    NOTED,
+    STATES,
+    SWITCHED,
+    filled,
+    first_day,
+    is_through,
+    names,
+    nightly,
+    put,
+    two_files,
+    warnings,
+)
 from cases.peers import NOTHING_USED
-from ends import Server, copied, fault, ledger_settings, nobody_there, of_store, refusal, unreached
+from ends import (
+    Server,
+    copied,
+    fault,
+    ledger_settings,
+    nobody_there,
+    of_store,
+    refusal,
+    unreached,
+    wait_until,
+)
 
 # Calls that read, write and sync a file, by their numbers on x86-64.
 CALLS = {"pread64": 17, "pwrite64": 18, "fsync": 74, "fdatasync": 75, "ftruncate": 77}
@@ -19,6 +47,7 @@ OF_LOADING = {"pread64": 2}
 # So many places of each call are tried.
 PLACES = 5
 FAILED, UNOPENED = "disk I/O error", "unable to open database file"
+OF_SYSTEM = "Input/output error (os error 5)"
 
 
 def run(world, checks):
@@ -29,6 +58,8 @@ def run(world, checks):
     of_a_forget(world, checks, source)
     of_requests(world, checks, source)
     of_sockets(world, checks)
+    of_a_night(world, checks)
+    of_a_repair(world, checks)
 
 
 def places(calls, name, first=0):
@@ -270,3 +301,118 @@ def of_sockets(world, checks):
         "mailquota: accept failed",
     ]
     checks.equal("a server that can't wait: its end, and the log", came, (1, lines))
+
+
+def of_a_night(world, checks):
+    """As days leave a ledger. Before the switch they stay, it is said why, and nothing is left of
+    the new file; at the switch the server ends, and says at which file. All answers are there
+    then."""
+    source = f"{world.folder}/failing-night"
+    books, day = filled(world, source, 8), first_day()
+    kept = books.remembered(day)
+
+    def run(limit, name, keep=KEEP):
+        path = copied(source, f"{world.folder}/failing-night-{name}")
+        with nightly(world, path, keep=keep, limit=limit, connections=1) as server:
+            wait_until(
+                lambda: is_through(server)
+                or warnings(server)
+                or server.process.poll() is not None
+                or keep != KEEP
+            )
+            if server.process.poll() is None:
+                server.connect().close()
+            status, lines = server.status(), [
+                line.replace(path, "PATH")
+                for line in server.log_lines()
+                if not line.startswith("[INFO")
+            ]
+        return status, "\n".join(lines), tuple(names(path))
+
+    start, whole = Noted(world), Noted(world)
+    run(start.limit, "start", 366)
+    came = run(whole.limit, "whole")
+    checks.equal("a night, and none of its calls fails", came, (0, "", tuple(NOTED)))
+    stays = f"[WARN  mq_nights::evening] days before {day} stay: {{}}; next attempt in an hour"
+    wanted = {
+        "the new file can't be made": [
+            (0, of_store("PATH.part", cause) + stays.format("no new store"), ("", "-wal"))
+            for cause in (FAILED, UNOPENED, OF_SYSTEM)
+        ],
+        "it can't be filled": [(0, stays.format(FAILED), ("", "-wal"))],
+        "a step of the switch fails": [
+            (1, fault("store can't be opened", log=of_store(f"PATH{it}", cause))[2][:-1], left)
+            for it, cause, left in [
+                ("", OF_SYSTEM, ("-wal", ".old", ".part", ".part-wal")),
+                (".old", FAILED, ("-wal", ".old", ".part", ".part-wal")),
+                (".part", OF_SYSTEM, ("-wal", ".next", ".old", ".part-wal")),
+                (".part-wal", OF_SYSTEM, ("-wal", ".next", ".old")),
+                (".next", OF_SYSTEM, tuple(SWITCHED)),
+            ]
+        ],
+    }
+    before, calls = start.calls(), whole.calls()
+    tried = []
+    for name, step in (("fsync", 1), ("pwrite64", 3), ("fdatasync", 3), ("pread64", 16)):
+        first, count = (sum(it.number == CALLS[name] for it in of) for of in (before, calls))
+        tried += [(name, place) for place in range(first, count, step)]
+    with ThreadPoolExecutor(4) as pool:
+        found = dict(zip(tried, pool.map(lambda it: run(failing(*it), f"{it[0]}-{it[1]}"), tried)))
+    all_wanted = [it for its in wanted.values() for it in its]
+    checks.equal(
+        "a call of a night fails: how it ends otherwise",
+        {place: it for place, it in found.items() if it not in all_wanted},
+        {},
+    )
+    for what, its in wanted.items():
+        checks.equal(
+            f"a call of a night fails, and {what}: all of its lines, its end, and files",
+            [it for it in its if it not in found.values()],
+            [],
+        )
+    for it in wanted["a step of the switch fails"]:
+        at = next((place for place, came in found.items() if came == it), ("none", 0))
+        path = f"{world.folder}/failing-night-{at[0]}-{at[1]}"
+        checks.equal(
+            f"a night whose switch leaves {' '.join(it[2])}, and fails at {of_file(it[1])}: audit",
+            audit(world, path, default=DEFAULT),
+            sound(books if ".part" in it[2] else kept),
+        )
+
+
+def of_file(lines):
+    """The file that an error names first."""
+    return lines.partition("] ")[2].partition(": ")[0]
+
+
+def of_a_repair(world, checks):
+    """As a switch that was interrupted is undone or finished: it isn't done, at which file is said,
+    and the next to open the ledger does the rest."""
+    old, _, new, books, kept = two_files(world)
+    for state, its, is_former in [
+        ("after the first step", [".old"], True),
+        ("after the second", [".part-wal", ".next"], False),
+        ("after the third", [".next"], False),
+    ]:
+        for place, it in enumerate(its):
+            path = put(
+                f"{world.folder}/repair-{state[-5:]}-{place}",
+                STATES[state][0],
+                {"old": old, "new": new},
+            )
+            came = world.run(
+                "audit",
+                "--config",
+                ledger_settings(world, path, default=DEFAULT),
+                limit=failing("fsync", place),
+            )
+            checks.equal(
+                f"{state}, and {it} gets its name, but not on the disk: audit",
+                came,
+                fault("store can't be opened", log=of_store(path + it, OF_SYSTEM)),
+            )
+            checks.equal(
+                f"{state}, and {it} gets its name, but not on the disk: audit then",
+                audit(world, path, default=DEFAULT),
+                sound(books if is_former else kept),
+            )

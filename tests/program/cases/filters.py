@@ -100,10 +100,15 @@ def run(world, checks):
     tries(world, checks)
     closings(world, checks)
     warnings(world, checks)
+    a_move_beside_an_older_message(world, checks)
+    refusals_of_two_messages(world, checks)
     no_server(world, checks)
     without_a_question(world, checks)
     faults(world, checks)
     its_run(world, checks)
+    at_each_level(world, checks)
+    names_as_long_as_any(world, checks)
+    counts_of_lines(world, checks)
     a_socket_that_breaks(world, checks)
     a_thousand_recipients(world, checks)
 
@@ -416,11 +421,7 @@ def warnings(world, checks):
         checks,
         "a settle answered too many",
         errors,
-        [
-            of_a_try(
-                "settle", 2, "the transaction holds 0 only, the server's address may have moved"
-            )
-        ],
+        [of_a_try("settle", 2, holds_only(0))],
     )
     scripted(
         world,
@@ -643,6 +644,23 @@ def of_session(text, name):
     return text.replace(b"7641df9771b4ed00", name)
 
 
+# bob, beside alice in another session
+BOB = b"0123456789abcdef"
+BEGUN_BY_BOB = of_session(AUTH + BEGIN + RCPT, BOB).replace(b"alice", b"bob")
+
+
+def holds_only(held):
+    """What is said of a settle of more than the server holds."""
+    return f"the transaction holds {held} only, the server's address may have moved"
+
+
+def settles_in(errors):
+    """What the log says of settles: the level, the number, the transaction, and the rest."""
+    return re.findall(
+        r"\[(\w+) +mq_client::tries\] settle (\d) of transaction (\d) [^:]*: (.*)\n", errors
+    )
+
+
 def warnings_of_many_sessions(world, checks):
     """64 warnings are remembered, the oldest makes room, and 255 bytes of a login are shown."""
     names = [b"%016x" % n for n in range(70)]
@@ -702,25 +720,58 @@ def closings_of_two_sessions(world, checks):
 def moves_of_the_address(world, checks):
     """Of the messages that were open as the address moved one is warned of, and one that began
     after that warning again."""
-    bob = of_session(AUTH + BEGIN + RCPT, b"0123456789abcdef").replace(b"alice", b"bob")
-    text = INPUT + bob + COMMIT + of_session(COMMIT, b"0123456789abcdef") + BEGIN + RCPT + COMMIT
+    text = INPUT + BEGUN_BY_BOB + COMMIT + of_session(COMMIT, BOB) + BEGIN + RCPT + COMMIT
     too_many = [frame(b"\x89" + identity(n, **MX1) + number(0)) for n in (3, 4, 6)]
     with Script(
         [GRANTED, granted(2, 1, **MX1), *too_many[:2], granted(5, 1, **MX1), too_many[2]]
     ) as server:
         errors = world.filter(server.address, text, log="info")[2]
-    said = re.findall(
-        (
-            r"\[(\w+) +mq_client::tries\] settle (\d) of transaction (\d) .*: the transaction holds"
-            r" 0 only, the server's address may have moved\n"
-        ),
-        errors,
-    )
+    said = holds_only(0)
     checks.equal(
         "two messages that were open as the address moved, and one of later: the log",
-        said,
-        [("WARN", "3", "1"), ("INFO", "4", "2"), ("WARN", "6", "3")],
+        settles_in(errors),
+        [("WARN", "3", "1", said), ("INFO", "4", "2", said), ("WARN", "6", "3", said)],
     )
+
+
+def a_move_beside_an_older_message(world, checks):
+    """Which messages are of one move goes by when they began, whichever of them had a recipient
+    last, and whichever ends first."""
+    ends, said = {"1": COMMIT, "2": of_session(COMMIT, BOB)}, holds_only(0)
+    for what, more, order in [
+        ("the older one had a recipient last", RCPT, ["1", "2"]),
+        ("the newer one ends first", RCPT, ["2", "1"]),
+        ("the newer one had a recipient last", of_session(RCPT, BOB), ["1", "2"]),
+    ]:
+        closed = b"".join(ends[it] for it in order)
+        text = INPUT + BEGUN_BY_BOB + more + closed + BEGIN + RCPT + COMMIT
+        too_many = {n: frame(b"\x89" + identity(n, **MX1) + number(0)) for n in (4, 5, 7)}
+        with Script([too_many.get(n) or granted(n, 1, **MX1) for n in range(1, 8)]) as server:
+            errors = world.filter(server.address, text, log="info")[2]
+        checks.equal(
+            f"two messages that were open as the address moved, of which {what}: the log",
+            settles_in(errors),
+            [
+                ("WARN", "4", order[0], said),
+                ("INFO", "5", order[1], said),
+                ("WARN", "7", "3", said),
+            ],
+        )
+
+
+def refusals_of_two_messages(world, checks):
+    """But for a move of the address each message that the server refuses to settle is warned of,
+    also of two that were open at once."""
+    text = INPUT + BEGUN_BY_BOB + COMMIT + of_session(COMMIT, BOB)
+    for what, (body, said) in OTHER_ANSWERS.items():
+        refused = [frame(body + identity(n, **MX1)) for n in (3, 4)]
+        with Script([GRANTED, granted(2, 1, **MX1), *refused]) as server:
+            errors = world.filter(server.address, text, log="info")[2]
+        checks.equal(
+            f"the settles of two messages answered {what}: the log",
+            settles_in(errors),
+            [("WARN", "3", "1", said), ("WARN", "4", "2", said)],
+        )
 
 
 def logins_that_are_full(world, checks):
@@ -1030,6 +1081,116 @@ def its_run(world, checks):
         run in range(before, time.time_ns() // 1_000_000 + 1),
         f"a run from {before} on, and not later",
         run,
+    )
+
+
+def at_each_level(world, checks):
+    """Each level has its own lines and those of the levels before it: one scenario at all four."""
+    named = f"of transaction 1 {NAMED}"
+    wanted = [
+        WHY_CLOSED,
+        f"[INFO  mq_client::tries] reserve 1 {named}: no answer in 3 tries",
+        f"{SERVER} answers again, requests without an answer: 1",
+        f"[WARN  mq_client::tries] reserve 2 {named}: refused by the limit, 3 used of 3",
+        f"[INFO  mq_client::tries] reserve 3 {named}: refused by the limit, 3 used of 3",
+    ]
+    full = [frame(b"\x82" + identity(n, **MX1) + number(3) + number(3)) for n in (2, 3)]
+    released = frame(b"\x84" + identity(4, **MX1) + number(0))
+    for level, marks in [
+        ("off", []),
+        ("error", ["[ERROR"]),
+        ("warn", ["[ERROR", "[WARN "]),
+        ("info", ["[ERROR", "[WARN ", "[INFO "]),
+    ]:
+        with Script([b""] * 3 + [*full, released]) as server:
+            errors = world.filter(server.address, INPUT + RCPT * 2 + RESET_LINE, log=level)[2]
+        if level == "info":
+            errors = after_the_start(checks, "a filter at each level", errors, server.address)
+        checks.equal(
+            f'a filter with log = "{level}": its lines',
+            without_address(errors),
+            [line for line in wanted if line.startswith(tuple(marks))],
+        )
+
+
+def names_as_long_as_any(world, checks):
+    """A login of 255 bytes and a host of 64 stand whole in the lines about a request, and of a
+    longer session its first 16 bytes; a login of any length is warned of once a day."""
+    host, run = b"mx-1." + b"h" * 59, 281_474_976_710_655
+    for what, login, shown_as in [
+        ("255 bytes", b"l" * 255, "l" * 255),
+        ("255 bytes that are escaped", b"\\" * 255, r"\x5c" * 255),
+        ("101 bytes", b"l" * 101, "l" * 101),
+    ]:
+        text = of_session(INPUT.replace(b"alice", login) + RCPT, b"0123456789abcdefXYZ")
+        sender = {"host": host, "run": run}
+        full = [frame(b"\x82" + identity(n, **sender) + number(9) + number(9)) for n in (1, 2)]
+        released = frame(b"\x84" + identity(3, **sender) + number(0))
+        with Script([*full, released]) as server:
+            config = world.filter_file(server.address, host=host.decode(), log="info")
+            errors = world.run("filter", "--config", config, "--run", str(run), text=text)[2]
+        named = f"(host {host.decode()}, session 0123456789abcdef, login {shown_as})"
+        said = "refused by the limit, 9 used of 9"
+        checks.equal(
+            f"a login of {what}, a host of 64 and a session of 19: the log",
+            errors.splitlines(),
+            [
+                (
+                    "[INFO  mq_remote::subcommands::filter] the filter of host"
+                    f" {host.decode()} begins its run {run}, with the server {server.address}"
+                ),
+                f"[WARN  mq_client::tries] reserve 1 of transaction 1 {named}: {said}",
+                f"[INFO  mq_client::tries] reserve 2 of transaction 1 {named}: {said}",
+            ],
+        )
+    for name in (b"0123456789abcdef", b"0123456789abcdefXYZ", b"01", b"0123456789abcdef" * 9):
+        errors = world.filter("127.0.0.1:1", CONFIG + of_session(AUTH + RCPT, name))[2]
+        checks.equal(
+            f"a 451 in a session of {len(name)} bytes: how the log names it",
+            re.findall(r" session (\S+) \(login alice\): recipients are refused", errors),
+            [name[:16].decode()],
+        )
+
+
+def counts_of_lines(world, checks):
+    """How many tries were made, how many a server holds, how much is used of which limit, and how
+    many closings are left, as great as they may be."""
+    for tries_made in (1, 2, 5, 10):
+        with nobody_there() as address:
+            errors = world.filter(address, INPUT + RESET_LINE, tries=tries_made, log="info")[2]
+        said = re.findall(r"\] (reserve|release) (\d) .*: no answer in (\d+) tries(.*)\n", errors)
+        # (the closing is sent once more at the end of the input)
+        wanted = [("reserve", "1", ""), *[("release", "2", ", it waits")] * 2]
+        checks.equal(
+            f"no answer, with {tries_made} tries: how many the log has",
+            said,
+            [(kind, n, str(tries_made), waits) for kind, n, waits in wanted],
+        )
+    for held in (0, 1, 999):
+        too_many = frame(b"\x89" + identity(2, **MX1) + number(held))
+        with Script([GRANTED, too_many]) as server:
+            errors = world.filter(server.address, INPUT + COMMIT)[2]
+        checks.equal(
+            f"a settle of a transaction that holds {held}: the log",
+            errors.splitlines(),
+            [of_a_try("settle", 2, holds_only(held))],
+        )
+    for used in (0, 65_535, 65_536, 1_000_000):
+        full = frame(b"\x82" + identity(1, **MX1) + number(used) + number(used))
+        with Script([full, RELEASED]) as server:
+            errors = world.filter(server.address, INPUT + RESET_LINE)[2]
+        checks.equal(
+            f"a 550 with {used} used of {used}: the log",
+            errors.splitlines(),
+            [of_a_try("reserve", 1, f"refused by the limit, {used} used of {used}")],
+        )
+    messages = [of_session(AUTH + BEGIN + RCPT + RESET_LINE, b"%016x" % n) for n in range(120)]
+    with nobody_there() as address:
+        errors = world.filter(address, CONFIG + b"".join(messages), tries=1)[2]
+    checks.equal(
+        "120 messages without an answer: what is left",
+        errors.splitlines()[1:],
+        [LEFT.replace(": 1", ": 120")],
     )
 
 

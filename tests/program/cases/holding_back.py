@@ -42,6 +42,7 @@ def run(world, checks):
     a_refused_connection(world, checks)
     the_end_of_a_pause(world, checks)
     two_pauses(world, checks)
+    a_pause_of_many(world, checks)
     full_after_a_pause(world, checks)
     closings(world, checks)
     full_logins(world, checks)
@@ -254,6 +255,15 @@ def two_pauses(world, checks):
         of_pauses,
         [PAUSE, AGAIN + "1", PAUSE, AGAIN + "2"],
     )
+
+
+def a_pause_of_many(world, checks):
+    """Its last line counts all that it held back."""
+    begins = 1_576_146_010
+    text = INPUT + RCPT * 2_000 + at(RCPT, begins + 30)
+    script = [SILENCE, granted(2, 1, **MX1)]
+    log = scripted(world, text, script, tries=1, timeout=300, pause=30)[2]
+    checks.equal("a pause of 2,000 recipients: the last line", log[-1:], [AGAIN + "2000"])
 
 
 def full_after_a_pause(world, checks):

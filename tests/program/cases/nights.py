@@ -14,6 +14,7 @@ import itertools
 import os
 import random
 import re
+import resource
 import shutil
 import threading
 import time
@@ -49,6 +50,7 @@ from rows import rows_in, same_rows
 from smtpd import Smtpd, result
 
 DAY = 86_400
+NO_LIMIT = resource.RLIM_INFINITY
 DEFAULT = 1_000
 # days before today that are kept
 KEEP = 2
@@ -70,11 +72,13 @@ def run(world, checks):
     keeps_as_long_as_may_be(world, checks)
     repairs(world, checks)
     leaves_what_is_locked(world, checks)
+    leaves_no_earlier_name(world, checks)
     counts_on(world, checks)
     clocks_that_differ(world, checks)
     no_new_file(world, checks)
     notes_of_nights(world, checks)
     tries_again_in_an_hour(world, checks)
+    takes_its_own_time(world, checks)
     warns_once_over_a_night(world, checks)
     a_switch_that_fails(world, checks)
     catches_up(world, checks)
@@ -84,6 +88,7 @@ def run(world, checks):
     killed_at_a_rename(world, checks)
     killed_at_a_change(world, checks)
     wrong_clocks(world, checks)
+    at_other_times(world, checks)
     ten_nights(world, checks)
     random_histories(world, checks)
     on_full_disks(world, checks)
@@ -177,6 +182,24 @@ def filled(world, path, count=60):
 
 def nightly(world, path, **more):
     return Server(world, **{"store": path, "default": DEFAULT, "keep": KEEP, "log": "info", **more})
+
+
+def made_of(world, path, frames, **settings):
+    """Makes a ledger of these requests; returns its replies, one to each."""
+    with Server(world, words=["--create"], store=path, default=DEFAULT, **settings) as server:
+        replies = asked(server, frames)
+    assert len(replies) == len(frames)
+    return replies
+
+
+def about(day, most):
+    """Fewer requests than these, on a day and on those before it, of which two are to leave."""
+    return [request(number, day - number % (KEEP + 2)) for number in range(1, most)]
+
+
+def has_note(path):
+    """Whether a night's note stands beside a ledger, and is written."""
+    return os.path.exists(f"{path}.night") and os.path.getsize(f"{path}.night") > 0
 
 
 def is_through(server):
@@ -313,8 +336,7 @@ def keeps_as_long_as_may_be(world, checks):
     books, frames = Books(0, DEFAULT), [
         request(number, of) for number, of in enumerate((day - 1, day, day + 200, today()), start=1)
     ]
-    with Server(world, words=["--create"], store=path, default=DEFAULT) as server:
-        assert asked(server, frames) == [books.serve(it) for it in frames]
+    assert made_of(world, path, frames) == [books.serve(it) for it in frames]
     with nightly(world, path, keep=366) as server:
         good = wait_until(lambda: is_through(server))
         lines = [
@@ -333,10 +355,10 @@ def keeps_as_long_as_may_be(world, checks):
 # ---- what a kill leaves
 
 
-def two_files(world):
+def two_files(world, name="two"):
     """A ledger and the one that a renewal made of it, each with commits in its log, and their
     books."""
-    old, new = f"{world.folder}/two-old", f"{world.folder}/two-new"
+    old, new = f"{world.folder}/{name}-old", f"{world.folder}/{name}-new"
     books = filled(world, old)
     settings = ledger_settings(world, old, default=DEFAULT)
     came = world.run("forget", "--config", settings, "--before", str(first_day()), "--into", new)
@@ -347,7 +369,7 @@ def two_files(world):
         assert asked(server, frames) == [kept.serve(it) for it in frames]
         server.process.kill()
         server.status()
-    closed = f"{world.folder}/two-closed"
+    closed = f"{world.folder}/{name}-closed"
     shutil.copy(old, closed)
     shutil.copy(f"{old}-wal", f"{closed}-wal")
     came = world.run("audit", "--config", ledger_settings(world, closed, default=DEFAULT))
@@ -493,7 +515,7 @@ class Taken:
 
 def leaves_what_is_locked(world, checks):
     """While the process lives that switches, nobody else touches its files."""
-    old, new = f"{world.folder}/two-old", f"{world.folder}/two-new"
+    old, _, new, *_ = two_files(world, "locked")
     for state, locked in [
         ("after the first step", ".part"),
         ("after the second", ".next"),
@@ -520,6 +542,27 @@ def leaves_what_is_locked(world, checks):
         fcntl.lockf(file, fcntl.LOCK_EX | fcntl.LOCK_NB, LOCK[1], LOCK[0])
         checks.equal(f"{what}: audit", audit(world, path, default=DEFAULT)[0], 0)
         checks.equal(f"{what}: files", names(path), ["", "-wal", ".part", ".part-wal"])
+
+
+def leaves_no_earlier_name(world, checks):
+    """With what a renewal left goes the name that only a switch gives: where that stays, a later
+    switch that is interrupted would be finished with an earlier file."""
+    old, _, new, books, _ = two_files(world, "named")
+    for state, files in [
+        ("a renewal that was interrupted", STATES["while the new file is filled"][0]),
+        ("a new file alone", STATES["a new file without a log"][0]),
+    ]:
+        what = f"{state}, and a name of an earlier switch"
+        place = f"{world.folder}/named-{len(files)}"
+        path = put(place, {**files, ".next": "new"}, {"old": old, "new": new})
+        checks.equal(f"{what}: audit", audit(world, path, default=DEFAULT), sound(books))
+        checks.equal(f"{what}: files", names(path), ["", "-wal"])
+    what = "a name of an earlier switch, as days leave the ledger"
+    files = {"": "old", "-wal": "old-wal", ".next": "old"}
+    path = put(f"{world.folder}/named", files, {"old": old})
+    with nightly(world, path) as server:
+        good = wait_until(lambda: is_through(server))
+        checks.equal(f"{what}: files", (good, names(path)), (True, NOTED))
 
 
 # ---- servers
@@ -586,8 +629,7 @@ def clocks_that_differ(world, checks):
         books, frames = Books(0, DEFAULT), [
             request(number, newest - number % 9) for number in range(1, 40)
         ]
-        with Server(world, words=["--create"], store=path, default=DEFAULT) as server:
-            assert asked(server, frames) == [books.serve(it) for it in frames]
+        assert made_of(world, path, frames) == [books.serve(it) for it in frames]
         with nightly(world, path) as server:
             checks.equal(
                 f"{what}: replies", asked(server, frames), [books.serve(it) for it in frames]
@@ -893,19 +935,12 @@ def notes_of_nights(world, checks):
         ("a night's note that can't be written", True),
     ]:
         path = f"{world.folder}/zone-{is_folder}"
-        with Server(
-            world, words=["--create"], store=path, default=DEFAULT, offset=offset
-        ) as server:
-            assert len(asked(server, frames)) == len(frames)
+        made_of(world, path, frames, offset=offset)
         if is_folder:
             os.mkdir(f"{path}.night")
             os.mkdir(f"{path}.old-wal")
         with nightly(world, path, offset=offset) as server:
-            good = wait_until(
-                lambda: is_through(server)
-                and os.path.exists(f"{path}.night")
-                and os.path.getsize(f"{path}.night")
-            )
+            good = wait_until(lambda: is_through(server) and has_note(path))
             lines = server.all_log_lines()
             said = next(
                 (
@@ -958,9 +993,7 @@ def notes_of_nights(world, checks):
 def tries_again_in_an_hour(world, checks):
     """A night for which there is no new file is tried again an hour later, and not before."""
     what, path, day = "no new file, at", f"{world.folder}/hourly", today()
-    with Server(world, words=["--create"], store=path, default=DEFAULT) as server:
-        frames = [request(number, day - number % (KEEP + 2)) for number in range(1, 20)]
-        assert len(asked(server, frames)) == len(frames)
+    made_of(world, path, about(day, 20))
     os.mkdir(f"{path}.part")
     server, clock = by_clock(world, path, DAY * day + 3_600)
     with server:
@@ -979,7 +1012,47 @@ def tries_again_in_an_hour(world, checks):
                 (good, warnings(server)),
                 (True, [line] * wanted),
             )
+        checks.equal(
+            "no new file for two hours: all that is logged of nights, also at level info",
+            [it for it in server.all_log_lines() if "mq_nights" in it],
+            [line] * 2,
+        )
     checks.equal("no new file for two hours: files", names(path), ["", "-wal", ".part"])
+
+
+def takes_its_own_time(world, checks):
+    """A night that fails halfway, as its file can't grow, is tried again an hour later, and then
+    takes the time of that attempt alone."""
+    what, path, day = "a night that fails halfway", f"{world.folder}/halfway", today()
+    made_of(world, path, about(day, FILLING))
+    server, clock = by_clock(world, path, DAY * day + 3_600)
+    with server:
+        asked(server, [wire.usage()])
+        # (enough for the tables of a new file, and not for all that stays)
+        resource.prlimit(server.process.pid, resource.RLIMIT_FSIZE, (350_000, NO_LIMIT))
+        clock.pass_to(DAY * day + 10_860)
+        # (it looks after each round of requests)
+        wait_until(lambda: asked(server, [wire.usage()]) and warnings(server))
+        resource.prlimit(server.process.pid, resource.RLIMIT_FSIZE, (NO_LIMIT, NO_LIMIT))
+        clock.pass_to(DAY * day + 10_860 + 3_660)
+        wait_until(lambda: asked(server, [wire.usage()]) and has_note(path))
+        lines = [line for line in server.all_log_lines() if "days before" in line]
+    begins = f"[INFO  mq_nights::evening] forgetting the days before {day - KEEP}"
+    stay = f"[WARN  mq_nights::evening] days before {day - KEEP} stay, next attempt in an hour"
+    ends = f"[INFO  mq_program::nights] ledger {path}: the days before {day - KEEP} are forgotten"
+    said = [re.sub(r", in \d+ ms, .*", "", re.sub(": .*;", ",", line)) for line in lines]
+    checks.equal(f"{what}: what is logged", said, [begins, stay, begins, ends])
+    times = [int(it) for it in re.findall(r" (\d+) ms", lines[-1])]
+    checks.holds(
+        f"{what}: its time, and the part of it without an answer",
+        len(times) == 2 and times[1] <= times[0] < 60_000,
+        "less than a minute of the clock, and no more than that",
+        times,
+    )
+    with open(f"{path}.night", encoding="ascii") as file:
+        wanted = f"forgot the days before {day - KEEP} on day {day}, in {times[0]} ms\n"
+        checks.equal(f"{what}: its note", file.read(), wanted)
+    checks.equal(f"{what}: files", names(path), NOTED)
 
 
 def warns_once_over_a_night(world, checks):
@@ -989,9 +1062,7 @@ def warns_once_over_a_night(world, checks):
         f"{world.folder}/once",
         today(),
     )
-    with Server(world, words=["--create"], store=path, default=DEFAULT) as server:
-        frames = [request(number, day - number % (KEEP + 2)) for number in range(1, 20)]
-        assert len(asked(server, frames)) == len(frames)
+    made_of(world, path, about(day, 20))
     server, clock = by_clock(world, path, DAY * day + 3_600)
     with server:
         near = [
@@ -1179,9 +1250,8 @@ def wrong_clocks(world, checks):
             f"{what}: replies as it shows {clock_shows}", all_asked(server, frames), wanted
         )
 
-    with Server(world, words=["--create"], store=path, default=DEFAULT) as server:
-        frames = [request(number, day - number % (KEEP + 2)) for number in range(1, 80)]
-        assert asked(server, frames) == [books.serve(it) for it in frames]
+    frames = about(day, 80)
+    assert made_of(world, path, frames) == [books.serve(it) for it in frames]
     server, clock = by_clock(world, path, DAY * day + 3_600)
     with server:
         ask(day, "the right day")
@@ -1210,6 +1280,41 @@ def wrong_clocks(world, checks):
         server.process.kill()
         server.status()
     same_rows(checks, what, path, books)
+
+
+def at_other_times(world, checks):
+    """Days leave after 2038 too, and in the last year of all. Where the clock shows no moment of a
+    ledger, that is warned of, at once and an hour later, and nothing leaves."""
+    for day in (40_000, 376_100):
+        what, path = f"a night of day {day}", f"{world.folder}/late{day}"
+        made_of(world, path, about(day, 20))
+        server, _ = by_clock(world, path, DAY * day + 14_400)
+        with server:
+            wait_until(lambda: warnings(server) or has_note(path))
+            checks.equal(
+                f"{what}: what is forgotten, and warned of",
+                (forgotten_from(server), warnings(server)),
+                ([day - KEEP], []),
+            )
+        with open(f"{path}.night", encoding="ascii") as file:
+            said = file.read()
+        begins = f"forgot the days before {day - KEEP} on day {day}, in "
+        checks.holds(f"{what}: the note", said.startswith(begins), begins, said)
+    line = "[WARN  mq_nights::lookout] days to be forgotten: no clock; next attempt in an hour"
+    for what, moment in [("1970-01-01", 3_600), ("the year 3000", 32_503_683_600)]:
+        path = f"{world.folder}/no clock{moment}"
+        made_of(world, path, [request(number, 10 + number % 6) for number in range(1, 20)])
+        server, clock = by_clock(world, path, moment)
+        with server:
+            for minutes, wanted in [(0, 1), (59, 1), (75, 2)]:
+                clock.pass_to(moment + 60 * minutes)
+                # (it looks after each round of requests)
+                asked(server, [wire.usage()] * 20)
+                checks.equal(
+                    f"a clock of {what}, after {minutes} minutes: what is logged",
+                    (warnings(server), forgotten_from(server)),
+                    ([line] * wanted, []),
+                )
 
 
 # ---- two hosts over ten nights

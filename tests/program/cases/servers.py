@@ -7,6 +7,7 @@ from cases.stopping import (
     SET,
     caps,
     no_limit,
+    nothing_sent,
     orders_of,
     run_of,
     said,
@@ -199,10 +200,7 @@ def use_at_one_of_them(world, checks):
     asked, by what that one knows."""
     wait_past_midnight()
     today = int(time.time()) // 86_400
-    nothing = (
-        f"mailquota: nothing sent on day {today} or the two before; check the login, or use"
-        " --force\n"
-    )
+    nothing = f"mailquota: {nothing_sent(today)}\n"
     words = ["stop", "--host", "admin", "--day", str(today), "--login"]
 
     def told(one, other, login, used):

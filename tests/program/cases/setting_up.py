@@ -441,11 +441,21 @@ def statuses_of_a_file(world, checks):
     world.run("init", "--config", ledger_settings(world, by_rule, **zone))
     west = f"{world.folder}/west"
     world.run("init", "--config", ledger_settings(world, west, offset=-90, default=0))
+    link = f"{world.folder}/a link"
+    os.symlink(path, link)
     with nobody_there() as address:
         for what, name, more, terms, counts, count in [
             (
                 "a file with answers",
                 path,
+                {},
+                "default 3, offset 0",
+                "answers=7 days=2 transactions=2 limits=2",
+                7,
+            ),
+            (
+                "a file behind a link",
+                link,
                 {},
                 "default 3, offset 0",
                 "answers=7 days=2 transactions=2 limits=2",
@@ -826,8 +836,12 @@ def monitoring(world, checks):
 
     def counted(address):
         came = of(script, address)
-        with open(f"{world.folder}/mailquota.prom", encoding="ascii") as file:
-            return came.returncode, came.stdout, came.stderr, file.read()
+        try:
+            with open(f"{world.folder}/mailquota.prom", encoding="ascii") as file:
+                written = file.read()
+        except FileNotFoundError:
+            written = None
+        return came.returncode, came.stdout, came.stderr, written
 
     with Server(world) as server:
         came = of(nagios, server.address)

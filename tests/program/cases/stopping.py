@@ -219,6 +219,16 @@ def of_the_real_server(world, checks):
         )
 
 
+def nothing_sent(day):
+    """What `stop` says of a login that used nothing on the day or the two before."""
+    return f"nothing sent on day {day} or the two before; check the login, or use --force"
+
+
+def not_today(day, today):
+    """What `stop` comes to on another day than today."""
+    return 2, b"", f"mailquota: day {day} is not today, which is day {today}; use --force\n"
+
+
 def usage_reply(in_settled, in_reserved, login=b"u", day=1, cap=9):
     return frame(
         b"\x8b" + text(login) + number(day) + number(in_settled) + number(in_reserved) + number(cap)
@@ -886,18 +896,11 @@ def today_alone(world, checks):
             )
         )
 
-        def refused(day, is_today):
-            return (
-                2,
-                b"",
-                f"mailquota: day {day} is not today, which is day {is_today}; use --force\n",
-            )
-
         for day in (0, 1, today - 2, today + 2, LAST_DAY - 1):
             checks.equal(
                 f"stop, day {day - today} from UTC's",
                 world.run("stop", *words, "--day", str(day)),
-                refused(day, today),
+                not_today(day, today),
             )
         checks.equal(
             "the limits are as before", caps(server, b"u", today - 2, today, today + 2), [9, 9, 9]
@@ -910,14 +913,14 @@ def today_alone(world, checks):
                     checks.equal(
                         f"stop, day {day - today} from UTC's, {minutes} minutes east",
                         world.run("stop", *words, "--config", config, "--day", str(day)),
-                        refused(day, theirs),
+                        not_today(day, theirs),
                     )
         rule = ledger_settings(world, "memory", offset=None, rule="<+12>-12")
         theirs = (now + 43_200) // 86_400
         checks.equal(
             "stop by a rule, on the day before",
             world.run("stop", *words, "--config", rule, "--day", str(theirs - 1)),
-            refused(theirs - 1, theirs),
+            not_today(theirs - 1, theirs),
         )
         checks.equal(
             "the limits are still as before",
@@ -977,9 +980,7 @@ def logins_that_sent_nothing(world, checks):
     today = int(time.time()) // 86_400
 
     def idle(day):
-        return fault(
-            f"nothing sent on day {day} or the two before; check the login, or use --force"
-        )
+        return fault(nothing_sent(day))
 
     with Server(world, default=9) as server:
         words = ["--server", server.address, "--host", "admin", "--day", str(today), "--login"]
@@ -1043,7 +1044,7 @@ def logins_that_sent_nothing(world, checks):
         with Script([usage_reply(0, 0, day=it) for it in (day, *range(day, -1, -1))]) as server:
             came = world.run("stop", *words_of(server.address, "u", day))
         # (UTC's day, since no zone is given)
-        wanted = 2, b"", f"mailquota: day {day} is not today, which is day {today}; use --force\n"
+        wanted = not_today(day, today)
         checks.equal(
             f"day {day} isn't today, and so nothing is asked", (came, server.heard), (wanted, [])
         )

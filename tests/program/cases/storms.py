@@ -5,6 +5,7 @@ import re
 import socket
 import time
 
+import clocks
 import wire
 from cases.watching import ERROR, WARN, Watched
 from ends import but_of_requests, read_all, send_no_more, unavailable
@@ -24,6 +25,7 @@ def run(world, checks):
     floods(world, checks)
     as_many_as_may_be(world, checks)
     many_logins(world, checks)
+    hour_after_hour(world, checks)
 
 
 def clock():
@@ -326,3 +328,53 @@ def many_logins(world, checks):
             )
         ]
         checks.equal("a login that is refused beside 25,000 others", (others, lines), ([], wanted))
+
+
+def hour_after_hour(world, checks):
+    """Each line comes once an hour, and again with the first such request of a later hour, by a
+    clock of 2079 too. A login is named whole, however long it is."""
+    login, long = b"l" * 255, "l" * 255
+    for day in (int(time.time()) // DAY, 40_000):
+        ahead = DAY * day + 7_200 - int(time.time())
+        with Storm(world, default=1_000_000, limit=clocks.limit(ahead)) as it:
+            clock_of_it = clocks.Clock(it.server.process.pid, ahead)
+            it.ask(wire.retire(1, host=b"old", run=5), wire.limit(1, day, 0, login=login))
+            for hour in range(3):
+                first = 2_000 * hour + 10
+                asked = [
+                    ([of_day(first, day - 3, b"u", host=b"far")], "127.0.0.1"),
+                    ([wire.settle(first, host=b"old", run=4)], "127.0.0.1"),
+                    ([of_day(first, day, b"v", host=b"two")], "127.0.0.1"),
+                    ([of_day(first + 1, day, b"v", host=b"two")], "127.0.0.2"),
+                    ([of_day(first + n, day, login) for n in range(1_001)], "127.0.0.1"),
+                ]
+                came = [it.ask(*frames, source=source)[1] for frames, source in asked]
+                wanted = [
+                    (
+                        f"host far reserves for day {day - 3}, and today is day {day}: its clock or"
+                        " the server's is wrong"
+                    ),
+                    f"host old asks under run 4, {RETIRED_RUN}",
+                    (
+                        "host two has asked from 127.0.0.1 too within an hour: two machines may"
+                        " have its name"
+                    ),
+                    (
+                        f"login {long} was refused more than 1,000 times within an hour, last for"
+                        " host a"
+                    ),
+                ]
+                checks.equal(
+                    f"day {day}, hour {hour + 1}: what each request brings",
+                    [[said for _, _, said in lines] for lines in came],
+                    [wanted[:1], wanted[1:2], [], wanted[2:3], wanted[3:]],
+                )
+                again = [it.ask(*frames, source=source)[1] for frames, source in asked]
+                checks.equal(
+                    f"day {day}, hour {hour + 1}: what the same bring once more", again, [[]] * 5
+                )
+                clock_of_it.pass_to(clock_of_it.now() + 3_601)
+
+
+def of_day(number, day, login, **sender):
+    return wire.reserve(number, txn=number, login=login, at=DAY * day, **sender)

@@ -118,6 +118,25 @@ LINES = {
         "192.0.2.5",
     ],
 }
+# What names its device, and what its settings stand in.
+BLOCKS_IN_ORDER = [
+    "global_defs {",
+    "}",
+    "vrrp_script answers {",
+    "}",
+    "vrrp_instance mailquota {",
+    "interface eth0",
+    "unicast_peer {",
+    "}",
+    "virtual_ipaddress {",
+    "}",
+    "track_script {",
+    "}",
+    "}",
+]
+BLOCKS = {*BLOCKS_IN_ORDER}
+# What a unit says of itself.
+DESCRIBED = {"Description", "Documentation"}
 # The first that fits counts.
 RULES = [
     "type filter hook input priority filter; policy accept;",
@@ -139,6 +158,7 @@ SMTPD = (
 
 def run(world, checks):
     values_of_units(checks)
+    nothing_else(checks)
     both_retires(checks)
     settings_of_others(checks)
     settings_of_smtpd(checks)
@@ -169,6 +189,31 @@ def values_of_units(checks):
             checks.equal(
                 f"contrib/{name}, {section}: keys of {len(keys)} that have other values", other, {}
             )
+
+
+def nothing_else(checks):
+    """A further key may take back what these say, as what a service may do, or when it starts."""
+    for name, wanted in UNITS.items():
+        besides = [
+            f"{section}: {key}"
+            for section, keys in assignments(text_of(name)).items()
+            for key in keys
+            if key not in wanted.get(section, {}) and key not in DESCRIBED
+        ]
+        checks.equal(f"contrib/{name}: keys that it has besides", besides, [])
+    for name, wanted in LINES.items():
+        lines = [line.strip() for line in text_of(name).splitlines()]
+        besides = [
+            line
+            for line in lines
+            if line and line[0] != "#" and line not in wanted and line not in BLOCKS
+        ]
+        checks.equal(f"contrib/{name}: lines that it has besides", besides, [])
+        checks.equal(
+            f"contrib/{name}: its blocks, in their order",
+            [line for line in lines if line in BLOCKS],
+            BLOCKS_IN_ORDER,
+        )
 
 
 def both_retires(checks):

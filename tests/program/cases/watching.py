@@ -32,6 +32,8 @@ def run(world, checks):
     by_the_zone(world, checks)
     two_peers_by_turns(world, checks)
     names_as_long_as_any(world, checks)
+    limits_as_great_as_any(world, checks)
+    at_each_level(world, checks)
     random_requests(world, checks)
 
 
@@ -533,6 +535,52 @@ def names_as_long_as_any(world, checks):
             ),
         ]
         checks.equal(f"{what}: that its run is retired", lines, wanted)
+
+
+def limits_as_great_as_any(world, checks):
+    """What is used and the limit stand whole in a line, up to the most that they may be."""
+    day = today()
+    for cap in (65_535, 65_536, 81_920, 1_000_000):
+        with Watched(world, default=cap) as it:
+            used = -(-4 * cap // 5)
+            checks.equal(
+                f"a login that nears a limit of {cap}",
+                it.lines(
+                    *(
+                        reserve(1 + n, day, count=min(1_000, used - 1_000 * n))
+                        for n in range(-(-used // 1_000))
+                    )
+                ),
+                [near_line(b"u", used, cap, day)],
+            )
+            lower = wire.limit(2_000, day, cap - 1)
+            checks.equal(
+                f"its limit of {cap} is lowered",
+                it.lines(lower),
+                [lowered_line(cap - 1, cap, day=day)],
+            )
+
+
+def at_each_level(world, checks):
+    """Each level has its own lines and those of the levels before it: the same requests at all
+    four."""
+    day, ahead = today(), int(time.time() * 1_000) + 7_200_000
+    for level, of_level in [
+        ("off", ()),
+        ("error", (ERROR,)),
+        ("warn", (ERROR, WARN)),
+        ("info", (ERROR, WARN, INFO)),
+    ]:
+        with Watched(world, default=1_000, log=level) as it:
+            raised = wire.limit(3, 1, 2_000)
+            it.ask(wire.retire(1, host=b"mx1", run=ahead), reserve(2, day - 3), raised)
+            begins = [line[1:6] for line in it.server.all_log_lines()]
+        shown_levels = {ERROR: "ERROR", WARN: "WARN ", INFO: "INFO "}
+        # (of its start a server has two lines)
+        wanted = ["INFO "] * 2 * (level == "info") + [
+            shown_levels[it] for it in (ERROR, WARN, INFO) if it in of_level
+        ]
+        checks.equal(f'a server with log = "{level}": the levels of its lines', begins, wanted)
 
 
 def random_requests(world, checks):

@@ -54,6 +54,7 @@ def run(world, checks):
     words_of_a_server_and_an_audit(world, checks)
     words_of_questions(world, checks)
     words_without_a_name(world, checks)
+    all_options_at_once(world, checks)
     words_of_replay(world, checks)
     tables_of_replay(world, checks)
 
@@ -494,6 +495,68 @@ REPLAYS = [
     (["--default", "0", "--west", "1439", "--sql"], 0, 1, 86_400 + 1_439 * 60),
     (["--east=90", "--default=1000000", "--west=30"], 1_000_000, 2, 2 * 86_400 - 60 * 60),
 ]
+
+
+def all_options_at_once(world, checks):
+    """Each option that goes with others, in two orders and both spellings, at four servers."""
+    config = world.new_file(
+        toml({"listen": "127.0.0.1:1", "store": "memory", "default": 3, "offset": 0})
+    )
+    with Server(world) as first, Server(world) as second:
+        four = [first.address, second.address] * 2
+        common = [("server", it) for it in four] + [("config", config)]
+        for place, (is_reversed, is_joined) in enumerate(
+            [(False, False), (True, False), (False, True), (True, True)]
+        ):
+            login = f"u{place}"
+            named = [*common, ("login", login)]
+            host = [("host", "admin")]
+            for name, options, done in [
+                (
+                    "limit",
+                    [*named, *host, ("from", "2"), ("cap", "2"), ("run", f"{place + 7}")],
+                    ["set\n"] * 4,
+                ),
+                (
+                    "report",
+                    [*named, ("day", "2")],
+                    [f"      0       0       2 {login}\n"] * 4,
+                ),
+                (
+                    "stop",
+                    [*named, *host, ("day", "2"), ("force", None), ("all", None)],
+                    [
+                        f"stopped: {login} used 0 on day 2\nlimit before: {before}\n"
+                        for before in (2, 2, 0, 0)
+                    ],
+                ),
+                (
+                    "resume",
+                    [*named, *host, ("day", "2"), ("cap", "5")],
+                    [f"resumed: {login} may use 5 on day 2\n"] * 4,
+                ),
+            ]:
+                given = list(reversed(options)) if is_reversed else options
+                asked = reversed(four) if is_reversed else four
+                words = [
+                    word
+                    for option, value in given
+                    for word in (
+                        [f"--{option}={value}"]
+                        if is_joined and value
+                        else [f"--{option}", *([value] if value else [])]
+                    )
+                ]
+                checks.equal(
+                    f"{name} with {len(words)} words of options,"
+                    f" {'from the last on' if is_reversed else 'in order'}",
+                    world.run(name, *words),
+                    (
+                        0,
+                        "".join(f"server {at}:\n{it}" for at, it in zip(asked, done)).encode(),
+                        "",
+                    ),
+                )
 
 
 def words_of_replay(world, checks):
