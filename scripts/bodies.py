@@ -356,31 +356,45 @@ def is_failing(name, found, count=1):
     return not all(named) or len(named) < count and any(it.name == END for it in found)
 
 
-def unseen(body, programs, without):
-    """Of what is to fail over a body, what doesn't."""
+def unseen(cases, without, planted, plain, number=0):
+    """Of what is to fail, what doesn't. `without` gives what a case's run comes to where nothing is
+    planted; `planted` and `plain` give the words that run a group, or of it one function, with what
+    is planted and without it."""
     missed = []
-    for group, name in body.cases:
-        named = [it for it in without[group, name].result() if it.name.startswith(name)]
+    for group, name in cases:
+        named = [it for it in without(group, name) if it.name.startswith(name)]
         if not named or not all(it.is_good for it in named):
             missed.append(
-                f"{group}: {name} (without the body"
-                f" {'it fails' if named else 'there is no such case'})"
+                f"{group}: {name}"
+                f" ({'it fails with nothing planted' if named else 'there is no such case'})"
             )
             continue
         functions = {it.function for it in named}
         function = functions.pop() if len(functions) == 1 else None
-        words = words_of(group, programs[target_of(group)], name, function)
         # (it may want what another function leaves)
-        if function and is_failing(name, alone(*words), len(named)):
-            missed.append(f"{group}: {name} (alone its function fails without the body)")
+        if function and is_failing(name, alone(*plain(group, name, function)), len(named)):
+            missed.append(f"{group}: {name} (alone its function fails with nothing planted)")
             continue
-        found = outcomes(words, body.number, lambda found: is_failing(name, found, len(named)))
+        found = outcomes(
+            planted(group, name, function),
+            number,
+            lambda found, name=name, count=len(named): is_failing(name, found, count),
+        )
         if not is_failing(name, found, len(named)):
             others = [it.name[:100] for it in found if not it.is_good][:3]
             missed.append(
                 f"{group}: {name}" + f" (others fail: {'; '.join(others)})" * bool(others)
             )
     return missed
+
+
+def unseen_of(body, programs, without):
+    """Of what is to fail over a body, what doesn't."""
+
+    def words(group, name, function):
+        return words_of(group, programs[target_of(group)], name, function)
+
+    return unseen(body.cases, lambda *case: without[case].result(), words, words, body.number)
 
 
 def tell(body, missed):
@@ -409,7 +423,7 @@ def tried_alone(body, without):
             programs[target] = built_alone(target, body, f"{root}/{target}")
             if body.why:
                 return []
-        return unseen(body, programs, without)
+        return unseen_of(body, programs, without)
 
 
 def runs_without(bodies, programs, pool):
@@ -459,7 +473,7 @@ def main():
             elif body.functions is None:
                 running.append(pool.submit(tried_alone, body, without))
             else:
-                running.append(pool.submit(unseen, body, programs, without))
+                running.append(pool.submit(unseen_of, body, programs, without))
         good = [tell(body, it.result() if it else []) for body, it in zip(asked, running)]
     print(f"{sum(good)} passed, {len(good) - sum(good)} failed")
     return 0 if all(good) and good else 1

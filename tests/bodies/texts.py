@@ -19,7 +19,7 @@ HERE = os.path.dirname(os.path.realpath(__file__))
 TOP = os.path.dirname(os.path.dirname(HERE))
 sys.path[:0] = [f"{TOP}/scripts", f"{TOP}/gate"]
 
-from bodies import alone, cases_in, is_failing, outcomes
+from bodies import cases_in, outcomes, unseen
 from edit import edits_in
 
 FOLDERS = ("contrib", "debian", "docs", "man")
@@ -71,44 +71,20 @@ def change(place, folder, file):
                     it.write(was.replace(old, text))
 
 
-def words_of(place, group, program, function=None):
-    return [
-        sys.executable,
-        f"{place}/tests/program/run.py",
-        "--group",
-        group,
-        program,
-        *([function] if function else []),
-    ]
+def words_in(place, program):
+    """What gives the words that run a group over a copy, or of it one function."""
 
+    def words(group, _, function=None):
+        return [
+            sys.executable,
+            f"{place}/tests/program/run.py",
+            "--group",
+            group,
+            program,
+            *([function] if function else []),
+        ]
 
-def unseen(place, program, cases, without, plain):
-    """Of what is to fail over the text in this copy, what doesn't; `plain` is one without it."""
-    for group, name in cases:
-        named = [it for it in without[group] if it.name.startswith(name)]
-        if not named or not all(it.is_good for it in named):
-            yield (
-                f"{group}: {name} (without the text"
-                f" {'it fails' if named else 'there is no such case'})"
-            )
-            continue
-        functions = {it.function for it in named}
-        function = functions.pop() if len(functions) == 1 else None
-        words = words_of(place, group, program, function)
-        # (it may want what another function leaves)
-        if function and is_failing(
-            name, alone(*words_of(plain, group, program, function)), len(named)
-        ):
-            yield f"{group}: {name} (alone its function fails without the text)"
-            continue
-        if not is_failing(
-            name,
-            outcomes(
-                words, 0, lambda found, name=name, count=len(named): is_failing(name, found, count)
-            ),
-            len(named),
-        ):
-            yield f"{group}: {name}"
+    return words
 
 
 def parsed():
@@ -139,14 +115,15 @@ def parsed():
 def main():
     program, files = parsed()
     with tempfile.TemporaryDirectory(prefix="texts-") as root:
-        place = plain = copied(f"{root}/without")
+        plain = words_in(copied(f"{root}/without"), program)
         groups = dict.fromkeys(group for _, file in files for group, _ in cases_in(file))
-        without = {group: outcomes(words_of(place, group, program), 0) for group in groups}
+        without = {group: outcomes(plain(group, None), 0) for group in groups}
         good = 0
         for number, (folder, file) in enumerate(files):
             place = copied(f"{root}/{number}")
             change(place, folder, file)
-            missed = list(unseen(place, program, cases_in(file), without, plain))
+            planted = words_in(place, program)
+            missed = unseen(cases_in(file), lambda group, _: without[group], planted, plain)
             shutil.rmtree(place)
             good += not missed
             cases = "; ".join(missed or (": ".join(it) for it in cases_in(file)))
