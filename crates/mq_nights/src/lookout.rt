@@ -173,9 +173,10 @@ impl<'a, C: Clock, G: Log> Lookout<'a, C, G> {
             }
             Ok(DueDays::Nothing) => Sight::Nothing(self.rest_a_night(night, moment)),
             Ok(DueDays::Differs { newest }) => {
+                let today = ledger.zone().day_at(moment);
                 warn!(
                     self.log;
-                    "nothing is forgotten: it is day {night}, and something was reserved on day {newest} last"
+                    "nothing is forgotten: it is day {today}, and something was reserved on day {newest} last"
                 );
                 Sight::Nothing(self.rest_a_night(night, moment))
             }

@@ -75,6 +75,7 @@ def run(world, checks):
     leaves_no_earlier_name(world, checks)
     counts_on(world, checks)
     clocks_that_differ(world, checks)
+    differs_before_three(world, checks)
     no_new_file(world, checks)
     notes_of_nights(world, checks)
     tries_again_in_an_hour(world, checks)
@@ -623,6 +624,14 @@ def counts_on(world, checks):
         )
 
 
+def differs_line(day, newest):
+    """What is logged on a day that is far from the newest one of the ledger."""
+    return (
+        f"[WARN  mq_nights::lookout] nothing is forgotten: it is day {day}, and something was"
+        f" reserved on day {newest} last"
+    )
+
+
 def clocks_that_differ(world, checks):
     for what, newest in [("four days ago", today() - 4), ("in five days", today() + 5)]:
         path, what = f"{world.folder}/clock{newest}", f"a newest day {what}"
@@ -635,14 +644,20 @@ def clocks_that_differ(world, checks):
                 f"{what}: replies", asked(server, frames), [books.serve(it) for it in frames]
             )
             lines = [line for line in server.log_lines() if line.startswith("[WARN  mq_nights::")]
-            night = (int(time.time()) - 10_800) // DAY
-            line = (
-                f"[WARN  mq_nights::lookout] nothing is forgotten: it is day {night}, and something"
-                f" was reserved on day {newest} last"
-            )
-            checks.equal(f"{what}: what is logged", lines, [line])
+            checks.equal(f"{what}: what is logged", lines, [differs_line(today(), newest)])
         checks.equal(f"{what}: files", names(path), ["", "-wal"])
         same_rows(checks, what, path, books)
+
+
+def differs_before_three(world, checks):
+    """An hour after midnight it is the day that has begun, whose night is still to come."""
+    what, day = "an hour after midnight, a newest day four days ago", today()
+    path = f"{world.folder}/early"
+    made_of(world, path, [request(number, day - 4 - number % 9) for number in range(1, 40)])
+    server, _ = by_clock(world, path, DAY * day + 3_600)
+    with server:
+        checks.equal(f"{what}: what is logged", warnings(server), [differs_line(day, day - 4)])
+    checks.equal(f"{what}: files", names(path), ["", "-wal"])
 
 
 def no_new_file(world, checks):
