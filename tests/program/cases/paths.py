@@ -55,6 +55,9 @@ def run(world, checks):
     wait_past_midnight()
     relative(world, checks)
     settings_of_links(world, checks)
+    over_a_folder(world, checks)
+    over_a_link(world, checks)
+    links_beside_a_ledger(world, checks)
     if os.geteuid():
         checks.skip("paths of another user", "who tests isn't root")
         return
@@ -194,6 +197,132 @@ def settings_of_links(world, checks):
         sorted(os.listdir(folder)),
         ["itself", "nothing", "of a filter", "once", "twice"],
     )
+
+
+def over_a_folder(world, checks):
+    """A link to the ledger's folder is as that folder: days leave, and the new file of `forget` is
+    made there."""
+    what, folder, link = "a link to the folder", f"{world.folder}/real", f"{world.folder}/to-real"
+    os.mkdir(folder)
+    os.symlink("real", link)
+    books, day = filled(world, f"{link}/ledger", FEW), first_day()
+    checks.equal(f"{what}: files", names(f"{folder}/ledger"), ["", "-wal"])
+    into = f"{link}/into"
+    came = forget(world, f"{link}/ledger", day, into, default=DEFAULT)
+    checks.equal(
+        f"{what}: forget, and where its file is",
+        (came[0], os.path.isfile(f"{folder}/into")),
+        (0, True),
+    )
+    with nightly(world, f"{link}/ledger") as server:
+        good = wait_until(lambda: is_through(server) or warned_of(server))
+        checks.equal(f"{what}: days leave, and warnings", (good, warned_of(server)), (True, []))
+    checks.equal(
+        f"{what}: files then, and the link",
+        (names(f"{folder}/ledger"), os.readlink(link)),
+        (NOTED, "real"),
+    )
+    same_rows(checks, what, f"{folder}/ledger", books.remembered(day))
+
+
+def over_a_link(world, checks):
+    """Over a link to the ledger's file that is served, with its own log, and by each command; the
+    link stays. A link to nothing, and one to itself, are no ledger."""
+    what, path, link = "a link to the file", f"{world.folder}/its-file", f"{world.folder}/its-link"
+    books = filled(world, path, FEW)
+    os.symlink("its-file", link)
+    frames = [request(number, today(), host=b"mx2") for number in range(1, 20)]
+    with Server(world, store=link, default=DEFAULT) as server:
+        wanted = [books.serve(it) for it in frames]
+        checks.equal(f"{what}: replies", asked(server, frames), wanted)
+        server.process.kill()
+        server.status()
+    checks.equal(
+        f"{what}: files beside it, and beside the file",
+        (names(link), os.readlink(link), names(path)),
+        ([""], "its-file", ["", "-wal"]),
+    )
+    for it in (link, path):
+        checks.equal(
+            f"{what}: audit of {os.path.basename(it)}",
+            audit(world, it, default=DEFAULT),
+            sound(books),
+        )
+    config = ledger_settings(world, link, default=DEFAULT)
+    checks.equal(
+        f"{what}: init",
+        world.run("init", "--config", config),
+        fault("store is not this ledger", log=refusal(link, IS_THERE)),
+    )
+    into = f"{world.folder}/of-link"
+    checks.equal(f"{what}: forget", forget(world, link, first_day(), into, default=DEFAULT)[0], 0)
+    same_rows(checks, f"{what}: forget", into, books.remembered(first_day()))
+    same_rows(checks, what, path, books)
+    for of, to, cause in [("nothing", "no-such-file", NO_FILE), ("itself", "to-itself", LOOP)]:
+        link = f"{world.folder}/to-{of}"
+        os.symlink(to, link)
+        with nobody_there() as address:
+            config = ledger_settings(world, link, default=DEFAULT, listen=address)
+            asks = f"{unreached(address)}mailquota: quota service unavailable\n"
+            for word in ("server", "audit", "limits", "status"):
+                log = (asks if word == "status" else "") + of_store(link, cause)
+                checks.equal(
+                    f"a link to {of}: {word}",
+                    world.run(word, "--config", config),
+                    fault(NOT_OPENED, log=log),
+                )
+        checks.equal(
+            f"a link to {of}: forget",
+            forget(world, link, 1, into + of, default=DEFAULT),
+            fault(NOT_OPENED, log=of_store(link, cause)),
+        )
+        checks.equal(f"a link to {of}: no file is made", os.path.exists(link), False)
+
+
+def links_beside_a_ledger(world, checks):
+    """Of links that have the names of what a night makes or left, none is followed: those of files
+    that a night replaces go, and one that would be the former ledger's name prevents it."""
+    day, other = first_day(), f"{world.folder}/another-file"
+    source = f"{world.folder}/beside-links"
+    books = filled(world, source, FEW)
+    for place, (ends, left) in enumerate(
+        [
+            ([".part"], NOTED),
+            ([".part", ".part-wal"], NOTED),
+            ([".next"], NOTED),
+            ([".old-wal"], NOTED),
+            ([".old"], ["", "-wal", ".old"]),
+        ]
+    ):
+        what = f"links to another file: {' '.join(ends)}"
+        path = copied(source, f"{world.folder}/linked{place}")
+        with open(other, "wb") as file:
+            file.write(b"text")
+        for end in ends:
+            os.symlink(other, path + end)
+        with nightly(world, path) as server:
+            wait_until(lambda: has_note(path) or warned_of(server))
+            came = is_through(server), warned_of(server)
+        prevented = [
+            of_store(f"{path}.old", "not a plain file").rstrip(),
+            (
+                f"[WARN  mq_nights::evening] days before {day} stay: no new store; next attempt in"
+                " an hour"
+            ),
+        ]
+        is_over = left == NOTED
+        checks.equal(
+            f"{what}: days leave, and warnings", came, (is_over, [] if is_over else prevented)
+        )
+        with open(other, "rb") as file:
+            content = file.read()
+        links = [it for it in names(path) if os.path.islink(path + it)]
+        checks.equal(
+            f"{what}: files, those that are links, and the other file",
+            (names(path), links, content),
+            (left, [] if is_over else [".old"], b"text"),
+        )
+        same_rows(checks, what, path, books.remembered(day) if is_over else books)
 
 
 # ---- another user
