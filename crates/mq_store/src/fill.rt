@@ -22,7 +22,7 @@ use sqlite::{Alter, Connection, Error, Transaction};
 use std::alloc::Global;
 
 /// Makes the tables of a ledger with that zone and default, and the index where it is wanted.
-fn make<S: Alter>(tx: &mut Transaction<'_, S>, terms: &Terms, indexed: bool) -> Result<usize, Error>
+fn make<S: Alter>(tx: &mut Transaction<'_, S>, terms: &Terms, indexed: bool) -> Result<(), Error>
     requires in_range { IsAmount terms.now.default }
     requires inside { IsInside S.Store tx.old }
     ensures inside { StaysInside S.Store tx.old tx.new result }
@@ -30,7 +30,8 @@ fn make<S: Alter>(tx: &mut Transaction<'_, S>, terms: &Terms, indexed: bool) -> 
     ensures leaves { LeavesCommit S.Store tx.old tx.new }
 {
     let made_with = new_setting(terms.zone, terms.default);
-    make_tables(tx, &made_with, indexed)
+    make_tables(tx, &made_with, indexed)?;
+    Ok(())
 }
 
 /// Takes over what stays of all answers, in as many steps as that takes, with a scratch ledger in

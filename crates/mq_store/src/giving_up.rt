@@ -60,7 +60,7 @@ fn settled(held: u32, row: Option<UsageRecord>) -> Result<Write<UsageRecord>, Er
 
 /// Closes one transaction.
 #[tactic(auto, using(crate::proofs::Chain::calls))]
-fn close_one<S: Alter>(tx: &mut Transaction<'_, S>, was: &TransactionRecord) -> Result<usize, Error>
+fn close_one<S: Alter>(tx: &mut Transaction<'_, S>, was: &TransactionRecord) -> Result<(), Error>
     requires storable { IsStorable was.now }
     requires inside { IsInside S.Store tx.old }
     ensures inside { StaysInside S.Store tx.old tx.new result }
@@ -71,7 +71,8 @@ fn close_one<S: Alter>(tx: &mut Transaction<'_, S>, was: &TransactionRecord) -> 
     let totals = settled(was.held, usage)?;
     let transaction = Write::Update(abandoned(was)?);
     write_transaction(tx, &transaction)?;
-    write_usage(tx, &totals)
+    write_usage(tx, &totals)?;
+    Ok(())
 }
 
 /// Closes them one after another.

@@ -18,7 +18,7 @@ use std::alloc::Global;
 
 /// What becomes of the transactions, of what logins have used, of the limits and of the floors.
 #[tactic(auto, using(crate::proofs::Chain::calls))]
-fn write_rows<S: Alter>(tx: &mut Transaction<'_, S>, plan: &Plan) -> Result<usize, Error>
+fn write_rows<S: Alter>(tx: &mut Transaction<'_, S>, plan: &Plan) -> Result<(), Error>
     requires storable { AreStorable plan.now.transaction }
     requires floor { IsStorableRun plan.now.retired }
     requires inside { IsInside S.Store tx.old }
@@ -29,7 +29,8 @@ fn write_rows<S: Alter>(tx: &mut Transaction<'_, S>, plan: &Plan) -> Result<usiz
     write_transaction(tx, &plan.transaction)?;
     write_usage(tx, &plan.usage)?;
     write_limit(tx, &plan.limit)?;
-    write_floor(tx, &plan.retired)
+    write_floor(tx, &plan.retired)?;
+    Ok(())
 }
 
 /// All that the plan writes.
@@ -38,7 +39,7 @@ pub(crate) fn write_plan<S: Alter>(
     alloc: Global,
     tx: &mut Transaction<'_, S>,
     plan: &Plan,
-) -> Result<usize, Error>
+) -> Result<(), Error>
     requires storable { IsStorablePlan plan.now }
     requires inside { IsInside S.Store tx.old }
     ensures inside { StaysInside S.Store tx.old tx.new result }

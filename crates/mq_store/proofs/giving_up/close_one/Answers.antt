@@ -1,5 +1,5 @@
-use Rattle.std.proofs.Common.{OnOk, subst}
-use Rattle.mq_store.proofs.Words.{TransactionRecord, Update, UsageRecord, Write, WritesTransaction, WritesUsage, on_ok_weaker, state, was_clean}
+use Rattle.std.proofs.Common.{subst}
+use Rattle.mq_store.proofs.Words.{TransactionRecord, Update, UsageRecord, Write, WritesTransaction, WritesUsage, state, was_clean}
 use Rattle.mq_store.proofs.Closings.{closes}
 use Rattle.mq_store.proofs.giving_up.close_one.Goals as goal
 
@@ -13,5 +13,5 @@ returns-clause-closed g c clean =
     let one = was_clean c.write_transaction.ensures.leaves two in
     let same = c.in_ok-usage.ensures.same one in
     let moved = subst (λ (r : TransactionRecord). WritesTransaction (Update r) s1 s2) c.in_ok-abandoned.ensures (c.in_ok-write_transaction.ensures.written two) in
-    let summed = subst (λ (w : Write UsageRecord). OnOk c.write_usage.result (WritesUsage w s2 s3)) c.in_ok-totals.ensures (c.write_usage.ensures.written clean) in
-    on_ok_weaker c.write_usage.result (closes c.args.was.now c.in_ok-usage.usage s0 s1 s2 s3 (c.in_ok-usage.ensures.found one) same.0.now_is moved) summed
+    let summed = subst (λ (w : Write UsageRecord). WritesUsage w s2 s3) c.in_ok-totals.ensures (c.in_ok-write_usage.ensures.written clean) in
+    closes c.args.was.now c.in_ok-usage.usage s0 s1 s2 s3 (c.in_ok-usage.ensures.found one) same.0.now_is moved summed
