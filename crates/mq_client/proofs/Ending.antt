@@ -1,7 +1,7 @@
 -- Two runs over the same input, whose exchanges ended alike, do and write the same.
 use Rattle.std.proofs.Common.{◌≡◌, ℕ, Bool, true, false, List, [], ◌∷◌, ◌++◌, length, refl, sym, ap, ◌∙◌, subst, append_assoc, inl, inr, ◌⊎◌, Option, None, Some}
 use Rattle.mq_client.proofs.Words.{AfterReady, ArePlayed, BeforeReady, Drain, RunEnd, EndsWith, FilterFault, Filters, HasText, Holding, Holds, IsFound, IsInHand, IsLine, IsTooLong, Meaning, Outside, Reaches, Source, Spans, Stage, StandsAt, StandsFirst, State, Step, StopsAt, actions, all_lines, all_outcomes, answer_count, concat, drained, left_over, no_rest, none_some, outcomes, push, quiets, registration, some_is, text_of, true_false, view}
-use Rattle.mq_client.specs.Place.{is_of_input}
+use Rattle.mq_client.specs.InputFaults.{is_of_input}
 use Rattle.mq_client.specs.declared.fault.FilterFault.TheVariants as faults
 use Rattle.mq_client.proofs.Looping.{is_line_none}
 use Rattle.mq_client.proofs.Turning.{OneReply}

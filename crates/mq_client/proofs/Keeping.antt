@@ -2,7 +2,7 @@
 use Rattle.std.proofs.Common.{◌≡◌, ℕ, ◌+◌, ◌-◌, ◌<◌, ◌≤◌, ◌==◌, nat_le, Bool, false, true, List, refl, sym, ◌∙◌, subst, arith, Option, None, Some, is_some, if◌then◌else◌}
 use Rattle.mq_client.proofs.Words.{AllHeld, RecipientAnswer, HeldTransaction, IsHeld, eqb-true, find, is_other, leb-false, let_through, ltb-false, neither, none_some, opened, refuses, some_is}
 use Rattle.mq_request.specs.Range.{IsOrdinal, IsMoment, IsLogin}
-use Rattle.mq_client.specs.declared.held.RecipientAnswer.TheVariants as asked
+use Rattle.mq_client.specs.declared.recipient_answer.RecipientAnswer.TheVariants as asked
 
 held_where : (old new : List (ℕ × HeldTransaction)) (txn t : ℕ) (o : Option HeldTransaction) (h : HeldTransaction) (b : Bool) → (txn == t) ≡ b → find new t ≡ (if b then o else find old t) → AllHeld old → ((k : HeldTransaction) → o ≡ Some k → IsHeld txn k) → find new t ≡ Some h → IsHeld t h
 held_where old new txn t o h true e n all here f = subst (λ (k : ℕ). IsHeld k h) (eqb-true txn t e) (here h (sym n ∙ f))

@@ -3,7 +3,7 @@ use Rattle.std.proofs.Common.{◌≡◌, ℕ, ◌+◌, ◌≤◌, ◌==◌, ◌|
 use Rattle.mq_client.proofs.Words.{Action, AllByRecursion, AreUnderway, Ask, RecipientAnswer, AsksForNoClosed, Close, CloseEnd, Closed, ComeInTurn, Drain, Exchange, HeldTransaction, Id, IsNumbered, Live, Never, NoneReturns, Release, Request, Settle, SettlesWhatWasLet, Source, Standing, Step, Suits, View, WasCommitted, after, after_close, all_append, all_drop, all_push, answer_of, closing_of, decisions, eq-eqb, eqb-true, exchanges_in, held_by, held_for, id_in, id_of, is_closed, is_other, length, let_through, live_in, ne_eqb, neither_first, neither_second, none_some, not_false, numbers_in, opened, option_map, option_or, queue_of, refuses, request_by, request_under, reserve_of, same_text, some_is, takes_number, tries_in, txn_in, view}
 use Rattle.std.specs.Cmp.Lexicographic.{bytes_decides}
 use Rattle.mq_track.specs.declared.closing.CloseEnd.TheVariants as ending
-use Rattle.mq_client.specs.declared.held.RecipientAnswer.TheVariants as asked
+use Rattle.mq_client.specs.declared.recipient_answer.RecipientAnswer.TheVariants as asked
 use Rattle.mq_client.proofs.ReadingOff.{live_read, numbers_read}
 use Rattle.mq_client.proofs.Turning.{next_in_queue}
 use Rattle.mq_client.proofs.Bounding.{asked_free}

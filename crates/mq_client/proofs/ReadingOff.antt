@@ -1,7 +1,7 @@
 -- What a past leaves is what is read off the whole list of its steps.
 use Rattle.std.proofs.Common.{◌≡◌, ℕ, ◌+◌, ◌==◌, Bool, false, true, List, [], ◌∷◌, refl, sym, ap, ◌∙◌, arith, cond, Option, None, Some, is_some, if◌then◌else◌, count_by}
 use Rattle.mq_client.proofs.Words.{Action, Ask, RecipientAnswer, Asking, Close, CloseEnd, Closed, Drain, Exchange, HeldTransaction, Live, Source, Standing, Step, View, after, after_close, answer_of, asking, asks_of, closed_by, closed_in, cons_option, eqb-true, filter_map, first_of, held_by, is_granted, let_through, live_by, live_in, live_or, numbers_in, opened, since_close, standing_in, standing_or, sum_by-cons, view}
-use Rattle.mq_client.specs.declared.held.RecipientAnswer.TheVariants as asked
+use Rattle.mq_client.specs.declared.recipient_answer.RecipientAnswer.TheVariants as asked
 use Rattle.mq_client.proofs.Counting.{count_in, one_if, counted}
 
 -- one more ask

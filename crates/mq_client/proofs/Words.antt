@@ -33,22 +33,22 @@ pub use Rattle.mq_link.specs.declared.link.ExchangeOutcome.TheVariants.{Answered
 pub use Rattle.mq_link.specs.declared.link.ReportedExchange.{ReportedExchange}
 pub use Rattle.mq_client.specs.Exchanges.{AreFailed, AreTries, Exchange, IsDecision, IsSent, IsTry, IsUndecided, NoneYet, OneMore, Sends, SendsAll, SendsSome, SendsUpTo, decides, decisions, has_timed_out, ran_out, told_all, told_of}
 pub use Rattle.mq_client.specs.Filter.{Answers, Asks, Closes, Filters, Passes, Query, Refuses, Takes, action_of, actions, actions_of, after_line, answer_count, asking_of, at_line, close_of, decision_by, decision_of, is_filter, is_login, is_moment, push, query, query_at}
-pub use Rattle.mq_client.specs.Framed.{IsFramed, requests_of}
-pub use Rattle.mq_client.specs.Held.{AllHeld, IsHeld}
+pub use Rattle.mq_client.specs.FramedRequests.{IsFramed, requests_of}
+pub use Rattle.mq_client.specs.HeldTransactions.{AllHeld, IsHeld}
 pub use Rattle.mq_client.specs.Holding.{Holding, full_by, held_back, is_full, is_over, noted, noted_by, nothing_held, seconds_in, still, still_by, still_paused, times_out}
 pub use Rattle.mq_client.specs.Inside.{state_of}
 pub use Rattle.mq_client.specs.Loop.{Carries, CarriesHeld, Does, IsAt, IsCut, IsRefused, MakesOne, Replies, SinkWorks, SoFar, StopsWithin, filter_fault, told_one}
-pub use Rattle.mq_client.specs.Numbered.{AsksForNoClosed, IsNumbered, NoneReturns, SettlesWhatWasLet, Suits, WasCommitted, exchanges_in, id_in, is_closed, request_by, request_under, txn_in}
+pub use Rattle.mq_client.specs.Numbers.{AsksForNoClosed, IsNumbered, NoneReturns, SettlesWhatWasLet, Suits, WasCommitted, exchanges_in, id_in, is_closed, request_by, request_under, txn_in}
 pub use Rattle.mq_client.specs.Past.{Action, ArePlayed, Ask, Close, Closed, Drain, IsBounded, IsPlayed, Live, Makes, MakesAll, Never, Plays, PlaysFrom, Source, Standing, StandsAt, State, Step, View, after, after_close, answer_by, answer_of, closing_of, drained, find, held_by, held_for, id_of, is_commit, is_other, let_through, opened, refuses, reserve_of, told_steps, tries_in, view, with_asked, without}
 pub use Rattle.mq_client.specs.Reading.{Asking, asking, asks_of, closed_by, closed_in, closing_under, closings_in, first_of, is_decided_by, is_decided_in, is_granted, live_by, live_in, live_or, numbers_in, since_close, standing_in, standing_or, takes_number, waiting_in}
 pub use Rattle.mq_client.specs.Run.{AfterReady, AreRead, BeforeReady, EndsWith, HasText, IsAtWork, IsEarly, IsFound, IsInHand, IsPiece, IsReady, MayGo, Outside, Reaches, Stage, StandsFirst, StopsAt, Supplies, Supply, around, is_early, is_stamped, may_ask_for_memory, supply}
-pub use Rattle.mq_client.specs.Tried.{ComesOf, is_decided, is_late, verdict_of}
+pub use Rattle.mq_client.specs.TriesOutcome.{ComesOf, is_decided, is_late, verdict_of}
 pub use Rattle.mq_client.specs.Turns.{AreUnderway, ComeInTurn, IsUnderway, all_outcomes, failures, next_in, next_of, outcomes, queue_of, quiets}
 pub use Rattle.mq_client.specs.Verdict.{IsVerdict, deciding}
 pub use Rattle.mq_client.specs.declared.fault.FilterFault.{FilterFault}
 pub use Rattle.mq_client.specs.declared.filter.RunEnd.{RunEnd}
-pub use Rattle.mq_client.specs.declared.held.RecipientAnswer.{RecipientAnswer}
-pub use Rattle.mq_client.specs.declared.held.HeldTransaction.{HeldTransaction}
+pub use Rattle.mq_client.specs.declared.recipient_answer.RecipientAnswer.{RecipientAnswer}
+pub use Rattle.mq_client.specs.declared.held_transaction.HeldTransaction.{HeldTransaction}
 pub use Rattle.mq_client.specs.declared.holdup.Full.{Full}
 pub use Rattle.mq_client.specs.declared.spans.Spans.{Spans}
 pub use Rattle.mq_client.specs.declared.tries.FramedRequest.{FramedRequest}

@@ -2,7 +2,7 @@
 use Rattle.std.specs.Prelude.{ℕ, ◌+◌, List, nat_le, Option, None, Some, if◌then◌else◌}
 use Rattle.mq_client.specs.Past.{is_other, lacks_numbers}
 use Rattle.mq_client.specs.Filter.{is_login}
-use Rattle.mq_client.specs.declared.held.HeldTransaction.{HeldTransaction}
+use Rattle.mq_client.specs.declared.held_transaction.HeldTransaction.{HeldTransaction}
 use Rattle.mq_client.specs.declared.refusal.Cause.{Cause}
 use Rattle.mq_client.specs.declared.refusal.Cause.TheVariants.{Login, Moment, Changed, Recipients, Places, Numbers}
 

@@ -14,8 +14,8 @@ use Rattle.mq_client.specs.Exchanges.{Exchange}
 use Rattle.mq_client.specs.Past.{Action, Ask, Close, Step, answer_of}
 use Rattle.mq_client.specs.Holding.{Holding, nothing_held, held_back, seconds_in, still_by, noted_by}
 use Rattle.mq_client.specs.declared.spans.Spans.{Spans}
-use Rattle.mq_client.specs.declared.held.RecipientAnswer.{RecipientAnswer}
-use Rattle.mq_client.specs.declared.held.RecipientAnswer.TheVariants as asked
+use Rattle.mq_client.specs.declared.recipient_answer.RecipientAnswer.{RecipientAnswer}
+use Rattle.mq_client.specs.declared.recipient_answer.RecipientAnswer.TheVariants as asked
 
 -- what becomes of a filter line: it passes, it is refused with no question, or a recipient is asked for
 pub data Query : Type 0 where

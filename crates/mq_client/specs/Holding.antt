@@ -8,8 +8,8 @@ use Rattle.mq_line.specs.declared.results.Decision.{Decision}
 use Rattle.mq_line.specs.declared.results.Decision.TheVariants.{RejectLimit, RejectService}
 use Rattle.mq_client.specs.Exchanges.{has_timed_out}
 use Rattle.mq_client.specs.Past.{Action, Ask, Step, answer_of}
-use Rattle.mq_client.specs.declared.held.RecipientAnswer.{RecipientAnswer}
-use Rattle.mq_client.specs.declared.held.RecipientAnswer.TheVariants as asked
+use Rattle.mq_client.specs.declared.recipient_answer.RecipientAnswer.{RecipientAnswer}
+use Rattle.mq_client.specs.declared.recipient_answer.RecipientAnswer.TheVariants as asked
 use Rattle.mq_client.specs.declared.spans.Spans.{Spans}
 use Rattle.mq_client.specs.declared.holdup.Full.{Full}
 

@@ -3,8 +3,8 @@ use Rattle.std.specs.Prelude.{◌+◌, ◌≤◌, length}
 use Rattle.std.specs.List.{AllByRecursion}
 use Rattle.mq_request.specs.Range.{IsWithin, IsHost, IsRun}
 use Rattle.mq_client.specs.Past.{State}
-use Rattle.mq_client.specs.Held.{AllHeld}
-use Rattle.mq_client.specs.Framed.{IsFramed, requests_of}
+use Rattle.mq_client.specs.HeldTransactions.{AllHeld}
+use Rattle.mq_client.specs.FramedRequests.{IsFramed, requests_of}
 use Rattle.mq_client.specs.declared.client.Client.TheInside.{Inside}
 
 -- a client as its callers see it: of what waits the requests, without their frames

@@ -9,32 +9,32 @@ pub mod Turns
 -- what a past leaves, read off the whole list of its steps
 pub mod Reading
 -- which request a number was used for
-pub mod Numbered
+pub mod Numbers
 -- what the filter holds back
 pub mod Holding
 -- what each line has the client do, and what is written for it
 pub mod Filter
 -- a whole run of the filter: what it read, wrote and did, and how it ended
 pub mod Run
--- the ends of a run that its input decides
-pub mod Place
+-- which faults come of what a run reads
+pub mod InputFaults
 -- ---- what the crate's own functions say
 
 -- the live transactions that a client holds
-pub mod Held
+pub mod HeldTransactions
 -- the closings that wait, with their frames
-pub mod Framed
+pub mod FramedRequests
 -- a client's fields, and what its callers see of them
 pub mod Inside
 -- why a recipient is refused with no exchange
 pub mod Causes
 -- the logins whose limit is in the log
-pub mod Reached
+pub mod LoggedLimits
 -- the warnings that recipients of a session are refused
-pub mod Warned
+pub mod GivenWarnings
 -- what a client keeps of a reply that decides
 pub mod Verdict
 -- what comes of a request's tries
-pub mod Tried
+pub mod TriesOutcome
 -- the loop over lines: how far it has come, and what each of its parts adds
 pub mod Loop

@@ -13,9 +13,9 @@ use Rattle.mq_request.specs.declared.message.Reply.TheVariants as reply
 use Rattle.mq_client.specs.Exchanges.{Exchange, AreTries, Sends, decisions, told_all}
 use Rattle.mq_track.specs.declared.closing.CloseEnd.{CloseEnd}
 use Rattle.mq_track.specs.declared.closing.CloseEnd.TheVariants as ending
-use Rattle.mq_client.specs.declared.held.RecipientAnswer.{RecipientAnswer}
-use Rattle.mq_client.specs.declared.held.RecipientAnswer.TheVariants as asked
-use Rattle.mq_client.specs.declared.held.HeldTransaction.{HeldTransaction}
+use Rattle.mq_client.specs.declared.recipient_answer.RecipientAnswer.{RecipientAnswer}
+use Rattle.mq_client.specs.declared.recipient_answer.RecipientAnswer.TheVariants as asked
+use Rattle.mq_client.specs.declared.held_transaction.HeldTransaction.{HeldTransaction}
 use Rattle.mq_client.specs.declared.spans.Spans.{Spans}
 use Rattle.mq_link.specs.declared.link.ReportedExchange.{ReportedExchange}
 

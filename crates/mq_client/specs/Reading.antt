@@ -8,9 +8,9 @@ use Rattle.mq_client.specs.Exchanges.{Exchange}
 use Rattle.mq_client.specs.Past.{Source, Action, Ask, Close, Drain, Step, Standing, Never, Live, Closed, answer_of}
 use Rattle.mq_client.specs.Past.{closing_of}
 use Rattle.mq_track.specs.declared.closing.CloseEnd.{CloseEnd}
-use Rattle.mq_client.specs.declared.held.RecipientAnswer.{RecipientAnswer}
-use Rattle.mq_client.specs.declared.held.RecipientAnswer.TheVariants as asked
-use Rattle.mq_client.specs.declared.held.HeldTransaction.{HeldTransaction}
+use Rattle.mq_client.specs.declared.recipient_answer.RecipientAnswer.{RecipientAnswer}
+use Rattle.mq_client.specs.declared.recipient_answer.RecipientAnswer.TheVariants as asked
+use Rattle.mq_client.specs.declared.held_transaction.HeldTransaction.{HeldTransaction}
 
 -- an ask that made an exchange
 pub record Asking : Type 0 where

@@ -5,7 +5,7 @@ use Rattle.mq_request.specs.declared.message.Request.{Request}
 use Rattle.mq_client.specs.Exchanges.{Exchange, decisions, IsDecision}
 use Rattle.mq_client.specs.Past.{Source, Action, Ask, Close, Drain, Step, View, view, reserve_of, closing_of, refuses}
 use Rattle.mq_client.specs.Past.{held_for, tries_in}
-use Rattle.mq_client.specs.declared.held.HeldTransaction.{HeldTransaction}
+use Rattle.mq_client.specs.declared.held_transaction.HeldTransaction.{HeldTransaction}
 use Rattle.mq_link.specs.declared.link.ExchangeOutcome.{ExchangeOutcome}
 
 -- how many exchanges failed since the last one that decided

@@ -20,8 +20,8 @@ ghost use Rattle.mq_client.specs.Loop.{MakesOne, told_one, Does, Replies, IsCut}
 
 use crate::client::Client;
 use crate::fault::FilterFault;
-use crate::held::RecipientAnswer;
 use crate::holdup::Holdup;
+use crate::recipient_answer::RecipientAnswer;
 use crate::refusal::Cause;
 use log::Log;
 use mq_line::{Decision, write_result};

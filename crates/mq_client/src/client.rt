@@ -9,14 +9,13 @@ ghost use Rattle.mq_client.specs.Past.{find};
 ghost use Rattle.mq_client.specs.Past.{refuses as refuses_lem, reserve_of, closing_of, answer_by};
 ghost use Rattle.mq_client.specs.Past.{tries_in as tries_in_lem};
 ghost use Rattle.mq_client.specs.Exchanges.{AreTries, has_timed_out};
-ghost use Rattle.mq_client.specs.Held.{IsHeld};
-ghost use Rattle.mq_client.specs.Framed.{IsFramed};
+ghost use Rattle.mq_client.specs.HeldTransactions.{IsHeld};
+ghost use Rattle.mq_client.specs.FramedRequests.{IsFramed};
 ghost use Rattle.mq_request.specs.declared.message.Reply.{Reply};
 
-use crate::held::{
-    HeldTransaction, RecipientAnswer, TimedAnswer, answer_to, closing_request, reserve_request,
-};
+use crate::held_transaction::{HeldTransaction, closing_request, reserve_request};
 use crate::journal::Journal;
+use crate::recipient_answer::{RecipientAnswer, TimedAnswer, answer_to};
 use crate::refusal::{Cause, GivenWarnings, RefusedRecipient};
 use crate::session::SessionName;
 use crate::spans::Spans;

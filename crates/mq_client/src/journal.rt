@@ -1,8 +1,8 @@
 //! What the log says of a client's requests.
 
+use crate::logged_limits::LoggedLimits;
 use crate::moves::Moves;
 use crate::pauses::Pauses;
-use crate::reached::LoggedLimits;
 use crate::tries::{FramedRequest, report};
 use crate::verdict::Verdict;
 use crate::warnings::{RefusedRequest, UnansweredRequest, is_refusal};

@@ -18,14 +18,15 @@ mod answer;
 mod client;
 mod fault;
 mod filter;
-mod held;
+mod held_transaction;
 mod holdup;
 mod journal;
 mod laws;
+mod logged_limits;
 mod moves;
-mod named;
+mod named_request;
 mod pauses;
-mod reached;
+mod recipient_answer;
 mod refusal;
 mod session;
 mod spans;
@@ -37,9 +38,10 @@ mod warnings;
 pub use client::Client;
 pub use fault::FilterFault;
 pub use filter::{RunEnd, run_filter};
-pub use held::{HeldTransaction, RecipientAnswer, TimedAnswer};
+pub use held_transaction::HeldTransaction;
 pub use laws::{
     closed_is_not_asked_for, few_at_a_time, in_turn, one_request_for_a_number, one_run, readings,
     settles_are_of_what_was_let, when_pauses_begin, without_spans,
 };
+pub use recipient_answer::{RecipientAnswer, TimedAnswer};
 pub use spans::Spans;

@@ -1,7 +1,7 @@
 //! Why the filter refuses a recipient by itself, and of which of these causes it has warned.
 ghost use Rattle.std.specs.Prelude.{◌≡◌, ◌≤◌, [], length, true, false};
 ghost use Rattle.std.specs.List.{Contains};
-ghost use Rattle.mq_client.specs.Warned.{Remembers};
+ghost use Rattle.mq_client.specs.GivenWarnings.{Remembers};
 
 use crate::session::SessionName;
 use mq_request::EscapedText;

@@ -7,9 +7,10 @@ ghost use Rattle.mq_client.specs.Past.{find, is_other as is_other_lem, refuses a
 ghost use Rattle.mq_client.specs.Past.{let_through};
 ghost use Rattle.mq_client.specs.Past.{opened as opened_lem};
 ghost use Rattle.mq_client.specs.Causes.{cause_by};
-ghost use Rattle.mq_client.specs.declared.held.HeldTransaction.{HeldTransaction as AnyHeldTransaction};
+ghost use Rattle.mq_client.specs.declared.held_transaction.HeldTransaction.{HeldTransaction as AnyHeldTransaction};
 
-use crate::held::{HeldTransaction, RecipientAnswer};
+use crate::held_transaction::HeldTransaction;
+use crate::recipient_answer::RecipientAnswer;
 use crate::refusal::Cause;
 use mq_request::Login;
 use std::alloc::{AllocError, Global};
@@ -31,7 +32,7 @@ pub struct Transactions {
 
 impl Model for Transactions {
     ghost use Rattle.std.specs.Prelude.{List, ℕ};
-    ghost use Rattle.mq_client.specs.declared.held.HeldTransaction.{HeldTransaction as AnyHeldTransaction};
+    ghost use Rattle.mq_client.specs.declared.held_transaction.HeldTransaction.{HeldTransaction as AnyHeldTransaction};
 
     ghost Value = { List (ℕ × AnyHeldTransaction) };
 

@@ -9,10 +9,10 @@ ghost use Rattle.mq_client.specs.Exchanges.{told_all};
 ghost use Rattle.mq_frame.specs.Spelling.{request_frame};
 ghost use Rattle.mq_client.specs.Exchanges.{ran_out, has_timed_out as has_timed_out_lem};
 ghost use Rattle.mq_link.specs.declared.link.ExchangeOutcome.TheVariants.{Faulted};
-ghost use Rattle.mq_client.specs.Tried.{ComesOf, verdict_of, is_decided as is_decided_lem, is_late};
+ghost use Rattle.mq_client.specs.TriesOutcome.{ComesOf, verdict_of, is_decided as is_decided_lem, is_late};
 ghost use Rattle.mq_request.specs.declared.message.Reply.{Reply};
 ghost use Rattle.mq_client.specs.declared.tries.FramedRequest.{FramedRequest as AnyFramedRequest};
-ghost use Rattle.mq_client.specs.Framed.{IsFramed, requests_of};
+ghost use Rattle.mq_client.specs.FramedRequests.{IsFramed, requests_of};
 
 use crate::journal::Journal;
 use crate::session::SessionName;

@@ -2,7 +2,7 @@
 ghost use Rattle.std.specs.Prelude.{◌≡◌};
 ghost use Rattle.mq_client.specs.Verdict.{is_refusal as is_refusal_lem};
 
-use crate::named::NamedRequest;
+use crate::named_request::NamedRequest;
 use crate::tries::FramedRequest;
 use crate::verdict::Verdict;
 use mq_request::Request;

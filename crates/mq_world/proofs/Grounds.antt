@@ -3,7 +3,7 @@ use Rattle.mq_world.proofs.Words.{Action, AreUnderway, Ask, RecipientAnswer, Boo
 use Rattle.mq_world.proofs.Words.{clash, either, false, granted, granted_in, held_by, if◌then◌else◌, inl, inr, is_of, is_other, length, let_through, let_through_at, nat_le, nat_tests, neither_first, neither_second, none_some, not, not_false, number_is, opened, refl, refuses, reserve_of, same_text}
 use Rattle.mq_world.proofs.Words.{same_transaction, some_is, subst, sum_by, sum_by-le-sum_by, sym, tries_in, true, view, ℕ, ◌&&◌, ◌+◌, ◌==◌, ◌∙◌, ◌∷◌, ◌≡◌, ◌≤◌}
 use Rattle.mq_request.specs.declared.message.Reply.TheVariants as reply
-use Rattle.mq_client.specs.declared.held.RecipientAnswer.TheVariants as asked
+use Rattle.mq_client.specs.declared.recipient_answer.RecipientAnswer.TheVariants as asked
 use Rattle.mq_client.proofs.WaitingOff.{seq_of}
 use Rattle.mq_world.proofs.Basics.{sum_grows}
 use Rattle.mq_world.proofs.Ranges.{next_among, free_ask}

@@ -4,7 +4,7 @@ use Rattle.mq_world.proofs.Words.{Source, Step, Usage, View, [], answer_by, answ
 use Rattle.mq_world.proofs.Words.{reserve_of, subst, sym, tries_in, true, view, ℕ, ◌+◌, ◌<◌, ◌∙◌, ◌∷◌, ◌≡◌, ◌≤◌, ◌⊎◌}
 use Rattle.mq_request.specs.declared.message.Reply.TheVariants as reply
 use Rattle.mq_link.specs.Link.{Brings}
-use Rattle.mq_client.specs.declared.held.RecipientAnswer.TheVariants as asked
+use Rattle.mq_client.specs.declared.recipient_answer.RecipientAnswer.TheVariants as asked
 use Rattle.mq_world.specs.World.{begun, with_exchange}
 use Rattle.mq_world.proofs.Known.{OfFrames, OfClients}
 use Rattle.mq_world.proofs.Numbers.{IsOwn, numbered_own, begun_numbered, more_numbered, ended_numbered}

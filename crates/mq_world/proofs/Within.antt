@@ -4,7 +4,7 @@ use Rattle.mq_world.proofs.Words.{after, after_ask, after_close, answer_by, answ
 use Rattle.mq_world.proofs.Words.{is_for, is_of, is_some, length, let_through, list_any, named, names_for, nat_le, nat_tests, next_of, none_some, number_is, opened, option_cases, refl, refuses, reserve_of, same_text, second_so, settled_in, settled_on, slice_get, some_is, subst, suc, sum_by}
 use Rattle.mq_world.proofs.Words.{sum_by-append, sum_by-cons, sum_by-le-sum_by, sym, tries_in, true, view, zero, zero_or_more, ℕ, ◌&&◌, ◌+◌, ◌<◌, ◌==◌, ◌∙◌, ◌∷◌, ◌≡◌, ◌≤◌, ◌⊎◌}
 use Rattle.mq_track.specs.declared.closing.CloseEnd.TheVariants as ending
-use Rattle.mq_client.specs.declared.held.RecipientAnswer.TheVariants as asked
+use Rattle.mq_client.specs.declared.recipient_answer.RecipientAnswer.TheVariants as asked
 use Rattle.mq_world.specs.World.{with_exchange}
 use Rattle.mq_world.specs.Law.{counting, granted_of, let_by, is_on, let_on}
 use Rattle.mq_world.specs.Together.{kept_of, used_of, cap_of}

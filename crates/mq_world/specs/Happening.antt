@@ -17,11 +17,11 @@ use Rattle.mq_client.specs.Exchanges.{Exchange, decides}
 use Rattle.mq_client.specs.Past.{Source, Step, drained, view}
 use Rattle.mq_client.specs.Run.{Outside, EndsWith}
 use Rattle.mq_client.specs.declared.filter.RunEnd.{RunEnd}
-use Rattle.mq_client.specs.Numbered.{exchanges_in}
+use Rattle.mq_client.specs.Numbers.{exchanges_in}
 use Rattle.mq_link.specs.declared.link.LinkFault.{LinkFault}
 use Rattle.mq_link.specs.declared.link.ExchangeOutcome.TheVariants.{Answered, Faulted}
 use Rattle.mq_world.specs.World.{Site, World, IsStart, Next, Reaches, with_run, after_exchange, same_source, source_of}
-use Rattle.mq_client.specs.declared.held.HeldTransaction.{HeldTransaction}
+use Rattle.mq_client.specs.declared.held_transaction.HeldTransaction.{HeldTransaction}
 use Rattle.mq_world.specs.Law.{run_of, standing_of, counting, let_by, let_together}
 use Rattle.mq_world.specs.Running.{ran, GoesOnAround, IsNew}
 use Rattle.mq_world.specs.Forgetting.{forgotten, ReachesForgetting}

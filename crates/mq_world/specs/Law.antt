@@ -7,7 +7,7 @@ use Rattle.mq_client.specs.Past.{Source, Action, Drain, Step, Standing, Never, L
 use Rattle.mq_client.specs.Filter.{actions, actions_of}
 use Rattle.mq_client.specs.Turns.{AreUnderway}
 use Rattle.mq_client.specs.Reading.{standing_in}
-use Rattle.mq_client.specs.declared.held.HeldTransaction.{HeldTransaction}
+use Rattle.mq_client.specs.declared.held_transaction.HeldTransaction.{HeldTransaction}
 use Rattle.mq_world.specs.World.{Run, World}
 
 -- the run that a transaction is of

@@ -19,7 +19,7 @@ use Rattle.mq_ledger.specs.Legal.{Book, IsLegalBook}
 use Rattle.mq_client.specs.Exchanges.{Exchange, IsDecision, decides}
 use Rattle.mq_client.specs.Past.{Source, Action, Drain, Step, IsPlayed}
 use Rattle.mq_client.specs.Turns.{next_in}
-use Rattle.mq_client.specs.Numbered.{id_in}
+use Rattle.mq_client.specs.Numbers.{id_in}
 use Rattle.mq_client.specs.Filter.{push, action_of}
 use Rattle.mq_link.specs.declared.link.ExchangeOutcome.{ExchangeOutcome}
 use Rattle.mq_link.specs.declared.link.ExchangeOutcome.TheVariants.{Answered, Faulted}

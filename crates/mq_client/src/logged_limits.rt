@@ -2,7 +2,7 @@
 //! each.
 ghost use Rattle.std.specs.Prelude.{◌≡◌, ◌<◌, ◌≤◌, ◌++◌, ◌∷◌, [], not, length, true, false, OnOk};
 ghost use Rattle.std.specs.Prelude.{OnErr};
-ghost use Rattle.mq_client.specs.Reached.{is_noted as is_noted_lem, Notes};
+ghost use Rattle.mq_client.specs.LoggedLimits.{is_noted as is_noted_lem, Notes};
 
 use crate::tries::{FramedRequest, report};
 use crate::verdict::Verdict;
@@ -44,7 +44,7 @@ pub struct LoggedLimits {
 
 impl Model for LoggedLimits {
     ghost use Rattle.std.specs.Prelude.{List};
-    ghost use Rattle.mq_client.specs.declared.reached.LoggedLimit.{LoggedLimit};
+    ghost use Rattle.mq_client.specs.declared.logged_limits.LoggedLimit.{LoggedLimit};
 
     ghost Value = { List LoggedLimit };
 

@@ -2,7 +2,7 @@
 use Rattle.std.specs.Prelude.{◌≡◌, ℕ, List, [], ◌∷◌, ◌++◌, length, Bool, ◌==◌, ◌&&◌, if◌then◌else◌, ◌⊎◌}
 use Rattle.std.specs.List.{list_any}
 use Rattle.mq_request.specs.Same.{same_text}
-use Rattle.mq_client.specs.declared.reached.LoggedLimit.{LoggedLimit}
+use Rattle.mq_client.specs.declared.logged_limits.LoggedLimit.{LoggedLimit}
 
 -- whether a login is noted for a day
 abbrev pub is_noted : ℕ → List ℕ → List LoggedLimit → Bool

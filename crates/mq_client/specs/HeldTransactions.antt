@@ -2,7 +2,7 @@
 use Rattle.std.specs.Prelude.{◌≡◌, ℕ, List, ◌≤◌, Some}
 use Rattle.mq_request.specs.Range.{IsOrdinal, IsMoment, IsLogin}
 use Rattle.mq_client.specs.Past.{find}
-use Rattle.mq_client.specs.declared.held.HeldTransaction.{HeldTransaction}
+use Rattle.mq_client.specs.declared.held_transaction.HeldTransaction.{HeldTransaction}
 
 -- a live transaction in range: at most 1,000 of its recipients were let through
 pub record IsHeld (txn : ℕ) (h : HeldTransaction) : Type 0 where

@@ -12,7 +12,7 @@ use Rattle.mq_client.specs.Past.{Source, Action, Ask, Close, Drain, Step, Standi
 use Rattle.mq_client.specs.Past.{id_of, reserve_of, closing_of}
 use Rattle.mq_client.specs.Reading.{live_in, numbers_in}
 use Rattle.mq_track.specs.declared.closing.CloseEnd.TheVariants.{Commit}
-use Rattle.mq_client.specs.declared.held.HeldTransaction.{HeldTransaction}
+use Rattle.mq_client.specs.declared.held_transaction.HeldTransaction.{HeldTransaction}
 
 -- the id that a request carries
 abbrev pub id_in : Request → Option Id

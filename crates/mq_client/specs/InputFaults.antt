@@ -1,4 +1,4 @@
--- Where a run comes to its end.
+-- Which faults come of what a run reads, and not of what lies around it.
 use Rattle.std.specs.Prelude.{Bool, true, false}
 use Rattle.mq_client.specs.declared.fault.FilterFault.{FilterFault}
 use Rattle.mq_client.specs.declared.fault.FilterFault.TheVariants as faults

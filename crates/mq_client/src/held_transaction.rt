@@ -1,13 +1,10 @@
 //! What is known of a held transaction, and the requests about it.
-ghost use Rattle.std.specs.Prelude.{◌≡◌, ◌≤◌, ◌&&◌, nat_le, if◌then◌else◌, Option, IfOk};
+ghost use Rattle.std.specs.Prelude.{◌≡◌, ◌≤◌, ◌&&◌, nat_le, if◌then◌else◌, IfOk};
 ghost use Rattle.mq_request.specs.declared.message.Request.TheVariants.{Settle, Release};
 ghost use Rattle.mq_request.specs.Range.{IsHost, IsRun, IsOrdinal, IsMoment, IsLogin, IsRequest};
-ghost use Rattle.mq_client.specs.Past.{answer_by, reserve_of, closing_of, is_commit};
-ghost use Rattle.mq_client.specs.Held.{IsHeld};
-ghost use Rattle.mq_client.specs.Verdict.{IsVerdict};
-ghost use Rattle.mq_request.specs.declared.message.Reply.{Reply};
+ghost use Rattle.mq_client.specs.Past.{reserve_of, closing_of, is_commit};
+ghost use Rattle.mq_client.specs.HeldTransactions.{IsHeld};
 
-use crate::verdict::Verdict;
 use mq_request::{Host, Id, Login, Request};
 use mq_track::CloseEnd;
 use std::alloc::{AllocError, Global};
@@ -21,36 +18,6 @@ pub struct HeldTransaction {
     pub moment: u64,
     /// How many recipients were let through, 0 to 1,000.
     pub granted: u32,
-}
-
-/// What is answered of a recipient.
-#[derive(Clone, Copy, Debug, PartialEq, Eq)]
-pub enum RecipientAnswer {
-    /// It may go through.
-    Granted,
-    /// The login's limit of the day is reached.
-    Full,
-    /// No answer can be had.
-    Unavailable,
-}
-
-/// What is answered of a recipient, and whether asking took too long.
-#[derive(Clone, Copy, Debug, PartialEq, Eq)]
-pub struct TimedAnswer {
-    pub asked: RecipientAnswer,
-    /// The server was asked, no try decided, and one of them ran out of time.
-    pub timed_out: bool,
-}
-
-/// The answer to an ask, by what was decided about it.
-pub fn answer_to(verdict: Option<Verdict>) -> RecipientAnswer
-    ensures { (decided : Option Reply) → IsVerdict decided verdict → result ≡ answer_by decided }
-{
-    match verdict {
-        Some(Verdict::Granted) => RecipientAnswer::Granted,
-        Some(Verdict::Full { .. }) => RecipientAnswer::Full,
-        _ => RecipientAnswer::Unavailable,
-    }
 }
 
 /// The request for one recipient.
