@@ -12,9 +12,9 @@ ghost use Rattle.mq_link.specs.Link.{Tells};
 ghost use Rattle.std.specs.Option.{option_copied};
 ghost use Rattle.mq_client.specs.Past.{Step, Ask};
 ghost use Rattle.mq_client.specs.Holding.{times_out, full_by, full_in, noted_by};
-ghost use Rattle.mq_client.specs.Causes.{cause_of as cause_of_lem};
+ghost use Rattle.mq_client.specs.Causes.{cause_of};
 ghost use Rattle.mq_client.specs.Filter.{is_login, is_moment, query_at, query};
-ghost use Rattle.mq_client.specs.Filter.{decision_of as decision_of_lem, Answers};
+ghost use Rattle.mq_client.specs.Filter.{decision_of, Answers};
 ghost use Rattle.mq_client.specs.Run.{around};
 ghost use Rattle.mq_client.specs.Loop.{MakesOne, told_one, Does, Replies, IsCut};
 
@@ -50,7 +50,7 @@ fn may_ask(login: &[u8], moment: u64) -> bool
 
 /// Why a recipient of this login can't be asked for.
 fn cause_of(login: &[u8]) -> Cause
-    ensures { result ≡ cause_of_lem login.now }
+    ensures { result ≡ cause_of login.now }
 {
     if is_login(login) {
         Cause::Moment
@@ -67,7 +67,7 @@ fn is_recipient(subsystem: &[u8], phase: &[u8]) -> bool
 }
 
 fn decision_of(answer: RecipientAnswer) -> Decision
-    ensures { result ≡ decision_of_lem answer }
+    ensures { result ≡ decision_of answer }
 {
     match answer {
         RecipientAnswer::Granted => Decision::Proceed,

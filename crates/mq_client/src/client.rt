@@ -5,9 +5,7 @@ ghost use Rattle.mq_request.specs.Range.{IsHost, IsRun, IsWithin, IsOrdinal, IsM
 ghost use Rattle.mq_link.specs.Link.{Tells};
 ghost use Rattle.mq_client.specs.Exchanges.{Exchange, told_all};
 ghost use Rattle.mq_client.specs.Past.{Step, Ask, Close, Drain, StandsAt, Makes, view, answer_of};
-ghost use Rattle.mq_client.specs.Past.{find};
-ghost use Rattle.mq_client.specs.Past.{refuses as refuses_lem, reserve_of, closing_of, answer_by};
-ghost use Rattle.mq_client.specs.Past.{tries_in as tries_in_lem};
+ghost use Rattle.mq_client.specs.Past.{find, refuses, reserve_of, closing_of, answer_by, tries_in};
 ghost use Rattle.mq_client.specs.Exchanges.{AreTries, has_timed_out};
 ghost use Rattle.mq_client.specs.HeldTransactions.{IsHeld};
 ghost use Rattle.mq_client.specs.FramedRequests.{IsFramed};
@@ -109,7 +107,7 @@ fn framed_closing(
 
 /// How often each request is tried: in a pause none is.
 fn tries_in(tries: u32, paused: bool) -> u32
-    ensures { result ≡ tries_in_lem tries paused }
+    ensures { result ≡ tries_in tries paused }
 {
     if paused { 0 } else { tries }
 }
@@ -233,7 +231,7 @@ impl Client {
               quiet = false;
             }) × (asking.timed_out ≡ has_timed_out group)) }
         // Memory is asked for only where the server is.
-        ensures refused { refuses_lem (find self.old.held txn)
+        ensures refused { refuses (find self.old.held txn)
             (length self.old.held) self.old.numbers (length self.old.waiting) moment login.now
             ≡ true → IsOk result }
         ensures client { OnErr result (self.new ≡ self.old) }

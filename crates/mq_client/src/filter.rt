@@ -6,9 +6,9 @@ ghost use Rattle.std.specs.List.{concat};
 ghost use Rattle.std.specs.Io.KnownBytes.{Appends, IsAtEnd};
 ghost use Rattle.mq_stream.specs.Flow.{IsFlushed};
 ghost use Rattle.mq_line.specs.Grammar.{Meaning, meaning};
-ghost use Rattle.mq_line.specs.Results.{registration as registration_lem};
+ghost use Rattle.mq_line.specs.Results.{registration};
 ghost use Rattle.mq_line.specs.Text.{IsLine};
-ghost use Rattle.mq_track.specs.Sessions.{closing as closing_lem, fault as fault_lem};
+ghost use Rattle.mq_track.specs.Sessions.{closing, fault};
 ghost use Rattle.mq_track.specs.State.{TracksAt};
 ghost use Rattle.mq_link.specs.Link.{Tells};
 ghost use Rattle.mq_client.specs.Past.{Step, State};
@@ -59,7 +59,7 @@ struct Filter {
 
 /// The text of the registration.
 fn registration(alloc: Global) -> Result<Vec<u8>, AllocError>
-    ensures { IfOk result (λ text. text.items ≡ registration_lem) }
+    ensures { IfOk result (λ text. text.items ≡ registration) }
 {
     let mut text = Vec::new(alloc);
     write_registration(&mut text)?;
@@ -69,7 +69,7 @@ fn registration(alloc: Global) -> Result<Vec<u8>, AllocError>
 /// Writes the registration.
 fn register<W: Sink>(alloc: Global, output: &mut W) -> Result<(), FilterFault>
     ensures ok { OnOk result (Appends (W.contents output.old)
-        (W.contents output.new) registration_lem) }
+        (W.contents output.new) registration) }
     ensures written { OnOk result (W.has_failed output.new ≡ false) }
     ensures fault { IfErr result (λ f. IsCut f (W.has_failed output.new)) }
     ensures works { W.has_failed output.old ≡ false → result ≢ Err FilterFault.Write
@@ -77,7 +77,7 @@ fn register<W: Sink>(alloc: Global, output: &mut W) -> Result<(), FilterFault>
     ensures flushed { IsFlushed (W.has_flushed output.old) → result ≢ Err FilterFault.Write →
         IsFlushed (W.has_flushed output.new) }
     ensures cut { OnErr result ((front : List ℕ) × (rest : List ℕ)
-        × (registration_lem ≡ front ++ rest)
+        × (registration ≡ front ++ rest)
         × Appends (W.contents output.old) (W.contents output.new) front) }
 {
     let Ok(text) = registration(alloc) else {
@@ -178,8 +178,8 @@ fn note<R: Log, K: Link>(
     ensures ok { OnOk result ((step : Option Step) × Tells (K.told link.old) (K.told link.new)
         (told_one step)
         × MakesOne client.old client.new step
-        × ((L : List Meaning) → TracksAt tracker.old L → (fault_lem L (meaning line.now) ≡ None)
-        × Closes (is_some holdup.old.1.paused) (closing_lem L (meaning line.now)) step
+        × ((L : List Meaning) → TracksAt tracker.old L → (fault L (meaning line.now) ≡ None)
+        × Closes (is_some holdup.old.1.paused) (closing L (meaning line.now)) step
         × TracksAt tracker.new (meaning line.now ∷ L))
         × (holdup.new ≡ (
           holdup.old.0,

@@ -2,10 +2,8 @@
 //! reached, isn't asked again and again.
 ghost use Rattle.std.specs.Prelude.{◌≡◌, ◌≤◌, length, is_some, OnOk, OnErr, Option, None, Some};
 ghost use Rattle.std.specs.Option.{option_copied};
-ghost use Rattle.mq_client.specs.Holding.{nothing_held, still, still_by, is_over as is_over_lem};
-ghost use Rattle.mq_client.specs.Holding.{still_paused as still_paused_lem};
-ghost use Rattle.mq_client.specs.Holding.{is_full as is_full_lem, held_back as held_back_lem};
-ghost use Rattle.mq_client.specs.Holding.{noted, with_full};
+ghost use Rattle.mq_client.specs.Holding.{nothing_held, still, still_by, is_over, still_paused};
+ghost use Rattle.mq_client.specs.Holding.{is_full, held_back, noted, with_full};
 
 use crate::spans::Spans;
 use mq_line::Decision;
@@ -44,14 +42,14 @@ impl Model for Holdup {
 
 /// Whether a line of this second ends what began at that one.
 fn is_over(span: u64, since: u64, seconds: u64) -> bool
-    ensures { result ≡ is_over_lem span since seconds }
+    ensures { result ≡ is_over span since seconds }
 {
     seconds < since || span <= seconds - since
 }
 
 /// A pause, unless a line of this second ends it.
 fn still_paused(span: u64, seconds: u64, paused: Option<u64>) -> Option<u64>
-    ensures { result ≡ still_paused_lem span seconds paused }
+    ensures { result ≡ still_paused span seconds paused }
 {
     match paused {
         Some(since) => {
@@ -67,7 +65,7 @@ fn still_paused(span: u64, seconds: u64, paused: Option<u64>) -> Option<u64>
 
 /// Whether the login is one whose limit was reached.
 fn is_full(login: &[u8], full: &[Full]) -> bool
-    ensures { result ≡ is_full_lem login.now full.now }
+    ensures { result ≡ is_full login.now full.now }
 {
     full.iter().any(|one| one.login.as_slice() == login)
 }
@@ -113,7 +111,7 @@ impl Holdup {
 
     /// How a recipient of the login is answered with no exchange, where it is held back.
     pub fn held_back(&self, login: &[u8]) -> Option<Decision>
-        ensures { result ≡ held_back_lem self.now.1 login.now }
+        ensures { result ≡ held_back self.now.1 login.now }
     {
         if is_full(login, self.full.as_slice()) {
             Some(Decision::RejectLimit)

@@ -2,7 +2,7 @@
 //! each.
 ghost use Rattle.std.specs.Prelude.{◌≡◌, ◌<◌, ◌≤◌, ◌++◌, ◌∷◌, [], not, length, true, false, OnOk};
 ghost use Rattle.std.specs.Prelude.{OnErr};
-ghost use Rattle.mq_client.specs.LoggedLimits.{is_noted as is_noted_lem, Notes};
+ghost use Rattle.mq_client.specs.LoggedLimits.{is_noted, Notes};
 
 use crate::tries::{FramedRequest, report};
 use crate::verdict::Verdict;
@@ -27,7 +27,7 @@ pub struct LoggedLimit {
 
 /// Whether a login is noted for a day.
 fn is_noted(day: u64, login: &[u8], noted: &[LoggedLimit]) -> bool
-    ensures { result ≡ is_noted_lem day login.now noted.now }
+    ensures { result ≡ is_noted day login.now noted.now }
 {
     noted
         .iter()
@@ -65,7 +65,7 @@ impl LoggedLimits {
     /// Whether this login wasn't noted for this day before; it is from now on, if memory is left
     /// for it.
     pub fn is_first(&mut self, day: u64, login: &[u8]) -> bool
-        ensures first { result ≡ not (is_noted_lem day login.now self.old) }
+        ensures first { result ≡ not (is_noted day login.now self.old) }
         ensures again { result ≡ false → self.new ≡ self.old }
         ensures noted { result ≡ true → Notes self.old self.new day login.now }
     {

@@ -3,9 +3,7 @@ ghost use Rattle.std.specs.Prelude.{◌≡◌, ◌<◌, ◌^◌, [], ℕ, List, 
 ghost use Rattle.std.specs.Prelude.{None};
 ghost use Rattle.std.specs.Prelude.{IfOk, OnOk, OnErr, IfSome, if◌then◌else◌, ◌==◌, ◌+◌, true};
 ghost use Rattle.std.specs.Option.{option_copied};
-ghost use Rattle.mq_client.specs.Past.{find, is_other as is_other_lem, refuses as refuses_lem};
-ghost use Rattle.mq_client.specs.Past.{let_through};
-ghost use Rattle.mq_client.specs.Past.{opened as opened_lem};
+ghost use Rattle.mq_client.specs.Past.{find, is_other, refuses, let_through, opened};
 ghost use Rattle.mq_client.specs.Causes.{cause_by};
 ghost use Rattle.mq_client.specs.declared.held_transaction.HeldTransaction.{HeldTransaction as AnyHeldTransaction};
 
@@ -41,14 +39,14 @@ impl Model for Transactions {
 
 /// Whether a transaction is held with another login or moment.
 fn is_other(known: &HeldTransaction, moment: u64, login: &[u8]) -> bool
-    ensures { result ≡ is_other_lem known.now moment login.now }
+    ensures { result ≡ is_other known.now moment login.now }
 {
     known.login.as_slice() != login || known.moment != moment
 }
 
 /// What is known of a transaction at its first request.
 fn opened(alloc: Global, moment: u64, login: &[u8]) -> Result<HeldTransaction, AllocError>
-    ensures { IfOk result (λ held. held ≡ opened_lem moment login.now None) }
+    ensures { IfOk result (λ held. held ≡ opened moment login.now None) }
 {
     Ok(HeldTransaction {
         login: Login::from_slice(alloc, login)?,
@@ -94,7 +92,7 @@ impl Transactions {
         login: &[u8],
     ) -> Option<Cause>
         requires { waiting < 2 ^ 32 }
-        ensures refuses { is_some result ≡ refuses_lem (find self.now txn)
+        ensures refuses { is_some result ≡ refuses (find self.now txn)
             (length self.now) numbers waiting moment
             login.now }
         ensures cause { result ≡ cause_by (find self.now txn)
@@ -131,7 +129,7 @@ impl Transactions {
     /// Holds a transaction, if it isn't held. An `Err` changes nothing.
     pub fn hold(&mut self, txn: u32, moment: u64, login: &[u8]) -> Result<(), AllocError>
         ensures find { OnOk result ((t : ℕ) → find self.new t ≡ (if txn == t
-            then Some (opened_lem moment login.now (find self.old txn)) else find self.old t)) }
+            then Some (opened moment login.now (find self.old txn)) else find self.old t)) }
         ensures len { OnOk result (length self.new ≡ (if is_some (find self.old txn)
             then length self.old else length self.old + 1)) }
         ensures err { OnErr result (self.new ≡ self.old) }

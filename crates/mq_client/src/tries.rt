@@ -7,9 +7,9 @@ ghost use Rattle.mq_link.specs.Link.{Tells};
 ghost use Rattle.mq_client.specs.Exchanges.{Exchange, IsTry, AreTries, IsSent, Sends, told_of};
 ghost use Rattle.mq_client.specs.Exchanges.{told_all};
 ghost use Rattle.mq_frame.specs.Spelling.{request_frame};
-ghost use Rattle.mq_client.specs.Exchanges.{ran_out, has_timed_out as has_timed_out_lem};
+ghost use Rattle.mq_client.specs.Exchanges.{ran_out, has_timed_out};
 ghost use Rattle.mq_link.specs.declared.link.ExchangeOutcome.TheVariants.{Faulted};
-ghost use Rattle.mq_client.specs.TriesOutcome.{ComesOf, verdict_of, is_decided as is_decided_lem, is_late};
+ghost use Rattle.mq_client.specs.TriesOutcome.{ComesOf, verdict_of, is_decided, is_late};
 ghost use Rattle.mq_request.specs.declared.message.Reply.{Reply};
 ghost use Rattle.mq_client.specs.declared.tries.FramedRequest.{FramedRequest as AnyFramedRequest};
 ghost use Rattle.mq_client.specs.FramedRequests.{IsFramed, requests_of};
@@ -92,7 +92,7 @@ impl TriesOutcome {
 
     /// Whether a reply decides the request.
     fn is_decided(self) -> bool
-        ensures { result ≡ is_decided_lem self }
+        ensures { result ≡ is_decided self }
     {
         matches!(self, TriesOutcome::Decided(_))
     }
@@ -200,8 +200,8 @@ fn send<R: Log, L: Link>(
 ) -> TriesOutcome
     requires { IsFramed closing.now }
     ensures { (group : List Exchange) × Tells (L.told link.old) (L.told link.new) (told_all group)
-        × IsSent tries closing.now.request group (is_decided_lem result)
-        × (has_timed_out_lem group ≡ is_late result) }
+        × IsSent tries closing.now.request group (is_decided result)
+        × (has_timed_out group ≡ is_late result) }
 {
     try_all(rt, alloc, link, closing, tries, journal)
 }
@@ -229,7 +229,7 @@ pub fn send_all<R: Log, L: Link>(
     ensures step { (group : List Exchange) × Tells (L.told link.old) (L.told link.new)
         (told_all group)
         × Sends tries (requests_of outbox.old.items) group (requests_of outbox.new.items)
-        × (result ≡ has_timed_out_lem group) }
+        × (result ≡ has_timed_out group) }
     ensures framed { AllByRecursion IsFramed outbox.new.items }
     ensures len { length outbox.new.items ≤ length outbox.old.items }
 {

@@ -5,7 +5,7 @@ ghost use Rattle.mq_frame.specs.Parts.{shown_reply};
 ghost use Rattle.mq_frame.specs.Shown.{shown_id};
 ghost use Rattle.mq_request.specs.Same.{same_id};
 ghost use Rattle.mq_client.specs.Exchanges.{answers_reserve, answers_closing, IsDecision};
-ghost use Rattle.mq_client.specs.Verdict.{IsVerdict, deciding, is_answer as is_answer_lem};
+ghost use Rattle.mq_client.specs.Verdict.{IsVerdict, deciding, is_answer};
 ghost use Rattle.mq_frame.specs.Spelling.{SpellsReply};
 ghost use Rattle.mq_link.specs.declared.link.ExchangeOutcome.TheVariants.{Answered};
 
@@ -95,14 +95,14 @@ fn verdict_of(request: &Request, reply: ReplyParts<'_>) -> Option<Verdict>
 
 /// Whether this reply is an answer to some request.
 fn is_answer(reply: ReplyParts<'_>) -> bool
-    ensures { result ≡ is_answer_lem (shown_reply reply.entry) }
+    ensures { result ≡ is_answer (shown_reply reply.entry) }
 {
     !matches!(reply, ReplyParts::Retry | ReplyParts::Bad)
 }
 
 /// Whether a body that decides nothing is yet an answer to some request.
 pub fn is_other_reply(body: &[u8]) -> bool
-    ensures spelled { (reply : Reply) → SpellsReply body.now reply → result ≡ is_answer_lem reply }
+    ensures spelled { (reply : Reply) → SpellsReply body.now reply → result ≡ is_answer reply }
     ensures other { ((reply : Reply) → SpellsReply body.now reply → ⊥) → result ≡ false }
 {
     match read_reply(body) {

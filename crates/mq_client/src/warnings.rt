@@ -1,6 +1,6 @@
 //! What the warnings of a client say.
 ghost use Rattle.std.specs.Prelude.{◌≡◌};
-ghost use Rattle.mq_client.specs.Verdict.{is_refusal as is_refusal_lem};
+ghost use Rattle.mq_client.specs.Verdict.{is_refusal};
 
 use crate::named_request::NamedRequest;
 use crate::tries::FramedRequest;
@@ -56,7 +56,7 @@ impl fmt::Display for LimitReached<'_> {
 
 /// Whether the server refused a request for another cause than the limit.
 pub fn is_refusal(verdict: Verdict) -> bool
-    ensures { result ≡ is_refusal_lem verdict }
+    ensures { result ≡ is_refusal verdict }
 {
     matches!(
         verdict,
