@@ -151,9 +151,9 @@ fn ask<'a, R: Log, K: Link>(
     }
     match client.reserve(rt, link, txn, moment, login) {
         Ok(asking) => Ok(Ruling {
-            decision: decision_of(asking.asked),
+            decision: decision_of(asking.answer),
             timed_out: asking.timed_out,
-            full: full_login(asking.asked, login),
+            full: full_login(asking.answer, login),
         }),
         Err(refused) => Err(refused),
     }

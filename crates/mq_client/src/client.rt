@@ -124,12 +124,12 @@ fn ask<R: Log, L: Link>(
     requires { IsFramed reserve }
     ensures { (group : List Exchange) × (decided : Option Reply)
         × Tells (L.told link.old) (L.told link.new) (told_all group)
-        × AreTries tries reserve.request group decided × (result.asked ≡ answer_by decided)
+        × AreTries tries reserve.request group decided × (result.answer ≡ answer_by decided)
         × (result.timed_out ≡ has_timed_out group) }
 {
     let tried = try_all(rt, alloc, link, &reserve, tries, journal);
     TimedAnswer {
-        asked: answer_to(tried.verdict()),
+        answer: answer_to(tried.verdict()),
         timed_out: tried.has_timed_out(),
     }
 }
@@ -225,7 +225,7 @@ impl Client {
         requires login { IsLogin login.now }
         ensures ok { IfOk result (λ asking. (group : List Exchange)
             × Tells (L.told link.old) (L.told link.new) (told_all group)
-            × (asking.asked ≡ answer_of group) × Makes self.old self.new (record {
+            × (asking.answer ≡ answer_of group) × Makes self.old self.new (record {
               action = Ask txn moment login.now;
               group = group;
               quiet = false;
@@ -244,7 +244,7 @@ impl Client {
         {
             self.warn_refused(rt, login, cause);
             return Ok(TimedAnswer {
-                asked: RecipientAnswer::Unavailable,
+                answer: RecipientAnswer::Unavailable,
                 timed_out: false,
             });
         }
@@ -261,7 +261,7 @@ impl Client {
         let asking = ask(rt, self.alloc, link, reserve, self.tries, journal);
         self.journal
             .note_pause(rt, asking.timed_out, self.spans.pause);
-        self.held.count(txn, asking.asked);
+        self.held.count(txn, asking.answer);
         Ok(asking)
     }
 

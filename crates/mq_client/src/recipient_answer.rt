@@ -20,7 +20,7 @@ pub enum RecipientAnswer {
 /// What is answered of a recipient, and whether asking took too long.
 #[derive(Clone, Copy, Debug, PartialEq, Eq)]
 pub struct TimedAnswer {
-    pub asked: RecipientAnswer,
+    pub answer: RecipientAnswer,
     /// The server was asked, no try decided, and one of them ran out of time.
     pub timed_out: bool,
 }

@@ -76,7 +76,7 @@ fn reserve<L: Ledger + Drop>(
         return Some(false);
     }
     match client.reserve(&Discard, link, open.txn, moment, login) {
-        Ok(asking) => Some(asking.asked == RecipientAnswer::Granted),
+        Ok(asking) => Some(asking.answer == RecipientAnswer::Granted),
         Err(_) => None,
     }
 }

@@ -50,7 +50,7 @@ fn reserve(rt: &impl Abort, rig: &mut Rig, txn: u32, moment: u64, login: &[u8]) 
     rig.client
         .reserve(&rig.log, &mut rig.link, txn, moment, login)
         .expect(rt, MEMORY)
-        .asked
+        .answer
 }
 
 /// Asserts what comes of asking for a recipient.

@@ -137,7 +137,7 @@ fn ask(rt: &impl Abort, rig: &mut Rig, login: u32, txn: u32) {
         .client
         .reserve(&rig.log, &mut rig.link, txn, 86_400, name.as_slice())
         .expect(rt, MEMORY)
-        .asked;
+        .answer;
     assert_that(
         rt,
         asked == mq_client::RecipientAnswer::Full,

@@ -35,7 +35,7 @@ fn begin(rt: &impl Abort, rig: &mut Rig, txn: u32) {
         .expect(rt, MEMORY);
     assert_that(
         rt,
-        asking.asked == mq_client::RecipientAnswer::Granted,
+        asking.answer == mq_client::RecipientAnswer::Granted,
         "a grant",
     );
 }
