@@ -3,7 +3,7 @@
 use crate::logged_limits::LoggedLimits;
 use crate::moves::Moves;
 use crate::pauses::Pauses;
-use crate::tries::{FramedRequest, report};
+use crate::tries::{FramedRequest, log_text};
 use crate::verdict::Verdict;
 use crate::warnings::{RefusedRequest, UnansweredRequest, is_refusal};
 use log::{Level, Log};
@@ -12,7 +12,7 @@ use std::alloc::Global;
 /// What the log has of a client's requests, so that what lasts or comes again is warned of once.
 #[derive(Drop)]
 pub struct Journal {
-    reached: LoggedLimits,
+    limits: LoggedLimits,
     moves: Moves,
     pauses: Pauses,
 }
@@ -21,24 +21,24 @@ impl Journal {
     /// The log has nothing so far.
     pub fn new(alloc: Global) -> Journal {
         Journal {
-            reached: LoggedLimits::new(alloc),
+            limits: LoggedLimits::new(alloc),
             moves: Moves::new(),
             pauses: Pauses::new(),
         }
     }
 
-    /// Reports what a reply decided about a request, where the log has a line for it.
+    /// Logs what a reply decided about a request, where the log has a line for it.
     pub fn note_decided<R: Log>(&mut self, rt: &R, framed: &FramedRequest, verdict: Verdict) {
         self.pauses.end(rt);
         self.moves.see(&framed.request);
-        self.reached.report(rt, framed, verdict);
+        self.limits.log_refusal(rt, framed, verdict);
         if is_refusal(verdict) {
             let level = self.moves.level(&framed.request, verdict);
-            report(rt, level, &RefusedRequest { framed, verdict });
+            log_text(rt, level, &RefusedRequest { framed, verdict });
         }
     }
 
-    /// Reports a request that no reply decided in so many tries: by a warning where the server
+    /// Logs a request that no reply decided in so many tries: by a warning where the server
     /// answered, since the link logs it else. One that was tried no time is held back, and has no
     /// line.
     pub fn note_undecided<R: Log>(
@@ -61,10 +61,10 @@ impl Journal {
             tries,
             is_answered,
         };
-        report(rt, level, &unanswered);
+        log_text(rt, level, &unanswered);
     }
 
-    /// Reports that a pause of so many seconds begins, where a try ran out of time and there are
+    /// Logs that a pause of so many seconds begins, where a try ran out of time and there are
     /// pauses.
     pub fn note_pause<R: Log>(&mut self, rt: &R, timed_out: bool, seconds: u64) {
         if timed_out && seconds > 0 {

@@ -4,7 +4,7 @@ ghost use Rattle.std.specs.Prelude.{◌≡◌, ◌<◌, ◌≤◌, ◌++◌, ◌
 ghost use Rattle.std.specs.Prelude.{OnErr};
 ghost use Rattle.mq_client.specs.LoggedLimits.{is_noted, Notes};
 
-use crate::tries::{FramedRequest, report};
+use crate::tries::{FramedRequest, log_text};
 use crate::verdict::Verdict;
 use crate::warnings::LimitReached;
 use log::{Level, Log};
@@ -48,7 +48,7 @@ impl Model for LoggedLimits {
 
     ghost Value = { List LoggedLimit };
 
-    ghost view = { λ reached. reached.noted.items };
+    ghost view = { λ limits. limits.noted.items };
 }
 
 impl LoggedLimits {
@@ -92,12 +92,12 @@ impl LoggedLimits {
         Ok(())
     }
 
-    /// Reports where the server refused a recipient by the limit: the first of a login on a day by
+    /// Logs where the server refused a recipient by the limit: the first of a login on a day by
     /// a warning. The day is that of its transaction in UTC, since the server's isn't known here.
-    pub fn report<R: Log>(&mut self, rt: &R, reserve: &FramedRequest, verdict: Verdict) {
+    pub fn log_refusal<R: Log>(&mut self, rt: &R, reserve: &FramedRequest, verdict: Verdict) {
         if let Verdict::Full { used, cap } = verdict {
             let level = self.level(&reserve.request);
-            report(rt, level, &LimitReached { reserve, used, cap });
+            log_text(rt, level, &LimitReached { reserve, used, cap });
         }
     }
 

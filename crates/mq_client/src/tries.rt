@@ -63,8 +63,8 @@ impl FramedRequest {
     }
 }
 
-/// Logs a text.
-pub fn report<R: Log, T: Display>(rt: &R, level: Level, text: &T) {
+/// Logs a text about tries: a line begins with the name of this module.
+pub fn log_text<R: Log, T: Display>(rt: &R, level: Level, text: &T) {
     log!(rt; level, "{text}");
 }
 
