@@ -11,7 +11,7 @@ use Rattle.mq_ledger.specs.Legal.{Book, IsLegal, IsLegalBook}
 use Rattle.mq_ledger.specs.declared.entry.Entry.{Entry}
 use Rattle.mq_ledger.specs.declared.zone.Zone.{Zone}
 use Rattle.mq_chore.specs.Choring.{HasCome}
-use Rattle.mq_store.specs.declared.reached.RenewalPlace.{RenewalPlace}
+use Rattle.mq_store.specs.declared.renewal_place.RenewalPlace.{RenewalPlace}
 use Rattle.mq_store.specs.Renewing.{HasCarried}
 use Rattle.mq_store.specs.Soundness.{HasKept}
 use Rattle.mq_store.proofs.Beside.{carried_since}

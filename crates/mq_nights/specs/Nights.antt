@@ -6,7 +6,7 @@ use Rattle.mq_request.specs.Range.{IsMoment}
 use Rattle.mq_ledger.specs.Day.{day_of}
 use Rattle.mq_ledger.specs.Legal.{Book}
 use Rattle.mq_forget.specs.Remembered.{remembered}
-use Rattle.mq_store.specs.declared.reached.RenewalPlace.{RenewalPlace}
+use Rattle.mq_store.specs.declared.renewal_place.RenewalPlace.{RenewalPlace}
 use Rattle.mq_store.specs.Renewing.{HasCarried}
 use Rattle.mq_store.specs.Soundness.{HasKept, IsSound, book_in}
 use Rattle.mq_nights.specs.declared.due.DueDays.TheVariants.{Before}

@@ -2,7 +2,7 @@
 use Rattle.std.proofs.Common.{IsPermutation, drop, map, pos, subst, sym, true, ℕ, ◌≡◌}
 use Rattle.mq_store.proofs.Words.{AllByRecursion, Audit, Database, Figures, HasFigures, HasLedger, IsAudited, Sound, Tables, TransactionRecord, WholeTransaction, Wrong, Zone, bit, day_of, figures, is_right, limit_cells, limit_figures, map-map, pairs, transaction_figures, usage_cells, usage_figures, whole_cells}
 use Rattle.mq_store.specs.Auditing.{IsRightAnswer}
-use Rattle.mq_store.proofs.Keyed.{contained}
+use Rattle.mq_store.proofs.KeyedRows.{contained}
 
 abbrev whole_of : TransactionRecord → WholeTransaction
 whole_of t = record { host = t.host; run = pos t.run; txn = pos t.txn; figures = transaction_figures t; closed = pos (bit t.closed) }

@@ -2,7 +2,7 @@
 use Rattle.std.proofs.Common.{List, subst, sym, ℕ, ◌++◌, ◌≡◌}
 use Rattle.mq_store.proofs.Words.{Book, Database, Entry, IsLegal, IsLegalBook, Request, State, Zone, day_of, history_of, remembered, requests}
 use Rattle.mq_chore.specs.Choring.{HasCome}
-use Rattle.mq_store.specs.declared.reached.RenewalPlace.{RenewalPlace}
+use Rattle.mq_store.specs.declared.renewal_place.RenewalPlace.{RenewalPlace}
 use Rattle.mq_store.specs.Renewing.{HasCarried}
 use Rattle.mq_store.specs.Soundness.{IsSound, book_in}
 

@@ -9,7 +9,7 @@ use Rattle.mq_request.specs.declared.message.Request.TheVariants.{List as ListRe
 use Rattle.mq_forget.specs.Remembered.{moment_of as moment_in}
 use Rattle.mq_store.specs.Carrying.{day_by, SpellsWhereKnown, IsWhereKnown, IsAnswered}
 use Rattle.mq_store.proofs.KnownNumbers.{not_known}
-use Rattle.mq_store.proofs.Keyed.{has_filtered}
+use Rattle.mq_store.proofs.KeyedRows.{has_filtered}
 
 -- Answers.
 

@@ -3,7 +3,7 @@ use Rattle.std.proofs.Common.{List, None, Option, Some, [], false, find, inl, in
 use Rattle.mq_store.proofs.Words.{AllByRecursion, Decides-eqb, Entry, Granted, IsAmount, IsLogin, IsNext, IsRequest, Reply, Request, Reserve, UsageRecord, are_amounts, below, cases_Bool, first_so, has_reserve, is_above, is_login, is_usage, le_is, login_on, same_text, usage_row}
 use Rattle.std.specs.Cmp.Lexicographic.{bytes_decides}
 use Rattle.mq_request.specs.declared.message.Reply.TheVariants.{Usage as UsageReply}
-use Rattle.mq_store.proofs.Keyed.{contained}
+use Rattle.mq_store.proofs.KeyedRows.{contained}
 
 -- ---- amounts
 

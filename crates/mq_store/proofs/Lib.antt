@@ -5,7 +5,7 @@ pub mod Causes
 pub mod InRange
 pub mod OpenFaults
 pub mod KnownNumbers
-pub mod Keyed
+pub mod KeyedRows
 pub mod Sound
 pub mod Writing
 pub mod Audits

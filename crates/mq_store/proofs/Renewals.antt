@@ -2,7 +2,7 @@
 use Rattle.std.proofs.Common.{List, None, Option, Some, [], ap, append-nil, append_assoc, arith, inl, inr, length, length-append, subst, sym, take, ℕ, ◌++◌, ◌+◌, ◌∙◌, ◌∷◌, ◌≡◌, ◌≤◌}
 use Rattle.mq_store.proofs.Words.{Book, Database, Entry, Id, Request, State, Zone, answer, cases_Bool, day_of, history_of, id_of, known_by, remembered, requests, take-append-le, with_arrival, with_arrival_by}
 use Rattle.std.proofs.Math.Seq.{take-length}
-use Rattle.mq_store.specs.declared.reached.RenewalPlace.{RenewalPlace}
+use Rattle.mq_store.specs.declared.renewal_place.RenewalPlace.{RenewalPlace}
 use Rattle.mq_store.specs.Forgetting.{IsRemembered}
 use Rattle.mq_store.specs.Renewing.{HasCarried, Renews, IsThrough, Ends}
 use Rattle.mq_store.specs.Soundness.{HasKept, book_in}

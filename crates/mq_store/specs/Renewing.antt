@@ -6,7 +6,7 @@ use Rattle.mq_ledger.specs.declared.zone.Zone.{Zone}
 use Rattle.mq_ledger.specs.Day.{day_of}
 use Rattle.mq_forget.specs.Remembered.{remembered}
 use Rattle.mq_store.specs.declared.carry.JudgedAnswer.{JudgedAnswer}
-use Rattle.mq_store.specs.declared.reached.RenewalPlace.{RenewalPlace}
+use Rattle.mq_store.specs.declared.renewal_place.RenewalPlace.{RenewalPlace}
 use Rattle.mq_store.specs.Carrying.{IsJudged}
 use Rattle.mq_store.specs.Taking.{HasBook, book_of}
 

@@ -21,8 +21,8 @@ ghost use Rattle.mq_store.specs.Taking.{Applies};
 
 use crate::fault::Refusal;
 use crate::laws::{entries_are_carried, entries_are_followed};
-use crate::reached::RenewalPlace;
 use crate::recall::{answered_at, is_set, stays};
+use crate::renewal_place::RenewalPlace;
 use crate::take::{TakenRequest, take};
 use mq_ledger::Zone;
 use mq_request::{Reply, Request};

@@ -14,7 +14,7 @@ ghost use Rattle.mq_store.specs.Soundness.{HasKept};
 use crate::carry::Terms;
 use crate::fault::Refusal;
 use crate::ledger::new_setting;
-use crate::reached::RenewalPlace;
+use crate::renewal_place::RenewalPlace;
 use crate::slice::go_through;
 use mq_tables::create::make_tables;
 use mq_tables::names::lacks_index;

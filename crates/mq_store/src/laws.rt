@@ -45,7 +45,7 @@ ghost use Rattle.mq_store.specs.Auditing.{IsAuditIn, IsRightAnswer};
 ghost use Rattle.mq_store.specs.Carrying.{day_by, SpellsWhereKnown, IsAnswered};
 ghost use Rattle.mq_store.specs.Renewing.{HasCarried};
 ghost use Rattle.mq_store.specs.Soundness.{book_in};
-ghost use Rattle.mq_store.specs.declared.reached.RenewalPlace.{RenewalPlace as AnyRenewalPlace};
+ghost use Rattle.mq_store.specs.declared.renewal_place.RenewalPlace.{RenewalPlace as AnyPlace};
 ghost use Rattle.mq_store.specs.Taking.{HasRows, HasBook, book_of, book_after, IsKnown};
 ghost use Rattle.mq_store.specs.Taking.{IsPlannedOver};
 
@@ -267,12 +267,12 @@ pub(crate) fn entries_are_carried()
 /// What was taken over of an old ledger is so of it with further entries, and so after any requests
 /// that come to it.
 pub fn arrivals_leave_what_was_taken_over()
-    ensures entries { (zone : AnyZone) (default D : ℕ) (H S : List AnyEntry) (at : AnyRenewalPlace)
+    ensures entries { (zone : AnyZone) (default D : ℕ) (H S : List AnyEntry) (at : AnyPlace)
         (new scratch : Database) →
         HasCarried zone default D H at new scratch → HasCarried zone default D
         (H ++ S) at new scratch }
     ensures arrivals { (zone : AnyZone) (default D : ℕ) (H : List AnyEntry) (came : List AnyRequest)
-        (at : AnyRenewalPlace)
+        (at : AnyPlace)
         (new scratch : Database) → IsLegal (day_of zone) default H
         → HasCarried zone default D H at new scratch →
         HasCarried zone default D (history_of (day_of zone) default (requests H ++ came)) at new scratch }

@@ -21,7 +21,7 @@ use crate::carry::Terms;
 use crate::fault::{OpenRefused, StoreCause, noted};
 use crate::laws::tables_mean_their_book;
 use crate::ledger::SqlLedger;
-use crate::reached::RenewalPlace;
+use crate::renewal_place::RenewalPlace;
 use crate::slice::renew_store;
 use mq_ledger::{LedgerFault, Zone};
 use sqlite::{Alter, Connection, MemStore};

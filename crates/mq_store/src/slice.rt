@@ -12,7 +12,7 @@ ghost use Rattle.mq_store.specs.Soundness.{HasKept};
 
 use crate::carry::{Terms, step};
 use crate::fault::Refusal;
-use crate::reached::RenewalPlace;
+use crate::renewal_place::RenewalPlace;
 use mq_tables::setting::read_arrivals;
 use sqlite::{Alter, Connection, MemStore, Transaction};
 use std::alloc::Global;

@@ -1,6 +1,6 @@
 use Rattle.std.proofs.Common.{List, Option, ap, sym, ◌∙◌}
 use Rattle.mq_store.proofs.Words.{RetiredRecord, floor_by, is_host, retired_row}
-use Rattle.mq_store.proofs.Keyed.{found_once}
+use Rattle.mq_store.proofs.KeyedRows.{found_once}
 use Rattle.mq_store.proofs.laws.floors_are_known.Goals as goal
 
 pub returns : goal.returns

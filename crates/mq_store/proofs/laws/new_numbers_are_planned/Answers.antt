@@ -1,6 +1,6 @@
 use Rattle.mq_store.specs.Taking.{book_of}
 use Rattle.mq_store.proofs.KnownNumbers.{not_known}
-use Rattle.mq_store.proofs.Keyed.{keyed}
+use Rattle.mq_store.proofs.KeyedRows.{keyed}
 use Rattle.mq_store.proofs.laws.new_numbers_are_planned.Goals as goal
 
 pub returns-clause-planned : goal.returns-clause-planned

@@ -1,7 +1,7 @@
 use Rattle.std.proofs.Common.{List, None, ap, false, find, is_some, subst, sym, true, ◌≡◌}
 use Rattle.mq_store.proofs.Words.{AnswerRecord, answer_rows, day_of, is_below, or_first, requests, same_id, stored}
 use Rattle.mq_store.proofs.KnownNumbers.{known_as_stored}
-use Rattle.mq_store.proofs.Keyed.{found_of, none_found}
+use Rattle.mq_store.proofs.KeyedRows.{found_of, none_found}
 use Rattle.mq_store.proofs.laws.numbers_are_known.Goals as goal
 
 pub returns-clause-old : goal.returns-clause-old

@@ -1,7 +1,7 @@
 use Rattle.std.proofs.Common.{Bool, List, None, Option, Some, [], ap, arith, find, inl, inr, length, length-append, map, refl, subst, sym, true, ℕ, ◌++◌, ◌∙◌, ◌∷◌, ◌≡◌, ◌≤◌, ◌⊎◌}
 use Rattle.mq_store.proofs.Words.{AllByRecursion, IsNext, IsOneOf, UsageRecord, UsageRow, all_has, behind, day_of, is_usage, map-append, row}
 use Rattle.mq_store.proofs.InRange.{row_found}
-use Rattle.mq_store.proofs.Keyed.{none_found}
+use Rattle.mq_store.proofs.KeyedRows.{none_found}
 use Rattle.mq_store.proofs.laws.reads_are_answered.Goals as goal
 
 -- a row that is there once is the one that is found
