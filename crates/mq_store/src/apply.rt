@@ -29,7 +29,7 @@ pub(crate) fn apply<S: Alter>(
     requires in_range { IsRequest request.now }
     requires autocommit { connection.old.in_transaction ≡ false }
     ensures autocommit { connection.new.in_transaction ≡ false }
-    ensures limit { connection.new.step_limit ≡ connection.old.step_limit }
+    ensures step_limit { connection.new.step_limit ≡ connection.old.step_limit }
     ensures in_range { IfOk result IsReply }
     ensures kept { HasKept (state S.Store connection.new) → HasKept (state S.Store connection.old) }
     ensures applied { HasKept (state S.Store connection.new)

@@ -28,7 +28,7 @@ pub struct RowCounts {
 fn audit_by<S: Alter>(connection: &mut Connection<S>, books: &mut Books) -> Result<Audit, Refusal>
     requires autocommit { connection.old.in_transaction ≡ false }
     ensures autocommit { connection.new.in_transaction ≡ false }
-    ensures limit { connection.new.step_limit ≡ connection.old.step_limit }
+    ensures step_limit { connection.new.step_limit ≡ connection.old.step_limit }
     ensures clean { HasCleanDisk (state S.Store connection.new)
         → HasCleanDisk (state S.Store connection.old) }
     ensures open { HasCleanDisk (state S.Store connection.new)
@@ -53,7 +53,7 @@ pub(crate) fn audit_store<S: Alter>(
 ) -> Result<Audit, Refusal>
     requires autocommit { connection.old.in_transaction ≡ false }
     ensures autocommit { connection.new.in_transaction ≡ false }
-    ensures limit { connection.new.step_limit ≡ connection.old.step_limit }
+    ensures step_limit { connection.new.step_limit ≡ connection.old.step_limit }
     ensures clean { HasCleanDisk (state S.Store connection.new)
         → HasCleanDisk (state S.Store connection.old) }
     ensures open { HasCleanDisk (state S.Store connection.new)

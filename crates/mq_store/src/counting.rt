@@ -15,7 +15,7 @@ use sqlite::{Alter, Connection};
 pub(crate) fn count_store<S: Alter>(connection: &mut Connection<S>) -> Result<u64, Refusal>
     requires autocommit { connection.old.in_transaction ≡ false }
     ensures autocommit { connection.new.in_transaction ≡ false }
-    ensures limit { connection.new.step_limit ≡ connection.old.step_limit }
+    ensures step_limit { connection.new.step_limit ≡ connection.old.step_limit }
     ensures clean { HasCleanDisk (state S.Store connection.new)
         → HasCleanDisk (state S.Store connection.old) }
     ensures counted { HasCleanDisk (state S.Store connection.new) → IfOk result (λ n. (t : Tables)

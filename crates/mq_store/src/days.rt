@@ -50,7 +50,7 @@ fn days_in<S: Alter>(tx: &mut Transaction<'_, S>) -> Result<Option<ReservedDays>
 fn days_in_store<S: Alter>(connection: &mut Connection<S>) -> Result<Option<ReservedDays>, Refusal>
     requires autocommit { connection.old.in_transaction ≡ false }
     ensures autocommit { connection.new.in_transaction ≡ false }
-    ensures limit { connection.new.step_limit ≡ connection.old.step_limit }
+    ensures step_limit { connection.new.step_limit ≡ connection.old.step_limit }
     ensures clean { HasCleanDisk (state S.Store connection.new)
         → HasCleanDisk (state S.Store connection.old) }
     ensures found { HasCleanDisk (state S.Store connection.new) → IfOk result (λ days. (t : Tables)

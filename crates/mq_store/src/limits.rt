@@ -23,7 +23,7 @@ fn limits_in_store<S: Alter>(
 ) -> Result<Vec<LimitFigures>, Refusal>
     requires autocommit { connection.old.in_transaction ≡ false }
     ensures autocommit { connection.new.in_transaction ≡ false }
-    ensures limit { connection.new.step_limit ≡ connection.old.step_limit }
+    ensures step_limit { connection.new.step_limit ≡ connection.old.step_limit }
     ensures clean { HasCleanDisk (state S.Store connection.new)
         → HasCleanDisk (state S.Store connection.old) }
     ensures found { HasCleanDisk (state S.Store connection.new)

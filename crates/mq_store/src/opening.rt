@@ -239,7 +239,7 @@ fn check_ledger<S: Alter>(
 fn keep_up<S: Alter>(connection: &mut Connection<S>) -> Result<(), OpenFault>
     requires autocommit { connection.old.in_transaction ≡ false }
     ensures autocommit { connection.new.in_transaction ≡ false }
-    ensures limit { connection.new.step_limit ≡ connection.old.step_limit }
+    ensures step_limit { connection.new.step_limit ≡ connection.old.step_limit }
     ensures clean { HasCleanDisk (state S.Store connection.new)
         → HasCleanDisk (state S.Store connection.old) }
     ensures was_open { HasCleanDisk (state S.Store connection.new)
@@ -266,7 +266,7 @@ fn keep_up<S: Alter>(connection: &mut Connection<S>) -> Result<(), OpenFault>
 fn bring_up<S: Alter>(connection: &mut Connection<S>, version: u32) -> Result<(), OpenFault>
     requires autocommit { connection.old.in_transaction ≡ false }
     ensures autocommit { connection.new.in_transaction ≡ false }
-    ensures limit { connection.new.step_limit ≡ connection.old.step_limit }
+    ensures step_limit { connection.new.step_limit ≡ connection.old.step_limit }
     ensures clean { HasCleanDisk (state S.Store connection.new)
         → HasCleanDisk (state S.Store connection.old) }
     ensures was_open { HasCleanDisk (state S.Store connection.new)

@@ -140,9 +140,9 @@ pub(crate) fn renew_store<S: Alter, T: Alter>(
     ensures from_autocommit { from.new.in_transaction ≡ false }
     ensures into_autocommit { into.new.in_transaction ≡ false }
     ensures scratch_autocommit { scratch.new.in_transaction ≡ false }
-    ensures from_limit { from.new.step_limit ≡ from.old.step_limit }
-    ensures into_limit { into.new.step_limit ≡ into.old.step_limit }
-    ensures scratch_limit { scratch.new.step_limit ≡ scratch.old.step_limit }
+    ensures from_step_limit { from.new.step_limit ≡ from.old.step_limit }
+    ensures into_step_limit { into.new.step_limit ≡ into.old.step_limit }
+    ensures scratch_step_limit { scratch.new.step_limit ≡ scratch.old.step_limit }
     ensures from_kept { HasKept (state S.Store from.new) → HasKept (state S.Store from.old) }
     ensures into_kept { HasKept (state T.Store into.new) → HasKept (state T.Store into.old) }
     ensures from_same { HasKept (state S.Store from.new)
