@@ -57,8 +57,8 @@ fault_of_code TooBig = failed (SqliteFailure TooBig)
 fault_of_code _ = NotOurs
 
 -- the connection is within a transaction
-abbrev pub within : OpenFault
-within = failed (SqliteFailure TransactionState)
+abbrev pub within_transaction : OpenFault
+within_transaction = failed (SqliteFailure TransactionState)
 
 -- memory ran out, or the store failed
 abbrev pub IsStop : OpenFault → Type 0

@@ -8,7 +8,7 @@ ghost use Rattle.mq_store.specs.Opening.{fault_of, fault_of_code, fault_in, faul
 ghost use Rattle.mq_store.specs.Opening.{fault_by_rule};
 ghost use Rattle.mq_store.specs.Opening.{fault_by_any_rule, fault_by_floors, known_version};
 ghost use Rattle.mq_store.specs.Opening.{same_rule, create_fault};
-ghost use Rattle.mq_store.specs.Opening.{open_fault, within};
+ghost use Rattle.mq_store.specs.Opening.{open_fault, within_transaction};
 
 use mq_ledger::{LedgerFault, Zone};
 use mq_request::{EscapedText, Login};
@@ -236,8 +236,8 @@ pub(crate) fn create_fault(error: &Error) -> OpenFault
 }
 
 /// That the connection is within a transaction, in which the store's library begins no other.
-pub(crate) fn within() -> OpenFault
-    ensures { result ≡ within }
+pub(crate) fn within_transaction() -> OpenFault
+    ensures { result ≡ within_transaction }
 {
     OpenFault::Store(StoreCause::Refused(Error::SqliteFailure(ErrorCode::TransactionState)))
 }

@@ -7,13 +7,13 @@ ghost use Rattle.sqlite.specs.Tree.{Trees};
 ghost use Rattle.mq_tables.specs.Making.{has_ledger_table};
 ghost use Rattle.mq_store.specs.Forgetting.{IsFree, AreFilled, IsRemembered, FindsFilled};
 ghost use Rattle.mq_store.specs.Forgetting.{FindsFilledOr};
-ghost use Rattle.mq_store.specs.Opening.{within, IsStop};
+ghost use Rattle.mq_store.specs.Opening.{within_transaction, IsStop};
 ghost use Rattle.mq_store.specs.Soundness.{HasKept, IsSound};
 ghost use Rattle.mq_store.specs.declared.fault.OpenFault.TheVariants.{NotOurs};
 
 use crate::auditing::RowCounts;
 use crate::carry::Terms;
-use crate::fault::{OpenFault, OpenRefused, open_fault, within};
+use crate::fault::{OpenFault, OpenRefused, open_fault, within_transaction};
 use crate::fill::fill_store;
 use crate::laws::tables_mean_their_book;
 use crate::ledger::SqlLedger;
@@ -82,7 +82,7 @@ impl<S: Alter> SqlLedger<S> {
         ensures autocommit_err { IfErr result (λ e. e.connection.in_transaction
             ≡ connection.in_transaction) }
         ensures within { IfErr result (λ e. IsTrue connection.in_transaction
-            → (e.fault ≡ within) × (e.connection ≡ connection)) }
+            → (e.fault ≡ within_transaction) × (e.connection ≡ connection)) }
 
         // The old one is as it was, and a crash leaves of it what a crash before could leave.
         ensures old_lent { (old.new.zone ≡ old.old.zone) × (old.new.default ≡ old.old.default)
@@ -121,7 +121,7 @@ impl<S: Alter> SqlLedger<S> {
         tables_mean_their_book();
         let mut connection = connection;
         if !connection.is_autocommit() {
-            let fault = within();
+            let fault = within_transaction();
             return Err(OpenRefused { fault, connection });
         }
         if has_ledger_table(connection.schema()) {

@@ -20,8 +20,8 @@ ghost use Rattle.mq_store.specs.Auditing.{AreCounted, IsAuditIn, IsRightAnswer};
 ghost use Rattle.mq_store.specs.Causes.{IsCauseOver};
 ghost use Rattle.mq_store.specs.Crash.{LeavesNew, LeavesOld, LeavesBy, AreApplied, FindsOnly};
 ghost use Rattle.mq_store.specs.Crash.{FindsNew, FindsEither, FindsOpened};
-ghost use Rattle.mq_store.specs.Opening.{made_with, known_version, within, HasSettings, IsFound};
-ghost use Rattle.mq_store.specs.Opening.{IsFoundOf, IsStop, Opens, Refuses};
+ghost use Rattle.mq_store.specs.Opening.{made_with, known_version, within_transaction};
+ghost use Rattle.mq_store.specs.Opening.{HasSettings, IsFound, IsFoundOf, IsStop, Opens, Refuses};
 ghost use Rattle.mq_store.specs.Soundness.{book_in, HasKept, HasStored, IsSound, IsNew, MeansBook};
 ghost use Rattle.mq_store.specs.Soundness.{IsOpened};
 ghost use Rattle.mq_store.specs.Taking.{HasBook, book_of};
@@ -30,7 +30,7 @@ ghost use Rattle.mq_store.specs.declared.fault.OpenFault.TheVariants.{NotOurs};
 use crate::apply::apply;
 use crate::auditing::{RowCounts, audit_store};
 use crate::counting::count_store;
-use crate::fault::{OpenFault, OpenRefused, StoreCause, create_fault, noted, within};
+use crate::fault::{OpenFault, OpenRefused, StoreCause, create_fault, noted, within_transaction};
 use crate::laws::{books_are_right, later_arrivals_add_nothing, tables_mean_their_book};
 use crate::opening::open_store;
 use mq_ledger::{Ledger, LedgerFault, Zone};
@@ -146,7 +146,7 @@ impl<S: Alter> SqlLedger<S> {
         ensures autocommit_err { IfErr result (λ e. e.connection.in_transaction
             ≡ connection.in_transaction) }
         ensures within { IfErr result (λ e. IsTrue connection.in_transaction
-            → (e.fault ≡ within) × (e.connection ≡ connection)) }
+            → (e.fault ≡ within_transaction) × (e.connection ≡ connection)) }
 
         // What an open after a crash may find: all tables of the ledger, or none of them.
         ensures crash_ok { IfOk result (λ l. HasCleanDisk (state S.Store l.connection)
@@ -172,7 +172,7 @@ impl<S: Alter> SqlLedger<S> {
         trees_have_one_schema();
         let mut connection = connection;
         if !connection.is_autocommit() {
-            let fault = within();
+            let fault = within_transaction();
             return Err(OpenRefused { fault, connection });
         }
         if has_ledger_table(connection.schema()) {
@@ -274,7 +274,7 @@ impl<S: Alter> SqlLedger<S> {
         ensures autocommit_err { IfErr result (λ e. e.connection.in_transaction
             ≡ connection.in_transaction) }
         ensures within { IfErr result (λ e. IsTrue connection.in_transaction
-            → (e.fault ≡ within) × (e.connection ≡ connection)) }
+            → (e.fault ≡ within_transaction) × (e.connection ≡ connection)) }
 
         // Refused, it leaves the rows as they are; where the fault is of content, it has written
         // nothing.
@@ -302,7 +302,7 @@ impl<S: Alter> SqlLedger<S> {
     {
         let mut connection = connection;
         if !connection.is_autocommit() {
-            let fault = within();
+            let fault = within_transaction();
             return Err(OpenRefused { fault, connection });
         }
         books_are_right();
