@@ -75,19 +75,19 @@ fn close_one<S: Alter>(tx: &mut Transaction<'_, S>, was: &TransactionRecord) -> 
     Ok(())
 }
 
-/// Closes them one after another.
+/// Closes these transactions one after another.
 #[tactic(auto, using(crate::proofs::Chain::calls))]
 fn close_all<S: Alter>(
     tx: &mut Transaction<'_, S>,
-    these: &[TransactionRecord],
+    transactions: &[TransactionRecord],
 ) -> Result<(), Error>
-    requires storable { All IsStorable these.now }
+    requires storable { All IsStorable transactions.now }
     requires inside { IsInside S.Store tx.old }
     ensures inside { StaysInside S.Store tx.old tx.new result }
-    ensures closed { Turns S.Store tx.old tx.new result (ClosesAll these.now) }
+    ensures closed { Turns S.Store tx.old tx.new result (ClosesAll transactions.now) }
     ensures leaves { LeavesCommit S.Store tx.old tx.new }
 {
-    for was in these {
+    for was in transactions {
         close_one(tx, was)?;
     }
     Ok(())
@@ -135,8 +135,8 @@ fn give_up_runs<S: Alter>(
     ensures leaves { LeavesCommit S.Store tx.old tx.new }
 {
     clear_runs(tx, runs)?;
-    let these = find_open(alloc, tx, runs)?;
-    close_all(tx, these.as_slice())
+    let transactions = find_open(alloc, tx, runs)?;
+    close_all(tx, transactions.as_slice())
 }
 
 /// Gives these runs up, where there are any to give up.

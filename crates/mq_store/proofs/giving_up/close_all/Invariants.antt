@@ -10,4 +10,4 @@ invariant-loop-was g l =
     let now = state g.S.Store l.tx.conn.now in
     LeavesCommit g.S.Store l.fn.tx l.tx
     × (HasCleanDisk now → IsTrue now.in_transaction
-    × ((t : Tables) → HasLedger old.now t → (b : Book) (p : Plan) → LeadsAll l.these t.transactions t.usage (MovesLead b p) → IsLeft t b p (drop l.was-index l.these) now.now))
+    × ((t : Tables) → HasLedger old.now t → (b : Book) (p : Plan) → LeadsAll l.transactions t.transactions t.usage (MovesLead b p) → IsLeft t b p (drop l.was-index l.transactions) now.now))

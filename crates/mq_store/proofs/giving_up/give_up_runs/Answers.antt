@@ -10,5 +10,5 @@ returns-clause-given_up g c clean =
     let s3 = state g.S.Store c.close_all.new.tx.conn.now in
     let two = was_clean c.close_all.ensures.leaves clean in
     let one = was_clean c.find_open.ensures.leaves two in
-    let same = c.in_ok-these.ensures.same two in
-    on_ok_weaker c.close_all.result (gives_up c.args.runs.now c.in_ok-these.these.items s0 s1 s2 s3 (c.in_ok-clear_runs.ensures.cleared one) same.0.now_is (c.in_ok-these.ensures.found two)) (rw c.as_slice.ensures.value at (c.close_all.ensures.closed clean))
+    let same = c.in_ok-transactions.ensures.same two in
+    on_ok_weaker c.close_all.result (gives_up c.args.runs.now c.in_ok-transactions.transactions.items s0 s1 s2 s3 (c.in_ok-clear_runs.ensures.cleared one) same.0.now_is (c.in_ok-transactions.ensures.found two)) (rw c.as_slice.ensures.value at (c.close_all.ensures.closed clean))
