@@ -54,6 +54,7 @@ pub(crate) fn apply<S: Alter>(
     let _settled = connection.is_autocommit();
     let mut tx = connection.transaction();
     let reply = match take(alloc, &mut tx, zone, default, request)? {
+        // Nothing was written: the transaction ends without a commit.
         TakenRequest::Read(reply) => return Ok(reply),
         TakenRequest::Written(reply) => reply,
     };

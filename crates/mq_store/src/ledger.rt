@@ -50,6 +50,7 @@ pub struct SqlLedger<S: Alter> {
     pub(crate) alloc: Global,
     pub(crate) connection: Connection<S>,
     pub(crate) zone: Zone,
+    /// The limit of a login that has none for a day: 0 to 1,000,000.
     pub(crate) default: u32,
     /// The rows that were counted as it was opened.
     pub(crate) found: RowCounts,
@@ -404,14 +405,7 @@ impl<S: Alter> SqlLedger<S> {
         ensures same { result ≡ self.connection }
         ensures autocommit { result.in_transaction ≡ false }
     {
-        let SqlLedger {
-            alloc: _,
-            connection,
-            zone: _,
-            default: _,
-            found: _,
-            cause: _,
-        } = self;
+        let SqlLedger { connection, .. } = self;
         connection
     }
 

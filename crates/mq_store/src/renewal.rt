@@ -209,13 +209,7 @@ impl<S: Alter> Renewal<S> {
     pub fn into_ledger(self) -> SqlLedger<S>
         ensures { result ≡ self.made }
     {
-        let Renewal {
-            made,
-            scratch: _,
-            day: _,
-            reached: _,
-            heard: _,
-        } = self;
+        let Renewal { made, .. } = self;
         made
     }
 }

@@ -46,6 +46,7 @@ pub(crate) fn write_plan<S: Alter>(
     ensures written { Turns S.Store tx.old tx.new result (WritesPlan plan.now) }
     ensures leaves { LeavesCommit S.Store tx.old tx.new }
 {
+    // This comes first: the plan's other writes go on from the rows that it leaves.
     give_up(alloc, tx, &plan.given_up)?;
     append_answer(tx, &plan.answer)?;
     set_arrivals(tx, plan.arrivals)?;
