@@ -1,5 +1,5 @@
 //! What a numbered request whose number is new comes to: its reply, and what is written with it.
-ghost use Rattle.std.specs.Prelude.{◌≡◌, ◌+◌, ◌<◌, ◌≤◌, ◌^◌, true, false, Some, IfOk, IfErr};
+ghost use Rattle.std.specs.Prelude.{◌≡◌, ℕ, ◌+◌, ◌<◌, ◌≤◌, ◌^◌, true, false, Some, IfOk, IfErr};
 ghost use Rattle.mq_rows.specs.declared.plan.FoundRows.{FoundRows as AnyFoundRows};
 ghost use Rattle.mq_request.specs.Range.{IsRequest, IsReply};
 ghost use Rattle.mq_frame.specs.Spelling.{request_body, reply_body};
@@ -312,140 +312,80 @@ fn answer_row(
     })
 }
 
-/// What becomes of the rows that were found: of the transaction's, of the login's of the day, and
-/// of its limit. They are taken out of what was found.
-fn writes(
+/// What becomes of the rows that were found.
+struct RowWrites {
+    transaction: Write<TransactionRecord>,
+    usage: Write<UsageRecord>,
+    limit: Write<LimitRecord>,
+    retired: Write<RetiredRecord>,
+}
+
+/// What becomes of the rows that were found, which are taken out of `found`.
+fn row_writes(
     zone: Zone,
     request: &Request,
     reply: &Reply,
     found: &mut FoundRows,
-) -> Result<
-    (
-        Write<TransactionRecord>,
-        Write<UsageRecord>,
-        Write<LimitRecord>,
-    ),
-    AllocError,
->
+) -> Result<RowWrites, AllocError>
     requires in_range { IsRequest request.now }
     requires fits { moves reply.now ≡ true → fits found.old.transaction found.old.usage ≡ true }
-    ensures transaction { IfOk result (λ writes. writes.0
+    ensures transaction { IfOk result (λ writes. writes.transaction
         ≡ transaction_write (day_of zone) request.now reply.now found.old.transaction) }
-    ensures usage { IfOk result (λ writes. writes.1
+    ensures usage { IfOk result (λ writes. writes.usage
         ≡ usage_write (day_of zone) request.now reply.now
         (held_by found.old.transaction) found.old.usage) }
-    ensures limit { IfOk result (λ writes. writes.2 ≡ limit_write request.now reply.now
-        found.old.limit) }
+    ensures limit { IfOk result (λ writes. writes.limit
+        ≡ limit_write request.now reply.now found.old.limit) }
+    ensures retired { IfOk result (λ writes. writes.retired
+        ≡ retired_write request.now found.old.floor) }
 {
     let held = found.held();
     let limit = limit_write(request, reply, found.limit.take())?;
     let usage = usage_write(zone, request, reply, held, found.usage.take())?;
     let transaction = transaction_write(zone, request, reply, found.transaction.take())?;
-    Ok((transaction, usage, limit))
+    let retired = retired_write(request, found.floor.take())?;
+    Ok(RowWrites {
+        transaction,
+        usage,
+        limit,
+        retired,
+    })
 }
 
-/// The row of the answer, and what becomes of the rows that were found.
-fn changes(
-    alloc: Global,
-    zone: Zone,
-    n: u64,
-    id: &Id,
-    request: &Request,
-    reply: &Reply,
-    found: &mut FoundRows,
-) -> Result<
-    (
-        AnswerRecord,
-        (
-            Write<TransactionRecord>,
-            Write<UsageRecord>,
-            Write<LimitRecord>,
-        ),
-    ),
-    AllocError,
->
-    requires in_range { IsRequest request.now }
-    requires reply { IsReply reply.now }
-    requires number { id_of request.now ≡ Some id.now }
-    requires fits { moves reply.now ≡ true → fits found.old.transaction found.old.usage ≡ true }
-    ensures answer { IfOk result (λ changes. changes.0
-        ≡ answer_of n (record { request = request.now; reply = reply.now })) }
-    ensures transaction { IfOk result (λ changes. changes.1.0
-        ≡ transaction_write (day_of zone) request.now reply.now found.old.transaction) }
-    ensures usage { IfOk result (λ changes. changes.1.1
-        ≡ usage_write (day_of zone) request.now reply.now
-        (held_by found.old.transaction) found.old.usage) }
-    ensures limit { IfOk result (λ changes. changes.1.2
-        ≡ limit_write request.now reply.now found.old.limit) }
-{
-    let answer = answer_row(alloc, n, id, request, reply)?;
-    Ok((answer, writes(zone, request, reply, found)?))
-}
-
-/// The reply with all that is written with it, where so many were answered before.
+/// The reply and the row of its answer, with all else that is written.
 fn plan(
-    alloc: Global,
     zone: Zone,
-    arrivals: u64,
-    id: &Id,
     request: &Request,
     reply: Reply,
+    answer: AnswerRecord,
     found: &mut FoundRows,
 ) -> Result<Plan, AllocError>
     requires in_range { IsRequest request.now }
-    requires reply { IsReply reply }
-    requires number { id_of request.now ≡ Some id.now }
-    requires room { arrivals < 4611686018427387904 }
     requires fits { moves reply ≡ true → fits found.old.transaction found.old.usage ≡ true }
-    ensures { IfOk result (λ plan. plan ≡ written (day_of zone) arrivals request.now found.old
+    ensures { (arrivals : ℕ) → answer ≡ answer_of (arrivals + 1) (record {
+      request = request.now;
+      reply = reply;
+    }) → IfOk result (λ plan. plan ≡ written (day_of zone) arrivals request.now found.old
         reply) }
 {
-    let arrivals = arrivals + 1;
     let given_up = given_up(request, &found.floor)?;
-    let retired = retired_write(request, found.floor.take())?;
-    let (answer, (transaction, usage, limit)) = changes(
-        alloc, zone, arrivals, id, request, &reply, found,
-    )?;
+    let RowWrites {
+        transaction,
+        usage,
+        limit,
+        retired,
+    } = row_writes(zone, request, &reply, found)?;
     Ok(Plan {
+        reply,
+        // (answers are numbered from 1 on)
+        arrivals: answer.n,
         answer,
-        arrivals,
         given_up,
         transaction,
         usage,
         limit,
         retired,
-        reply,
     })
-}
-
-/// The plan for a request, by the rows that were found, which are lent: those that it keeps are
-/// taken out.
-fn decide_by(
-    alloc: Global,
-    zone: Zone,
-    default: u32,
-    arrivals: u64,
-    id: &Id,
-    request: &Request,
-    found: &mut FoundRows,
-) -> Result<Plan, LedgerFault>
-    requires in_range { IsRequest request.now }
-    requires number { id_of request.now ≡ Some id.now }
-    ensures plan { IfOk result (λ plan. plan ≡ planned (day_of zone) default arrivals request.now
-        found.old) }
-    ensures in_range { IfOk result (λ plan. IsReply plan.reply) }
-    ensures room { IfOk result (λ _. arrivals < 4611686018427387904) }
-    ensures storable { IfOk result (λ plan. AreStorableIf found.old.transaction
-        → IsStorableFloor found.old.floor
-        → IsStorablePlan plan) }
-    ensures store { IfErr result (λ fault. fault ≡ LedgerFault.Store
-        → arrivals < 4611686018427387904 → may_be_found default request.now found.old ≡ false) }
-{
-    if MOST_ANSWERS <= arrivals {
-        return Err(LedgerFault::Store);
-    }
-    let reply = found.outcome(default, request)?.to_reply(id)?;
-    Ok(plan(alloc, zone, arrivals, id, request, reply, found)?)
 }
 
 /// The reply to a numbered request, and what is written with it, where no row has its number.
@@ -474,5 +414,10 @@ pub fn decide(
     ensures store { IfErr result (λ fault. fault ≡ LedgerFault.Store
         → arrivals < 4611686018427387904 → may_be_found default request.now found ≡ false) }
 {
-    decide_by(alloc, zone, default, arrivals, id, request, &mut found)
+    if MOST_ANSWERS <= arrivals {
+        return Err(LedgerFault::Store);
+    }
+    let reply = found.outcome(default, request)?.to_reply(id)?;
+    let answer = answer_row(alloc, arrivals + 1, id, request, &reply)?;
+    Ok(plan(zone, request, reply, answer, &mut found)?)
 }

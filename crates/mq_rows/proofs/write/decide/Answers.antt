@@ -1,7 +1,7 @@
-use Rattle.std.proofs.Common.{ℕ, ◌<◌, ◌^◌, arith, Some, None, inl, inr, Option}
-use Rattle.mq_rows.proofs.Words.{FoundRows, Granted, Id, IsId, IsRequest, Release, Released, Reply, Request, Reserve, Retire, RetiredRecord, Settle, Settled, TransactionRecord, day_of, either, floor_by, given_up_by, id_range, moved, moved_or_made, moves, raised_to, retired_write, transaction_write}
+use Rattle.std.proofs.Common.{ℕ, ◌<◌, ◌^◌, ◌∙◌, ap, arith, Some, None, inl, inr, Option}
+use Rattle.mq_rows.proofs.Words.{FoundRows, Granted, Id, IsId, IsRequest, Release, Released, Reply, Request, Reserve, Retire, RetiredRecord, Settle, Settled, TransactionRecord, day_of, either, floor_by, given_up_by, id_range, moved, moved_or_made, moves, raised_to, retired_write, transaction_write, written}
 use Rattle.mq_rows.specs.Storable.{IsStorable, AreStorableIf, AreStorable, IsStorableFloor, AreStorableRuns, IsStorableRun}
-use Rattle.mq_rows.proofs.write.decide_by.Goals as goal
+use Rattle.mq_rows.proofs.write.decide.Goals as goal
 
 moved_has : (count : ℕ) (a : Reply) (t : TransactionRecord) → IsStorable t → IsStorable (moved count a t)
 moved_has count (Granted id used) t h = h
@@ -38,19 +38,24 @@ run_has : (r : Request) (o : Option RetiredRecord) → IsRequest r → IsStorabl
 run_has (Retire id) o h = raised_has id o h
 run_has r o h = tt
 
+pub returns-clause-plan : goal.returns-clause-plan
+returns-clause-plan c =
+    c.in_ok-plan.ensures c.args.arrivals c.in_ok-answer.ensures
+    ∙ ap (λ (a : Reply). written (day_of c.args.zone) c.args.arrivals c.args.request.now c.args.found a) (c.in_ok-reply.ensures ∙ c.in_ok-outcome.ensures.outcome c.args.id.now c.requires.number)
+
 pub returns-clause-storable : goal.returns-clause-storable
 returns-clause-storable c = λ has floor_has.
     let limit = (id_range c.args.request.now c.args.id.now c.requires.in_range c.requires.number).run.to in
-    rw c.in_ok-plan.ensures record {
+    rw (c.in_ok-plan.ensures c.args.arrivals c.in_ok-answer.ensures) record {
       place = omega arith;
       run = rw c.requires.number (omega (arith, limit));
       arrivals = omega arith;
-      transaction = write_has (day_of c.args.zone) c.args.request.now c.in_ok-reply.reply c.args.found.now.transaction c.requires.in_range has;
-      given_up = runs_have c.args.request.now c.args.found.now c.requires.in_range floor_has;
-      retired = run_has c.args.request.now c.args.found.now.floor c.requires.in_range;
+      transaction = write_has (day_of c.args.zone) c.args.request.now c.in_ok-reply.reply c.args.found.transaction c.requires.in_range has;
+      given_up = runs_have c.args.request.now c.args.found c.requires.in_range floor_has;
+      retired = run_has c.args.request.now c.args.found.floor c.requires.in_range;
     }
 
 pub returns-clause-in_range : goal.returns-clause-in_range
 returns-clause-in_range c =
     let replied = c.in_ok-outcome.ensures.in_range c.args.id.now (id_range c.args.request.now c.args.id.now c.requires.in_range c.requires.number) in
-    rw c.in_ok-plan.ensures (rw c.in_ok-reply.ensures replied)
+    rw (c.in_ok-plan.ensures c.args.arrivals c.in_ok-answer.ensures) (rw c.in_ok-reply.ensures replied)
