@@ -32,13 +32,17 @@ pub record IsLimitArguments (given : LimitArguments) : Type 0 where
   pub cap : IsAmount given.cap
   pub run : IfSome given.run IsRun
 
--- a day that another one follows in range
-abbrev pub IsStopArguments : StopArguments → Type 0
-IsStopArguments given = IsDayUpTo 376199 given.day
+-- the last day that another one follows in range, whose limit `stop` and `resume` set too
+abbrev pub last_stop_day : ℕ
+last_stop_day = 376199
 
--- a day that another one follows in range, and 0 to 1,000,000 recipients more where a number is given
+-- a day up to that one
+abbrev pub IsStopArguments : StopArguments → Type 0
+IsStopArguments given = IsDayUpTo last_stop_day given.day
+
+-- a day up to that one, and 0 to 1,000,000 recipients more where a number is given
 pub record IsResumeArguments (given : ResumeArguments) : Type 0 where
-  pub day : IsDayUpTo 376199 given.day
+  pub day : IsDayUpTo last_stop_day given.day
   pub cap : IfSome given.cap IsAmount
 
 -- 1 to 1,000,000 logins, where a number is given

@@ -2,7 +2,7 @@
 //! forced.
 ghost use Rattle.std.specs.Prelude.{◌≡◌, ◌/◌, ◌+◌, ◌≤◌, ℕ, IfErr, IfOk, MatchResult, option_map};
 ghost use Rattle.mq_request.specs.Range.{IsMoment, IsWithin};
-ghost use Rattle.mq_process.specs.Arguments.{IsDayUpTo};
+ghost use Rattle.mq_process.specs.Arguments.{IsDayUpTo, last_stop_day};
 ghost use Rattle.mq_ledger.specs.Day.{day_of};
 ghost use Rattle.mq_process.specs.Today.{ChoosesBy, ChoosesDay, ChoosesNow, IsDaysAgo, IsNoDay};
 ghost use Rattle.mq_process.specs.Today.{NamesDay, RefusesAgo, StopsFrom};
@@ -152,7 +152,7 @@ fn day_not_ago<R: Files + Clock + Eprint + AllocGlobal>(
 ) -> Result<u32, ProcessFault>
     requires { IsWithin 0 376200 ago }
     ensures chooses { RefusesAgo R.File.remaining ago result }
-    ensures in_range { IfOk result (IsWithin 0 376199) }
+    ensures in_range { IfOk result (IsWithin 0 last_stop_day) }
 {
     match days_ago(rt, config, ago, LAST_DAY - 1) {
         Ok(day) => {
@@ -178,9 +178,9 @@ pub fn day_to_stop<R: Files + Clock + Eprint + AllocGlobal>(
     config: Option<&str>,
     is_forced: bool,
 ) -> Result<u32, ProcessFault>
-    requires { IsDayUpTo 376199 given }
+    requires { IsDayUpTo last_stop_day given }
     ensures stops { StopsFrom R.File.remaining config.entry is_forced given result }
-    ensures in_range { IfOk result (IsWithin 0 376199) }
+    ensures in_range { IfOk result (IsWithin 0 last_stop_day) }
 {
     if is_forced {
         return day_named(rt, given, config, LAST_DAY - 1);

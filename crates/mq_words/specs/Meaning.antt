@@ -6,6 +6,7 @@ use Rattle.std.specs.Str.Parse.{IsNumeral, digits_value, without_leading_plus}
 use Rattle.clap.specs.Matches.{first_value, matched_of, one_text, raw_values}
 use Rattle.clap.specs.declared.parser.matches.Found.{Found}
 use Rattle.mq_request.specs.Range.{IsWithin}
+use Rattle.mq_process.specs.Arguments.{last_stop_day}
 use Rattle.mq_process.specs.declared.arguments.Arguments.{Arguments}
 use Rattle.mq_process.specs.declared.arguments.Arguments.TheVariants.{Replay, Filter, Server, Limit, Retire, Stop, Resume, Day}
 use Rattle.mq_process.specs.declared.arguments.Arguments.TheVariants.{Init, Status, Probe, Report, Limits, Audit, Forget}
@@ -119,7 +120,7 @@ pub record MeansStop (found : Found) (given : StopArguments) : Type 0 where
   pub config : HasTextOrNone found (codes "config") given.config
   pub host : HasText found (codes "host") given.host.now
   pub login : HasLogin found given.login
-  pub day : HasDay found (codes "day") 376199 given.day
+  pub day : HasDay found (codes "day") last_stop_day given.day
   pub force : HasFlag found (codes "force") given.is_forced
   pub every : HasFlag found (codes "all") given.is_all
 
@@ -128,7 +129,7 @@ pub record MeansResume (found : Found) (given : ResumeArguments) : Type 0 where
   pub config : HasTextOrNone found (codes "config") given.config
   pub host : HasText found (codes "host") given.host.now
   pub login : HasLogin found given.login
-  pub day : HasDay found (codes "day") 376199 given.day
+  pub day : HasDay found (codes "day") last_stop_day given.day
   pub cap : HasNumberOrNone found (codes "cap") 0 1000000 given.cap
 
 pub record MeansDay (found : Found) (given : DayArguments) : Type 0 where
