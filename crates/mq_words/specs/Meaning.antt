@@ -167,11 +167,11 @@ MeansStatus found (Status given) = first_value found (codes "config") ≡ Some g
 MeansStatus found (Probe given) = (first_value found (codes "config") ≡ None) × MeansProbe found given
 MeansStatus found _ = ⊥
 
--- the name is that of no subcommand but `replay`
-abbrev pub IsOther : List ℕ → Type 0
-IsOther name = (name ≢ codes "filter") × (name ≢ codes "init") × (name ≢ codes "status") × (name ≢ codes "server") × (name ≢ codes "limit")
+-- the name is that of no subcommand
+abbrev pub IsUnknown : List ℕ → Type 0
+IsUnknown name = (name ≢ codes "filter") × (name ≢ codes "init") × (name ≢ codes "status") × (name ≢ codes "server") × (name ≢ codes "limit")
     × (name ≢ codes "stop") × (name ≢ codes "resume") × (name ≢ codes "day") × (name ≢ codes "retire") × (name ≢ codes "report")
-    × (name ≢ codes "limits") × (name ≢ codes "audit") × (name ≢ codes "forget")
+    × (name ≢ codes "limits") × (name ≢ codes "audit") × (name ≢ codes "forget") × (name ≢ codes "replay")
 
 -- the subcommand of this name, with these options, asks for this
 abbrev pub Means : List ℕ → Found → Arguments → Type 0
@@ -189,4 +189,4 @@ Means name found (Report given) = (name ≡ codes "report") × MeansReport found
 Means name found (Limits given) = (name ≡ codes "limits") × HasText found (codes "config") given.config.now
 Means name found (Audit given) = (name ≡ codes "audit") × HasText found (codes "config") given.config.now
 Means name found (Forget given) = (name ≡ codes "forget") × MeansForget found given
-Means name found (Replay given) = IsOther name × MeansReplay found given
+Means name found (Replay given) = (name ≡ codes "replay") × MeansReplay found given

@@ -1,12 +1,12 @@
 //! What the options of a subcommand ask for.
-ghost use Rattle.std.specs.Prelude.{◌≡◌, ◌≤◌, IfOk, IfSome, codes};
+ghost use Rattle.std.specs.Prelude.{◌≡◌, ◌≤◌, IfOk, IfSome, None, codes};
 ghost use Rattle.clap.specs.Matches.{found_of};
 ghost use Rattle.mq_request.specs.Range.{IsAmount, IsDay, IsMoment, IsRun, IsWithin};
 ghost use Rattle.mq_process.specs.Arguments.{IsArguments, IsConnections, IsDayUpTo};
 ghost use Rattle.mq_process.specs.Arguments.{IsLimitArguments, IsReplayArguments};
 ghost use Rattle.mq_process.specs.Arguments.{IsReportArguments, IsResumeArguments, IsStopArguments};
 ghost use Rattle.mq_words.specs.Meaning.{HasCap, HasConnections, HasDay, HasLogin, HasLoginOrNone};
-ghost use Rattle.mq_words.specs.Meaning.{HasNumber, HasNumberOrNone, HasText};
+ghost use Rattle.mq_words.specs.Meaning.{HasNumber, HasNumberOrNone, HasText, IsUnknown};
 ghost use Rattle.mq_words.specs.Meaning.{Means, MeansDay, MeansFilter, MeansForget, MeansLimit};
 ghost use Rattle.mq_words.specs.Meaning.{MeansReplay, MeansReport, MeansResume};
 ghost use Rattle.mq_words.specs.Meaning.{MeansRetire, MeansServer, MeansStatus, MeansStop};
@@ -24,16 +24,18 @@ use mq_process::{
 };
 use std::alloc::{AllocError, Global};
 
-/// What the subcommand of this name asks for by the options that were found.
+/// What the subcommand of this name asks for by the options that were found. There is none where
+/// none has this name.
 pub fn arguments_of<'a>(
     alloc: Global,
     name: &str,
     found: &ArgMatches<'a>,
-) -> Result<Arguments<'a>, AllocError>
-    ensures in_range { IfOk result IsArguments }
-    ensures meant { IfOk result (Means name.now (found_of found.now)) }
+) -> Result<Option<Arguments<'a>>, AllocError>
+    ensures in_range { IfOk result (λ given. IfSome given IsArguments) }
+    ensures meant { IfOk result (λ given. IfSome given (Means name.now (found_of found.now))) }
+    ensures unknown { IfOk result (λ given. given ≡ None → IsUnknown name.now) }
 {
-    Ok(match name {
+    Ok(Some(match name {
         "filter" => Arguments::Filter(filter_of(found)),
         "init" => Arguments::Init(InitArguments {
             config: text_of(found, "config"),
@@ -53,8 +55,9 @@ pub fn arguments_of<'a>(
             config: text_of(found, "config"),
         }),
         "forget" => Arguments::Forget(forget_of(found)),
-        _ => Arguments::Replay(replay_of(found)),
-    })
+        "replay" => Arguments::Replay(replay_of(found)),
+        _ => return Ok(None),
+    }))
 }
 
 /// The text of an option that has to be given or has a default.

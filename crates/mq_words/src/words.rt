@@ -47,7 +47,16 @@ pub fn read_arguments<'a>(
     let mut program = program(alloc, version)?;
     let matches = program.try_get_matches_from_mut(words)?;
     match matches.subcommand() {
-        Some((name, found)) => Ok(arguments_of(alloc, name, found)?),
+        Some((name, found)) => match arguments_of(alloc, name, found)? {
+            Some(given) => Ok(given),
+            None => {
+                let message = format!(in alloc; "unrecognized subcommand '{name}'")?;
+                Err(WordsFault::Words(program.error(
+                    ErrorKind::InvalidSubcommand,
+                    message.as_str(),
+                )?))
+            }
+        },
         None => Err(WordsFault::Words(program.error(
             ErrorKind::MissingSubcommand,
             "a subcommand is required",
