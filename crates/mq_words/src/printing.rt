@@ -17,7 +17,7 @@ pub enum PrintFault {
 /// Prints the help that the words ask for on standard output, or what is wrong with them on
 /// standard error, and gives the exit status: 0 for help that was printed, 2 for a mistake, printed
 /// or not.
-pub fn print_fault(rt: &HostRuntime, fault: WordsFault) -> Result<u8, PrintFault>
+pub fn print_fault<R: Print + Eprint>(rt: &R, fault: WordsFault) -> Result<u8, PrintFault>
     ensures { EndsPrinted fault result }
 {
     match fault {
@@ -26,7 +26,7 @@ pub fn print_fault(rt: &HostRuntime, fault: WordsFault) -> Result<u8, PrintFault
     }
 }
 
-fn print_error(rt: &HostRuntime, error: &Error) -> Result<u8, PrintFault>
+fn print_error<R: Print + Eprint>(rt: &R, error: &Error) -> Result<u8, PrintFault>
     ensures mistake { kind_of error.now ≢ DisplayHelp → kind_of error.now ≢ DisplayVersion
         → result ≡ Ok 2 }
     ensures help { (kind_of error.now ≡ DisplayHelp) ⊎ (kind_of error.now ≡ DisplayVersion)
