@@ -2,19 +2,30 @@
 
 use crate::subcommand::run_subcommand;
 use crate::version::VERSION;
-use mq_program::{ProgramFault, end_program, or_memory};
+use mq_program::{Databases, ProgramFault, Terminals, end_program, or_memory};
 use mq_words::{PrintFault, print_fault, read_arguments};
 use sqlite::Start;
 use std::env;
 use std::io::Write;
-use std::rt::Env;
+use std::net::{Net, TcpListener, TcpStream};
+use std::rt::{Clock, Env};
 
 /// Runs the program by the words of the process and gives its exit status: 0 done, 1 fault, 2
 /// usage.
 ///
 /// `start` stands for what the file of a server's ledger and its log hold before the call, and
 /// `new` for what a file that is just made and its log hold.
-pub fn run<E: Write, S: Start, N: Start>(rt: &HostRuntime, start: S, new: N, errors: &mut E) -> u8 {
+pub fn run<R, E: Write, S: Start, N: Start>(rt: &R, start: S, new: N, errors: &mut E) -> u8
+where
+    R: Databases
+        + Clock
+        + Env
+        + Input
+        + Print
+        + Eprint
+        + Terminals
+        + Net<Listener = TcpListener, Stream = TcpStream>,
+{
     match words_of(rt) {
         Ok(words) => run_words(rt, words.as_slice(), start, new, errors),
         Err(fault) => end_program(Err(fault), errors),
@@ -31,13 +42,22 @@ fn words_of<R: Env + AllocGlobal>(rt: &R) -> Result<Vec<String>, ProgramFault> {
 }
 
 /// Runs the program by these words, the program's name first, and gives its exit status.
-fn run_words<E: Write, S: Start, N: Start>(
-    rt: &HostRuntime,
+fn run_words<R, E: Write, S: Start, N: Start>(
+    rt: &R,
     words: &[String],
     start: S,
     new: N,
     errors: &mut E,
-) -> u8 {
+) -> u8
+where
+    R: Databases
+        + Clock
+        + Input
+        + Print
+        + Eprint
+        + Terminals
+        + Net<Listener = TcpListener, Stream = TcpStream>,
+{
     match read_arguments(rt.alloc(), words, VERSION) {
         Ok(given) => run_subcommand(rt, given, start, new, errors),
         Err(fault) => match print_fault(rt, fault) {

@@ -3,24 +3,36 @@ ghost use Rattle.mq_process.specs.Arguments.{IsArguments};
 ghost use Rattle.mailquota.specs.Refusals.{Refuses};
 
 use mq_process::{Arguments, Dialer, day, end_process};
-use mq_program::{audit, end_program, forget, init, limits, replay, server, status};
+use mq_program::{
+    Databases, Terminals, audit, end_program, forget, init, limits, replay, server, status,
+};
 use mq_remote::{end_filter, filter, limit, probe_servers, report, resume, retire, stop};
 use sqlite::Start;
 use std::io;
-use std::io::{IsTerminal, Write};
+use std::io::Write;
+use std::net::{Net, TcpListener, TcpStream};
+use std::rt::Clock;
 
 /// Runs a subcommand, prints on `errors` why it isn't done, and gives the exit status: 0 done, 1
 /// fault, 2 usage.
 ///
 /// `start` stands for what the file of a server's ledger and its log hold before the call, and
 /// `new` for what a file that is just made and its log hold.
-pub fn run_subcommand<E: Write, S: Start, N: Start>(
-    rt: &HostRuntime,
+pub fn run_subcommand<R, E: Write, S: Start, N: Start>(
+    rt: &R,
     given: Arguments<'_>,
     start: S,
     new: N,
     errors: &mut E,
 ) -> u8
+where
+    R: Databases
+        + Clock
+        + Input
+        + Print
+        + Eprint
+        + Terminals
+        + Net<Listener = TcpListener, Stream = TcpStream>,
     requires { IsArguments given }
     ensures { Refuses given.entry result }
 {
@@ -42,7 +54,7 @@ pub fn run_subcommand<E: Write, S: Start, N: Start>(
         },
         Arguments::Retire(given) => end_process(retire(rt, dial, given, errors), errors),
         Arguments::Report(given) => {
-            let has_columns = rt.stdout().is_terminal();
+            let has_columns = rt.has_output_on_terminal();
             end_process(report(rt, dial, given, has_columns, errors), errors)
         },
         Arguments::Limits(given) => {

@@ -10,6 +10,7 @@ ghost use Rattle.mq_program.specs.Opened.{MeansFile};
 ghost use Rattle.mq_process.specs.Settings.{AreInRange};
 
 use crate::fault::ProgramFault;
+use crate::host::Databases;
 use crate::store::{ledger_of_settings, let_go};
 use log::Logged;
 use log::sink::Console;
@@ -24,8 +25,8 @@ use std::io::Write;
 /// Opens the ledger in the file of the settings, which checks its books, and prints how much they
 /// hold. Books that are wrong are the fault, with the least login and day that are. `start` stands
 /// for what the file and its log hold before the call.
-pub fn audit<W: Write, S: Start>(
-    rt: &HostRuntime,
+pub fn audit<R: Databases + Eprint, W: Write, S: Start>(
+    rt: &R,
     given: AuditArguments<'_>,
     start: S,
     output: &mut W,
@@ -42,8 +43,8 @@ pub fn audit<W: Write, S: Start>(
 }
 
 /// Audits the ledger in the file of these settings, which comes back.
-fn audit_file<W: Write, S: Start>(
-    rt: &HostRuntime,
+fn audit_file<R: Databases + Eprint, W: Write, S: Start>(
+    rt: &R,
     settings: &ServerSettings,
     start: S,
     output: &mut W,

@@ -13,6 +13,7 @@ ghost use Rattle.mq_store.specs.Soundness.{HasKept, IsSound, book_in};
 
 use crate::auditing::print;
 use crate::fault::ProgramFault;
+use crate::host::{Databases, Terminals};
 use crate::progress::{ProgressListener, Terminal};
 use crate::store::{close_file, connect_new, ledger_of_settings, let_go, make_new_file, path_of};
 use log::sink::Console;
@@ -196,14 +197,16 @@ struct SupersededLedger<T: Alter> {
 /// it was.
 ///
 /// `start` stands for what the empty file and its log hold.
-fn fill_file<G: Log, T: Alter + Drop, S: Start>(
-    rt: &HostRuntime,
+fn fill_file<R, G: Log, T: Alter + Drop, S: Start>(
+    rt: &R,
     log: &G,
     old: SqlLedger<T>,
     name: &str,
     start: S,
     day: u32,
 ) -> Result<SupersededLedger<T>, ProgramFault>
+where
+    R: Databases + Clock + Eprint + Terminals,
     ensures lent { IfOk result (λ f. (f.old.zone ≡ old.zone) × (f.old.default ≡ old.default)) }
     ensures kept { IfOk result (λ f. HasKept (state T.Store f.old.connection)
         → HasKept (state T.Store old.connection)) }
@@ -225,8 +228,8 @@ fn fill_file<G: Log, T: Alter + Drop, S: Start>(
 /// Makes a new file, puts what a ledger remembers into it, and prints how much that is. The ledger
 /// comes back as it was. After a fault the new file is of no use, which is logged. `start` stands
 /// for what a file that is just made and its log hold.
-fn forget_into<G: Log, T: Alter + Drop, S: Start, W: Write>(
-    rt: &HostRuntime,
+fn forget_into<R, G: Log, T: Alter + Drop, S: Start, W: Write>(
+    rt: &R,
     log: &G,
     path: &str,
     old: SqlLedger<T>,
@@ -235,6 +238,8 @@ fn forget_into<G: Log, T: Alter + Drop, S: Start, W: Write>(
     day: u32,
     output: &mut W,
 ) -> Result<SqlLedger<T>, ProgramFault>
+where
+    R: Databases + Clock + Eprint + Terminals,
     ensures lent { IfOk result (λ back. (back.zone ≡ old.zone) × (back.default ≡ old.default)) }
     ensures kept { IfOk result (λ back. HasKept (state T.Store back.connection)
         → HasKept (state T.Store old.connection)) }
@@ -285,14 +290,16 @@ fn print_kept<W: Write>(alloc: Global, kept: KeptCounts, output: &mut W) -> Resu
 
 /// Puts what the ledger of the settings remembers into the new file of the words, and prints how
 /// much that is. The ledger comes back as it was.
-fn forget_file<W: Write, S: Start, N: Start>(
-    rt: &HostRuntime,
+fn forget_file<R, W: Write, S: Start, N: Start>(
+    rt: &R,
     settings: &ServerSettings,
     given: ForgetArguments<'_>,
     start: S,
     new: N,
     output: &mut W,
 ) -> Result<SqlLedger<FileStore<FileFrom<S>>>, ProgramFault>
+where
+    R: Databases + Clock + Eprint + Terminals,
     requires { AreInRange settings.now }
     ensures printed { IfOk result (λ _. PrintsKept (W.contents output.old)
         (W.contents output.new)) }
@@ -327,13 +334,15 @@ fn forget_file<W: Write, S: Start, N: Start>(
 ///
 /// `start` stands for what the file of the settings and its log hold before the call, and `new` for
 /// what a file that is just made and its log hold.
-pub fn forget<W: Write, S: Start, N: Start>(
-    rt: &HostRuntime,
+pub fn forget<R, W: Write, S: Start, N: Start>(
+    rt: &R,
     given: ForgetArguments<'_>,
     start: S,
     new: N,
     output: &mut W,
 ) -> Result<u8, ProgramFault>
+where
+    R: Databases + Clock + Eprint + Terminals,
     ensures status { IfOk result (λ status. status ≡ 0) }
     ensures printed { IfOk result (λ _. PrintsKept (W.contents output.old)
         (W.contents output.new)) }

@@ -6,6 +6,7 @@ use log::{Log, warn};
 use mq_ledger::Zone;
 use mq_process::moment_or_now;
 use std::alloc::{AllocError, Global};
+use std::rt::{Clock, Files};
 use std::{fs, io};
 
 /// The path of the note beside the ledger at a path.
@@ -14,7 +15,12 @@ fn note_path(alloc: Global, ledger: &str) -> Result<String, AllocError> {
 }
 
 /// The note: which days were forgotten, on which one, by the ledger's zone, and how long that took.
-fn note_of(rt: &HostRuntime, zone: Zone, day: u32, took: Elapsed) -> Result<String, AllocError> {
+fn note_of<R: Clock + AllocGlobal>(
+    rt: &R,
+    zone: Zone,
+    day: u32,
+    took: Elapsed,
+) -> Result<String, AllocError> {
     match moment_or_now(rt, None) {
         Ok(moment) => {
             let today = zone.day_at(moment);
@@ -25,8 +31,8 @@ fn note_of(rt: &HostRuntime, zone: Zone, day: u32, took: Elapsed) -> Result<Stri
 }
 
 /// Writes the note of a night, in place of the one before.
-fn write_note(
-    rt: &HostRuntime,
+fn write_note<R: Files + Clock + AllocGlobal>(
+    rt: &R,
     ledger: &str,
     zone: Zone,
     day: u32,
@@ -39,8 +45,8 @@ fn write_note(
 
 /// Notes that the days before this one were forgotten. A note that can't be written is logged, and
 /// does no harm.
-pub fn note_night<G: Log>(
-    rt: &HostRuntime,
+pub fn note_night<R: Files + Clock + AllocGlobal, G: Log>(
+    rt: &R,
     log: &G,
     ledger: &str,
     zone: Zone,
@@ -53,7 +59,7 @@ pub fn note_night<G: Log>(
 }
 
 /// Removes the note of an earlier night, where the last one couldn't write its own.
-pub fn drop_note(rt: &HostRuntime, ledger: &str) {
+pub fn drop_note<R: Files + AllocGlobal>(rt: &R, ledger: &str) {
     if let Ok(path) = note_path(rt.alloc(), ledger) {
         let _unnoted = fs::remove_file(rt, path.as_str());
     }
@@ -61,7 +67,7 @@ pub fn drop_note(rt: &HostRuntime, ledger: &str) {
 
 /// What the last night did, as it was noted; `None` where nothing is, or this process may not read
 /// it.
-pub fn last_night(rt: &HostRuntime, ledger: &str) -> Option<String> {
+pub fn last_night<R: Files + AllocGlobal>(rt: &R, ledger: &str) -> Option<String> {
     let path = note_path(rt.alloc(), ledger).ok()?;
     let note = fs::read_to_string(rt, path.as_str()).ok()?;
     let line = note.as_str().lines().next()?;

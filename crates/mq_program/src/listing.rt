@@ -15,6 +15,7 @@ ghost use Rattle.mq_process.specs.Settings.{AreInRange};
 
 use crate::auditing::print;
 use crate::fault::ProgramFault;
+use crate::host::Databases;
 use crate::store::{ledger_of_settings, let_go, log_cause, path_of};
 use log::sink::Console;
 use log::{Log, Logged};
@@ -31,8 +32,8 @@ use std::io::Write;
 /// Opens the ledger in the file of the settings, and prints a line for each limit that is set.
 /// Nothing is written to it, but that one of an older version is given the current one. `start`
 /// stands for what the file and its log hold before the call.
-pub fn limits<W: Write, S: Start>(
-    rt: &HostRuntime,
+pub fn limits<R: Databases + Eprint, W: Write, S: Start>(
+    rt: &R,
     given: LimitsArguments<'_>,
     start: S,
     output: &mut W,
@@ -46,8 +47,8 @@ pub fn limits<W: Write, S: Start>(
 }
 
 /// Prints the limits of the ledger in the file of these settings, which comes back.
-fn limits_file<W: Write, S: Start>(
-    rt: &HostRuntime,
+fn limits_file<R: Databases + Eprint, W: Write, S: Start>(
+    rt: &R,
     settings: &ServerSettings,
     start: S,
     output: &mut W,

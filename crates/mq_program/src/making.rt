@@ -9,6 +9,7 @@ ghost use Rattle.mq_process.specs.Settings.{AreInRange};
 
 use crate::auditing::print;
 use crate::fault::ProgramFault;
+use crate::host::Databases;
 use crate::store::{ledger_of_settings, let_go, path_of};
 use log::Logged;
 use log::sink::Console;
@@ -23,8 +24,8 @@ use std::io::Write;
 /// file that has a ledger already is refused and stays as it is. `start` stands for what the file
 /// and its log hold before the call.
 #[tactic(auto, using(crate::proofs::MakingSteps::some_path))]
-pub fn init<W: Write, S: Start>(
-    rt: &HostRuntime,
+pub fn init<R: Databases + Eprint, W: Write, S: Start>(
+    rt: &R,
     given: InitArguments<'_>,
     start: S,
     output: &mut W,
@@ -39,8 +40,8 @@ pub fn init<W: Write, S: Start>(
 
 /// Makes the ledger in the file of these settings, which comes back, and prints the file's path.
 #[tactic(auto, using(crate::proofs::ListingSteps::nothing_written))]
-fn init_file<W: Write, S: Start>(
-    rt: &HostRuntime,
+fn init_file<R: Databases + Eprint, W: Write, S: Start>(
+    rt: &R,
     settings: &ServerSettings,
     start: S,
     output: &mut W,

@@ -7,6 +7,7 @@ ghost use Rattle.mq_program.specs.Memory.{MayNotFit, megabytes_over};
 
 use log::{Log, warn};
 use std::fs;
+use std::rt::Files;
 
 /// Which group of the system's a process is in.
 const GROUP: &str = "/proc/self/cgroup";
@@ -42,7 +43,7 @@ fn group_in(text: &str) -> Option<&str> {
 }
 
 /// How many bytes of memory this process may have, where its own group has a limit.
-fn memory_limit(rt: &HostRuntime) -> Option<u64> {
+fn memory_limit<R: Files + AllocGlobal>(rt: &R) -> Option<u64> {
     let groups = fs::read_to_string(rt, GROUP).ok()?;
     let group = group_in(groups.as_str())?;
     let path = format!(in rt.alloc(); "/sys/fs/cgroup{group}/memory.max").ok()?;
@@ -52,7 +53,7 @@ fn memory_limit(rt: &HostRuntime) -> Option<u64> {
 
 /// Warns that a start over the file at a path may take more memory than this process may have: the
 /// system then kills it, and nothing else would say why.
-pub fn warn_of_memory<G: Log>(rt: &HostRuntime, log: &G, path: &str) {
+pub fn warn_of_memory<R: Files + AllocGlobal, G: Log>(rt: &R, log: &G, path: &str) {
     let Ok(found) = fs::metadata(rt, path) else {
         return;
     };

@@ -8,6 +8,7 @@ ghost use Rattle.mq_store.specs.Soundness.{book_in, HasKept, IsSound};
 ghost use Rattle.mq_program.specs.Nights.{AreKept, AreServed, HasDawned, HasPassed};
 
 use crate::fault::ProgramFault;
+use crate::host::Databases;
 use crate::last_night::{last_night, note_night};
 use crate::serving::{Crowd, Elapsed, EndedServing, bind, log_ledger};
 use crate::store::{ledger_of_settings, log_cause, path_of};
@@ -23,16 +24,17 @@ use mq_store::SqlLedger;
 use mq_watch::WatchedLedger;
 use sqlite::{Alter, Connection, Unknown};
 use std::alloc::AllocError;
-use std::net::TcpListener;
+use std::net::{Net, TcpListener, TcpStream};
+use std::rt::{Clock, Files};
 use std::time::{Duration, Instant};
 
 /// A ledger with the log of what comes to it.
-type Serving<'a, S, G> = WatchedLedger<'a, SqlLedger<S>, HostRuntime, G>;
+type Serving<'a, S, R, G> = WatchedLedger<'a, SqlLedger<S>, R, G>;
 
 /// What all nights of a server have in common.
 #[derive(Drop)]
-struct Nights<'a, G> {
-    rt: &'a HostRuntime,
+struct Nights<'a, R, G> {
+    rt: &'a R,
     log: &'a G,
     settings: &'a ServerSettings,
     /// How many days before today are kept.
@@ -67,21 +69,21 @@ trait Switch<C> {
 }
 
 /// The ledger's file, and those beside it that renewals fill.
-struct NightFiles<'a, G> {
-    rt: &'a HostRuntime,
+struct NightFiles<'a, R, G> {
+    rt: &'a R,
     log: &'a G,
     names: &'a Names,
 }
 
-impl<G> Clone for NightFiles<'_, G> {
+impl<R, G> Clone for NightFiles<'_, R, G> {
     fn clone(&self) -> Result<Self, AllocError> {
         Ok(*self)
     }
 }
 
-impl<G> Copy for NightFiles<'_, G> {}
+impl<R, G> Copy for NightFiles<'_, R, G> {}
 
-impl<G: Log> Parts<PartStore> for NightFiles<'_, G> {
+impl<R: Databases, G: Log> Parts<PartStore> for NightFiles<'_, R, G> {
     fn part(&mut self) -> Result<Connection<PartStore>, NoPart> {
         match make_part(self.rt, self.log, self.names) {
             Ok(connection) => Ok(connection),
@@ -98,7 +100,10 @@ impl<G: Log> Parts<PartStore> for NightFiles<'_, G> {
     }
 }
 
-impl<G: Log> Switch<Connection<PartStore>> for NightFiles<'_, G> {
+impl<R, G: Log> Switch<Connection<PartStore>> for NightFiles<'_, R, G>
+where
+    R: Files + Clock + AllocGlobal,
+{
     fn take_place(
         &mut self,
         former: Connection<PartStore>,
@@ -122,8 +127,8 @@ impl<G: Log> Switch<Connection<PartStore>> for NightFiles<'_, G> {
 
 /// A ledger that a renewal made.
 #[derive(Drop)]
-struct Dawn<'a, N: Alter, G> {
-    serving: Serving<'a, N, G>,
+struct Dawn<'a, N: Alter, R, G> {
+    serving: Serving<'a, N, R, G>,
     /// The first day that it has.
     day: u32,
     /// When the renewal began.
@@ -135,18 +140,18 @@ struct Dawn<'a, N: Alter, G> {
 /// A night that is over: the ledger that it began with, and the one that is served from then on, if
 /// there is one.
 #[derive(Drop)]
-struct PassedNight<'a, S: Alter, N: Alter, G> {
+struct PassedNight<'a, S: Alter, N: Alter, R, G> {
     ledger: SqlLedger<S>,
-    outcome: Result<Option<Dawn<'a, N, G>>, ProgramFault>,
+    outcome: Result<Option<Dawn<'a, N, R, G>>, ProgramFault>,
 }
 
 /// The end of a night without a fault: a renewed ledger is served from then on, by who served the
 /// former one.
-fn end_night<'a, G: Log, S: Alter + Drop, N: Alter + Drop>(
-    nights: &Nights<'a, G>,
-    serving: Serving<'a, S, G>,
+fn end_night<'a, R: Clock, G: Log, S: Alter + Drop, N: Alter + Drop>(
+    nights: &Nights<'a, R, G>,
+    serving: Serving<'a, S, R, G>,
     night: Option<RenewedLedger<N>>,
-) -> PassedNight<'a, S, N, G>
+) -> PassedNight<'a, S, N, R, G>
     ensures former { result.ledger ≡ serving.entry }
     ensures next { IfOk result.outcome (λ dawn. IfSome dawn (λ d.
         IsSomeAnd night (λ n. (d.serving ≡ n.ledger) × (d.day ≡ n.day)))) }
@@ -184,14 +189,16 @@ fn end_night<'a, G: Log, S: Alter + Drop, N: Alter + Drop>(
 
 /// Serves a ledger until a renewal of it is through, or the serving is over. It goes over any
 /// stores, since a proof over the file's own takes far longer.
-fn pass<'a, G: Log, S: Alter + Drop, N: Alter + Drop, P: Parts<N> + Drop>(
-    nights: &Nights<'a, G>,
+fn pass<'a, R, G: Log, S: Alter + Drop, N: Alter + Drop, P: Parts<N> + Drop>(
+    nights: &Nights<'a, R, G>,
     listener: &TcpListener,
     done: Option<u32>,
     parts: P,
-    serving: Serving<'a, S, G>,
+    serving: Serving<'a, S, R, G>,
     left: &mut Connections,
-) -> PassedNight<'a, S, N, G>
+) -> PassedNight<'a, S, N, R, G>
+where
+    R: Clock + Net + AllocGlobal,
     ensures lent { (result.ledger.zone ≡ serving.entry.zone)
         × (result.ledger.default ≡ serving.entry.default) }
     ensures kept { HasKept (state S.Store result.ledger.connection)
@@ -257,14 +264,17 @@ fn pass<'a, G: Log, S: Alter + Drop, N: Alter + Drop, P: Parts<N> + Drop>(
 
 /// Serves a ledger until a renewal of it is through, and the new one has taken its place. Where the
 /// server ends before, it gives the ledger that was served last.
-fn serve_to_dawn<'a, G: Log, N: Alter + Drop, F: Parts<N> + Switch<Connection<N>> + Copy + Drop>(
-    nights: &Nights<'a, G>,
+fn serve_to_dawn<'a, R, G: Log, N: Alter + Drop, F>(
+    nights: &Nights<'a, R, G>,
     listener: &TcpListener,
     done: Option<u32>,
     files: &mut F,
-    serving: Serving<'a, N, G>,
+    serving: Serving<'a, N, R, G>,
     left: &mut Connections,
-) -> Result<Dawn<'a, N, G>, EndedServing<N>>
+) -> Result<Dawn<'a, N, R, G>, EndedServing<N>>
+where
+    R: Clock + Net + AllocGlobal,
+    F: Parts<N> + Switch<Connection<N>> + Copy + Drop,
     ensures closed { AreKept (λ c. HasKept (state N.Store c)) (F.closed files.new)
         → AreKept (λ c. HasKept (state N.Store c)) (F.closed files.old) }
     ensures kept { AreKept (λ c. HasKept (state N.Store c)) (F.closed files.new)
@@ -311,12 +321,15 @@ fn serve_to_dawn<'a, G: Log, N: Alter + Drop, F: Parts<N> + Switch<Connection<N>
 }
 
 /// Serves a ledger, and each that a renewal makes of the one before.
-fn pass_nights<G: Log, N: Alter + Drop, F: Parts<N> + Switch<Connection<N>> + Copy + Drop>(
-    nights: &Nights<'_, G>,
+fn pass_nights<R, G: Log, N: Alter + Drop, F>(
+    nights: &Nights<'_, R, G>,
     listener: &TcpListener,
     files: &mut F,
     ledger: SqlLedger<N>,
 ) -> EndedServing<N>
+where
+    R: Clock + Net + AllocGlobal,
+    F: Parts<N> + Switch<Connection<N>> + Copy + Drop,
     ensures kept { AreKept (λ c. HasKept (state N.Store c)) (F.closed files.new)
         → HasKept (state N.Store result.ledger.connection)
         → HasKept (state N.Store ledger.connection) }
@@ -379,8 +392,8 @@ fn log_keep<G: Log, S: Alter>(
 }
 
 /// Logs what a ledger holds as a server begins with it, and what is kept of it.
-fn log_start<G: Log, S: Alter>(
-    nights: &Nights<'_, G>,
+fn log_start<R, G: Log, S: Alter>(
+    nights: &Nights<'_, R, G>,
     ledger: &mut SqlLedger<S>,
     took: Elapsed,
 ) -> Result<(), LedgerFault>
@@ -399,11 +412,13 @@ fn log_start<G: Log, S: Alter>(
 
 /// Logs the start over a ledger, with what its last night did, and listens at the address of the
 /// settings.
-fn prepare<G: Log, S: Alter>(
-    nights: &Nights<'_, G>,
+fn prepare<R, G: Log, S: Alter>(
+    nights: &Nights<'_, R, G>,
     ledger: &mut SqlLedger<S>,
     took: Elapsed,
 ) -> Result<TcpListener, ProgramFault>
+where
+    R: Files + Net<Listener = TcpListener, Stream = TcpStream> + AllocGlobal,
     ensures lent { (ledger.new.zone ≡ ledger.old.zone) × (ledger.new.default ≡ ledger.old.default) }
     ensures kept { HasKept (state S.Store ledger.new.connection)
         → HasKept (state S.Store ledger.old.connection) }
@@ -427,12 +442,15 @@ fn prepare<G: Log, S: Alter>(
 /// Serves a ledger, and each that a renewal makes of it. The start, the end and what prevents it
 /// are logged. It goes over any store, as all above does: each way out of a function that owns a
 /// ledger over the file's own store takes long to prove.
-fn begin_nights<G: Log, N: Alter + Drop, F: Parts<N> + Switch<Connection<N>> + Copy + Drop>(
-    nights: &Nights<'_, G>,
+fn begin_nights<R, G: Log, N: Alter + Drop, F>(
+    nights: &Nights<'_, R, G>,
     files: &mut F,
     ledger: SqlLedger<N>,
     took: Elapsed,
 ) -> EndedServing<N>
+where
+    R: Files + Clock + Net<Listener = TcpListener, Stream = TcpStream> + AllocGlobal,
+    F: Parts<N> + Switch<Connection<N>> + Copy + Drop,
     ensures { AreKept (λ c. HasKept (state N.Store c)) (F.closed files.new) → F.is_fresh
         → IsSound ledger.zone ledger.default (state N.Store ledger.connection)
         → HasKept (state N.Store result.ledger.connection)
@@ -458,14 +476,16 @@ fn begin_nights<G: Log, N: Alter + Drop, F: Parts<N> + Switch<Connection<N>> + C
 
 /// Serves so many connections over the ledger in the file of the settings, with `create` over a new
 /// one. Meanwhile days leave it, but today and so many before.
-pub fn listen_by_night<G: Log>(
-    rt: &HostRuntime,
+pub fn listen_by_night<R, G: Log>(
+    rt: &R,
     log: &G,
     settings: &ServerSettings,
     keep: u32,
     create: bool,
     connections: Connections,
 ) -> Result<u8, ProgramFault>
+where
+    R: Databases + Clock + Net<Listener = TcpListener, Stream = TcpStream>,
     requires { AreInRange settings.now }
 {
     let since = Instant::now(rt).ok();

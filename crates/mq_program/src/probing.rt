@@ -11,6 +11,7 @@ ghost use Rattle.mq_process.specs.Settings.{AreInRange};
 use crate::auditing::print;
 use crate::describing::describe_ledger;
 use crate::fault::{ProgramFault, or_memory};
+use crate::host::Databases;
 use crate::last_night::last_night;
 use crate::store::{ledger_of_settings, let_go, log_cause, path_of};
 use log::sink::Console;
@@ -20,6 +21,8 @@ use mq_settings::{Place, ServerSettings};
 use mq_store::SqlLedger;
 use sqlite::{Alter, FileFrom, FileStore, Start};
 use std::io::Write;
+use std::net::Net;
+use std::rt::{Clock, Files};
 use std::{fs, io};
 
 /// The exit status where no server answers and none has the ledger's file open.
@@ -30,8 +33,8 @@ const NOT_RUNNING: u8 = 3;
 /// then. Last it prints which days the server forgot last.
 ///
 /// `start` stands for what the file of the settings and its log hold before the call.
-pub fn status<E: Write, S: Start>(
-    rt: &HostRuntime,
+pub fn status<R: Databases + Clock + Net + Print + Eprint, E: Write, S: Start>(
+    rt: &R,
     given: StatusArguments<'_>,
     start: S,
     errors: &mut E,
@@ -55,8 +58,8 @@ pub fn status<E: Write, S: Start>(
 }
 
 /// Prints what the last night of the ledger in this place did, where that is noted.
-fn print_last_night<W: Write>(
-    rt: &HostRuntime,
+fn print_last_night<R: Files + AllocGlobal, W: Write>(
+    rt: &R,
     store: &Place,
     output: &mut W,
 ) -> Result<(), ProgramFault> {
@@ -72,8 +75,8 @@ fn print_last_night<W: Write>(
 
 /// Prints what the ledger in the file of these settings holds, which it opens as a server does, and
 /// which comes back.
-fn describe_file<W: Write, S: Start>(
-    rt: &HostRuntime,
+fn describe_file<R: Databases + Eprint, W: Write, S: Start>(
+    rt: &R,
     settings: &ServerSettings,
     start: S,
     output: &mut W,
@@ -99,8 +102,8 @@ fn describe_file<W: Write, S: Start>(
 
 /// Prints what a ledger holds that is in the file at a path, and comes back as it was. It goes over
 /// any store, since a proof over the file's own takes far longer.
-fn describe_whole<G: Log, S: Alter + Drop, W: Write>(
-    rt: &HostRuntime,
+fn describe_whole<R: Files + AllocGlobal, G: Log, S: Alter + Drop, W: Write>(
+    rt: &R,
     log: &G,
     ledger: SqlLedger<S>,
     path: &str,
@@ -128,7 +131,7 @@ fn describe_whole<G: Log, S: Alter + Drop, W: Write>(
 }
 
 /// How many bytes the file at a path has.
-fn bytes_of(rt: &HostRuntime, path: &str) -> Result<u64, ProgramFault> {
+fn bytes_of(rt: &impl Files, path: &str) -> Result<u64, ProgramFault> {
     match fs::metadata(rt, path) {
         Ok(found) => Ok(found.len()),
         Err(cause) => Err(or_memory(&cause, ProgramFault::Store)),

@@ -1,7 +1,8 @@
 //! How far a long command is, for somebody who waits at a terminal.
 
+use crate::host::Terminals;
 use mq_process::elapsed;
-use std::io::{IsTerminal, Write};
+use std::rt::Clock;
 use std::time::Instant;
 
 /// How many answers `forget` looks through in a second at least, where it keeps them all: by the
@@ -14,15 +15,15 @@ pub trait ProgressListener {
 }
 
 /// Standard error, where it is a terminal; else nobody.
-#[derive(Clone, Copy)]
-pub struct Terminal<'a> {
-    rt: &'a HostRuntime,
+#[derive(Drop)]
+pub struct Terminal<'a, R> {
+    rt: &'a R,
     since: Option<Instant>,
 }
 
-impl<'a> Terminal<'a> {
+impl<'a, R: Clock + Eprint + Terminals> Terminal<'a, R> {
     /// The time counts from now on.
-    pub fn new(rt: &'a HostRuntime) -> Terminal<'a> {
+    pub fn new(rt: &'a R) -> Terminal<'a, R> {
         Terminal {
             rt,
             since: Instant::now(rt).ok(),
@@ -35,22 +36,19 @@ impl<'a> Terminal<'a> {
             return;
         };
         let seconds = time.as_secs();
-        let mut errors = self.rt.stderr();
-        if seconds > 0 && errors.is_terminal() {
-            let _ = writeln!(errors, "{kept} of {answers} answers kept, in {seconds} s");
+        if seconds > 0 && self.rt.has_errors_on_terminal() {
+            let _ = eprintln!(self.rt; "{kept} of {answers} answers kept, in {seconds} s");
         }
     }
 }
 
-impl ProgressListener for Terminal<'_> {
+impl<R: Eprint + Terminals> ProgressListener for Terminal<'_, R> {
     /// Prints how many answers there are, and how long that may take, where that is a second or
     /// more.
     fn begin(&self, answers: u64) {
         let seconds = answers / ANSWERS_A_SECOND;
-        let mut errors = self.rt.stderr();
-        if seconds > 0 && errors.is_terminal() {
-            let _ = writeln!(
-                errors,
+        if seconds > 0 && self.rt.has_errors_on_terminal() {
+            let _ = eprintln!(self.rt;
                 "{answers} answers to look through, in up to about {seconds} s"
             );
         }

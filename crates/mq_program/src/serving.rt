@@ -17,6 +17,7 @@ ghost use Rattle.mq_program.specs.declared.fault.ProgramFault.TheVariants.{Serve
 ghost use Rattle.mq_process.specs.Settings.{AreInRange};
 
 use crate::fault::ProgramFault;
+use crate::host::Databases;
 use crate::memory::warn_of_memory;
 use crate::nights::listen_by_night;
 use crate::refusal::days_by;
@@ -43,11 +44,10 @@ use std::time::{Duration, Instant};
 
 /// Serves so many connections: the settings first, then the ledger, then the port. `start` stands
 /// for what the ledger's file and its log hold before the call.
-pub fn server<S: Start>(
-    rt: &HostRuntime,
-    given: ServerArguments<'_>,
-    start: S,
-) -> Result<u8, ProgramFault> {
+pub fn server<R, S: Start>(rt: &R, given: ServerArguments<'_>, start: S) -> Result<u8, ProgramFault>
+where
+    R: Databases + Clock + Eprint + Net<Listener = TcpListener, Stream = TcpStream>,
+{
     let settings = server_settings(rt, given.config)?;
     serve(
         rt,
@@ -82,13 +82,15 @@ impl fmt::Display for Crowd {
 }
 
 /// Serves so many connections by these settings.
-fn serve<S: Start>(
-    rt: &HostRuntime,
+fn serve<R, S: Start>(
+    rt: &R,
     settings: &ServerSettings,
     create: bool,
     connections: Connections,
     start: S,
 ) -> Result<u8, ProgramFault>
+where
+    R: Databases + Clock + Eprint + Net<Listener = TcpListener, Stream = TcpStream>,
     requires { AreInRange settings.now }
 {
     let logged = Logged::new(rt, settings.log, Console(rt));
@@ -131,12 +133,14 @@ pub struct EndedServing<S: Alter> {
 }
 
 /// Serves so many connections over a new ledger in memory.
-fn listen_in_memory<G: Log>(
-    rt: &HostRuntime,
+fn listen_in_memory<R, G: Log>(
+    rt: &R,
     log: &G,
     settings: &ServerSettings,
     connections: Connections,
 ) -> Result<EndedServing<MemStore>, ProgramFault>
+where
+    R: Clock + Net<Listener = TcpListener, Stream = TcpStream> + AllocGlobal,
     requires { AreInRange settings.now }
 
     // It begins with no history, and gains what is served, and nothing else.
@@ -153,14 +157,16 @@ fn listen_in_memory<G: Log>(
 
 /// Serves so many connections over the ledger in the file of the settings; with `create` over a new
 /// one.
-fn listen_over_file<G: Log, S: Start>(
-    rt: &HostRuntime,
+fn listen_over_file<R, G: Log, S: Start>(
+    rt: &R,
     log: &G,
     settings: &ServerSettings,
     create: bool,
     connections: Connections,
     start: S,
 ) -> Result<EndedServing<FileStore<FileFrom<S>>>, ProgramFault>
+where
+    R: Databases + Clock + Net<Listener = TcpListener, Stream = TcpStream>,
     requires { AreInRange settings.now }
 
     // A server begins with the history whose rows the files hold, and gains what is served, and
@@ -193,14 +199,16 @@ fn listen_over_file<G: Log, S: Start>(
 
 /// Serves so many connections over a ledger. It goes over any store, since a proof over the file's
 /// own takes far longer.
-fn listen_over<G: Log, S: Alter + Drop>(
-    rt: &HostRuntime,
+fn listen_over<R, G: Log, S: Alter + Drop>(
+    rt: &R,
     log: &G,
     settings: &ServerSettings,
     ledger: SqlLedger<S>,
     took: Elapsed,
     connections: Connections,
 ) -> EndedServing<S>
+where
+    R: Clock + Net<Listener = TcpListener, Stream = TcpStream> + AllocGlobal,
     ensures same { (result.ledger.zone ≡ ledger.zone) × (result.ledger.default ≡ ledger.default) }
     ensures kept { HasKept (state S.Store result.ledger.connection)
         → HasKept (state S.Store ledger.connection) }
@@ -229,13 +237,15 @@ fn listen_over<G: Log, S: Alter + Drop>(
 
 /// Serves so many connections over a ledger, and logs what an administrator has to see of their
 /// requests.
-fn begin<G: Log, S: Alter + Drop>(
-    rt: &HostRuntime,
+fn begin<R, G: Log, S: Alter + Drop>(
+    rt: &R,
     log: &G,
     settings: &ServerSettings,
     ledger: SqlLedger<S>,
     connections: Connections,
 ) -> EndedServing<S>
+where
+    R: Clock + Net<Listener = TcpListener, Stream = TcpStream> + AllocGlobal,
     ensures same { (result.ledger.zone ≡ ledger.zone) × (result.ledger.default ≡ ledger.default) }
     ensures kept { HasKept (state S.Store result.ledger.connection)
         → HasKept (state S.Store ledger.connection) }

@@ -18,6 +18,7 @@ ghost use Rattle.mq_program.specs.Opened.{AreCountsIn, IsMadeIn, MeansFile, path
 ghost use Rattle.mq_process.specs.Settings.{AreInRange};
 
 use crate::fault::ProgramFault;
+use crate::host::Databases;
 use crate::refusal::refused_by;
 use crate::switching::{clear_part, repair_switch};
 use log::{Log, error};
@@ -31,6 +32,7 @@ use std::fs::{File, OpenOptions};
 use std::io::ErrorKind;
 use std::os::unix::fs::{MetadataExt, OpenOptionsExt, fchown};
 use std::path::Path;
+use std::rt::Files;
 use std::{fs, io};
 
 /// Who may read and write a file that is made: its owner alone.
@@ -58,7 +60,7 @@ pub fn unopened<G: Log, C: std::fmt::Display + Drop>(log: &G, path: &str, cause:
 }
 
 /// Makes an empty file with mode 0600. It is an error where one is there.
-fn make_empty(rt: &HostRuntime, path: &str) -> io::Result<()> {
+fn make_empty<R: Files<File = File> + AllocGlobal>(rt: &R, path: &str) -> io::Result<()> {
     let file = OpenOptions::new()
         .write(true)
         .create_new(true)
@@ -75,7 +77,7 @@ fn make_empty(rt: &HostRuntime, path: &str) -> io::Result<()> {
 
 /// Gives a file to the owner and the group of its folder, where this process may: what root makes
 /// is then the server's.
-fn give_to_owner(rt: &HostRuntime, file: &File, path: &str) -> io::Result<()> {
+fn give_to_owner<R: Files + AllocGlobal>(rt: &R, file: &File, path: &str) -> io::Result<()> {
     let folder = fs::metadata(rt, folder_of(rt.alloc(), path)?.as_str())?;
     match fchown(file, Some(folder.uid()), Some(folder.gid())) {
         Err(cause) if cause.kind() == ErrorKind::PermissionDenied => Ok(()),
@@ -92,7 +94,7 @@ pub fn folder_of(alloc: Global, path: &str) -> Result<String, AllocError> {
 }
 
 /// Makes the file, if it isn't there.
-fn make_file(rt: &HostRuntime, path: &str) -> io::Result<()> {
+fn make_file<R: Files<File = File> + AllocGlobal>(rt: &R, path: &str) -> io::Result<()> {
     match make_empty(rt, path) {
         Err(error) if error.kind() == ErrorKind::AlreadyExists => Ok(()),
         made => made,
@@ -100,8 +102,8 @@ fn make_file(rt: &HostRuntime, path: &str) -> io::Result<()> {
 }
 
 /// Looks whether the file is there; where a ledger is made, makes one that isn't.
-fn find_or_make_file<G: Log>(
-    rt: &HostRuntime,
+fn find_or_make_file<R: Files<File = File> + AllocGlobal, G: Log>(
+    rt: &R,
     log: &G,
     path: &str,
     create: bool,
@@ -125,8 +127,8 @@ fn find_or_make_file<G: Log>(
 /// sums is refused where one is wrong. The cause of `ProgramFault::Store` is logged.
 ///
 /// `start` stands for what the two files, the database and its log, hold before the call.
-fn connect<G: Log, S: Start>(
-    rt: &HostRuntime,
+fn connect<R: Databases, G: Log, S: Start>(
+    rt: &R,
     log: &G,
     path: &str,
     create: bool,
@@ -142,16 +144,20 @@ fn connect<G: Log, S: Start>(
         ⊎ (fault ≡ ProgramFault.Store)) }
 {
     find_or_make_file(rt, log, path, create)?;
-    match Connection::open_from(rt, path, true, start) {
+    match rt.open_database(path, start) {
         Ok(connection) => Ok(connection),
-        Err((Error::SqliteFailure(ErrorCode::OutOfMemory), _)) => Err(ProgramFault::Memory),
-        Err((cause, _)) => Err(unopened(log, path, cause)),
+        Err(Error::SqliteFailure(ErrorCode::OutOfMemory)) => Err(ProgramFault::Memory),
+        Err(cause) => Err(unopened(log, path, cause)),
     }
 }
 
 /// Makes an empty file at a path, with mode 0600. A file that is there is refused as
 /// `ProgramFault::Exists`. The cause of `ProgramFault::Store` is logged.
-pub fn make_new_file<G: Log>(rt: &HostRuntime, log: &G, path: &str) -> Result<(), ProgramFault> {
+pub fn make_new_file<R: Files<File = File> + AllocGlobal, G: Log>(
+    rt: &R,
+    log: &G,
+    path: &str,
+) -> Result<(), ProgramFault> {
     match make_empty(rt, path) {
         Ok(()) => Ok(()),
         Err(cause) if cause.kind() == ErrorKind::AlreadyExists => Err(ProgramFault::Exists),
@@ -164,8 +170,8 @@ pub fn make_new_file<G: Log>(rt: &HostRuntime, log: &G, path: &str) -> Result<()
 /// logged.
 ///
 /// `start` stands for what the file and its log hold.
-pub fn connect_new<G: Log, S: Start>(
-    rt: &HostRuntime,
+pub fn connect_new<R: Databases, G: Log, S: Start>(
+    rt: &R,
     log: &G,
     path: &str,
     start: S,
@@ -262,8 +268,8 @@ fn ledger_over<G: Log, S: Alter + Drop>(
 /// A switch to another ledger of this path that was interrupted is finished or undone first, and
 /// what a renewal left is removed. `start` stands for what the two files, the database and its log,
 /// hold then.
-pub fn ledger_of_settings<G: Log, S: Start>(
-    rt: &HostRuntime,
+pub fn ledger_of_settings<R: Databases, G: Log, S: Start>(
+    rt: &R,
     log: &G,
     settings: &ServerSettings,
     create: bool,

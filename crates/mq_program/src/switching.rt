@@ -17,6 +17,7 @@ ghost use Rattle.sqlite.specs.State.{HasCleanDisk};
 ghost use Rattle.mq_store.specs.Forgetting.{IsFree};
 
 use crate::fault::ProgramFault;
+use crate::host::Databases;
 use crate::last_night::drop_note;
 use crate::store::{close_file, connect_new, folder_of, make_new_file, unopened};
 use log::{Log, info, warn};
@@ -24,9 +25,10 @@ use mq_tables::laws::empty_databases_have_no_table;
 use os::RangeLock;
 use sqlite::{Connection, FileFrom, FileStore, Start, Unknown};
 use std::alloc::{AllocError, Global};
-use std::fs::{File, OpenOptions};
+use std::fs::{File, OpenFile, OpenOptions};
 use std::io::ErrorKind;
 use std::os::fd::AsRawFd;
+use std::rt::Files;
 use std::{fs, io};
 
 /// The bytes that SQLite locks of a database file that is open.
@@ -70,12 +72,12 @@ impl Names {
 }
 
 /// Whether there is something of this name, as far as this process may see.
-fn is_there(rt: &HostRuntime, path: &str) -> bool {
+fn is_there(rt: &impl Files, path: &str) -> bool {
     fs::symlink_metadata(rt, path).is_ok()
 }
 
 /// Whether there is nothing of this name.
-fn is_missing(rt: &HostRuntime, path: &str) -> bool {
+fn is_missing(rt: &impl Files, path: &str) -> bool {
     match fs::symlink_metadata(rt, path) {
         Ok(_) => false,
         Err(cause) => cause.kind() == ErrorKind::NotFound,
@@ -83,19 +85,24 @@ fn is_missing(rt: &HostRuntime, path: &str) -> bool {
 }
 
 /// Syncs the folder of the file at a path, so that a power cut leaves the names as they are.
-fn sync_folder(rt: &HostRuntime, path: &str) -> io::Result<()> {
+fn sync_folder<R: Files + AllocGlobal>(rt: &R, path: &str) -> io::Result<()> {
     let folder = folder_of(rt.alloc(), path)?;
-    File::open(rt, folder.as_str())?.sync_all()
+    fs::open(rt, folder.as_str())?.sync_all()
 }
 
 /// Gives a file another name in its folder, and syncs that.
-fn rename(rt: &HostRuntime, from: &str, to: &str) -> io::Result<()> {
+fn rename<R: Files + AllocGlobal>(rt: &R, from: &str, to: &str) -> io::Result<()> {
     fs::rename(rt, from, to)?;
     sync_folder(rt, to)
 }
 
 /// The same; why it can't be renamed is logged.
-fn move_file<G: Log>(rt: &HostRuntime, log: &G, from: &str, to: &str) -> Result<(), ProgramFault> {
+fn move_file<R: Files + AllocGlobal, G: Log>(
+    rt: &R,
+    log: &G,
+    from: &str,
+    to: &str,
+) -> Result<(), ProgramFault> {
     match rename(rt, from, to) {
         Ok(()) => Ok(()),
         Err(cause) => Err(unopened(log, from, cause)),
@@ -103,7 +110,7 @@ fn move_file<G: Log>(rt: &HostRuntime, log: &G, from: &str, to: &str) -> Result<
 }
 
 /// Removes a file, if it is there, and syncs its folder.
-fn remove(rt: &HostRuntime, path: &str) -> io::Result<()> {
+fn remove<R: Files + AllocGlobal>(rt: &R, path: &str) -> io::Result<()> {
     if is_missing(rt, path) {
         return Ok(());
     }
@@ -113,7 +120,7 @@ fn remove(rt: &HostRuntime, path: &str) -> io::Result<()> {
 
 /// Takes the lock that a process has of a database file that it has open, for as long as the file
 /// is held. There is none where another process has it.
-fn hold(rt: &HostRuntime, path: &str) -> io::Result<Option<File>> {
+fn hold<R: Files<File = File>>(rt: &R, path: &str) -> io::Result<Option<File>> {
     let file = OpenOptions::new().read(true).write(true).open(rt, path)?;
     let lock = os::try_lock_range(
         file.as_raw_fd(),
@@ -143,7 +150,7 @@ enum SwitchRemains {
 }
 
 /// What was left of a switch.
-fn find_left(rt: &HostRuntime, names: &Names) -> SwitchRemains {
+fn find_left(rt: &impl Files, names: &Names) -> SwitchRemains {
     if !is_missing(rt, names.ledger.as_str()) {
         return SwitchRemains::Nothing;
     }
@@ -157,7 +164,11 @@ fn find_left(rt: &HostRuntime, names: &Names) -> SwitchRemains {
 }
 
 /// Does the rest of a switch from where the new ledger is whole.
-fn finish<G: Log>(rt: &HostRuntime, log: &G, names: &Names) -> Result<(), ProgramFault> {
+fn finish<R: Files + AllocGlobal, G: Log>(
+    rt: &R,
+    log: &G,
+    names: &Names,
+) -> Result<(), ProgramFault> {
     // (a log that can't be looked at is never left behind: its answers would be lost)
     if !is_missing(rt, names.part_log.as_str()) {
         move_file(rt, log, names.part_log.as_str(), names.log.as_str())?;
@@ -166,13 +177,21 @@ fn finish<G: Log>(rt: &HostRuntime, log: &G, names: &Names) -> Result<(), Progra
 }
 
 /// Gives the former ledger its name back. Its log is where it was.
-fn undo<G: Log>(rt: &HostRuntime, log: &G, names: &Names) -> Result<(), ProgramFault> {
+fn undo<R: Files + AllocGlobal, G: Log>(
+    rt: &R,
+    log: &G,
+    names: &Names,
+) -> Result<(), ProgramFault> {
     move_file(rt, log, names.old.as_str(), names.ledger.as_str())
 }
 
 /// Holds the new file of a switch that was interrupted, which is refused while the process lives
 /// that switches. The cause of `ProgramFault::Store` is logged.
-fn hold_new<G: Log>(rt: &HostRuntime, log: &G, new: &str) -> Result<File, ProgramFault> {
+fn hold_new<R: Files<File = File>, G: Log>(
+    rt: &R,
+    log: &G,
+    new: &str,
+) -> Result<File, ProgramFault> {
     match hold(rt, new) {
         Ok(Some(file)) => Ok(file),
         Ok(None) => Err(unopened(log, new, "database is locked")),
@@ -182,7 +201,11 @@ fn hold_new<G: Log>(rt: &HostRuntime, log: &G, new: &str) -> Result<File, Progra
 
 /// Finishes or undoes a switch that was interrupted, unless another process was quicker. The cause
 /// of `ProgramFault::Store` is logged.
-fn repair<G: Log>(rt: &HostRuntime, log: &G, names: &Names) -> Result<(), ProgramFault> {
+fn repair<R: Files<File = File> + AllocGlobal, G: Log>(
+    rt: &R,
+    log: &G,
+    names: &Names,
+) -> Result<(), ProgramFault> {
     let ledger = names.ledger.as_str();
     match find_left(rt, names) {
         SwitchRemains::Nothing => {}
@@ -207,7 +230,11 @@ fn repair<G: Log>(rt: &HostRuntime, log: &G, names: &Names) -> Result<(), Progra
 
 /// Finishes or undoes what is left of a switch to another ledger at this path, before that is
 /// opened. The cause of `ProgramFault::Store` is logged.
-pub fn repair_switch<G: Log>(rt: &HostRuntime, log: &G, ledger: &str) -> Result<(), ProgramFault> {
+pub fn repair_switch<R: Files<File = File> + AllocGlobal, G: Log>(
+    rt: &R,
+    log: &G,
+    ledger: &str,
+) -> Result<(), ProgramFault> {
     if !is_missing(rt, ledger) {
         return Ok(());
     }
@@ -216,14 +243,14 @@ pub fn repair_switch<G: Log>(rt: &HostRuntime, log: &G, ledger: &str) -> Result<
 
 /// Removes what a renewal has left of its file, the log first, and a name that no switch came to
 /// use.
-fn remove_part(rt: &HostRuntime, names: &Names) -> io::Result<()> {
+fn remove_part<R: Files + AllocGlobal>(rt: &R, names: &Names) -> io::Result<()> {
     remove(rt, names.part_log.as_str())?;
     remove(rt, names.part.as_str())?;
     remove(rt, names.next.as_str())
 }
 
 /// Whether a rename can replace what has this name: there is nothing, or a plain file.
-fn may_replace(rt: &HostRuntime, path: &str) -> bool {
+fn may_replace(rt: &impl Files, path: &str) -> bool {
     match fs::symlink_metadata(rt, path) {
         Ok(found) => found.is_file(),
         Err(cause) => cause.kind() == ErrorKind::NotFound,
@@ -233,8 +260,8 @@ fn may_replace(rt: &HostRuntime, path: &str) -> bool {
 /// Makes the file of a new ledger, in place of one that was left, and opens it. There is none where
 /// a rename couldn't give the names at the end, or would replace a link. The cause of
 /// `ProgramFault::Store` is logged.
-pub fn make_part<G: Log>(
-    rt: &HostRuntime,
+pub fn make_part<R: Databases, G: Log>(
+    rt: &R,
     log: &G,
     names: &Names,
 ) -> Result<Connection<PartStore>, ProgramFault>
@@ -259,7 +286,7 @@ pub fn make_part<G: Log>(
 }
 
 /// Removes the file of a renewal that failed. One that can't be removed is logged.
-pub fn discard_part<G: Log>(rt: &HostRuntime, log: &G, names: &Names) {
+pub fn discard_part<R: Files + AllocGlobal, G: Log>(rt: &R, log: &G, names: &Names) {
     if let Err(cause) = remove_part(rt, names) {
         log_left(log, names, cause);
     }
@@ -273,7 +300,7 @@ fn log_left<G: Log>(log: &G, names: &Names, cause: io::Error) {
 
 /// Removes the file of a renewal that was interrupted, now that this process has the ledger. It
 /// stays where another process has it open.
-fn clear(rt: &HostRuntime, names: &Names) -> io::Result<()> {
+fn clear<R: Files<File = File> + AllocGlobal>(rt: &R, names: &Names) -> io::Result<()> {
     if is_missing(rt, names.part.as_str()) {
         return Ok(());
     }
@@ -285,7 +312,7 @@ fn clear(rt: &HostRuntime, names: &Names) -> io::Result<()> {
 
 /// Removes the file of a renewal that was interrupted, once the ledger at this path is open. One
 /// that can't be removed is logged, and does no harm.
-pub fn clear_part<G: Log>(rt: &HostRuntime, log: &G, ledger: &str) {
+pub fn clear_part<R: Files<File = File> + AllocGlobal, G: Log>(rt: &R, log: &G, ledger: &str) {
     let Ok(names) = Names::new(rt.alloc(), ledger) else {
         return;
     };
@@ -296,7 +323,7 @@ pub fn clear_part<G: Log>(rt: &HostRuntime, log: &G, ledger: &str) {
 
 /// Removes a log that a `forget` by hand has left: it is of an earlier file than the one that gets
 /// the name beside it. One that can't be removed is logged.
-fn remove_old_log<G: Log>(rt: &HostRuntime, log: &G, names: &Names) {
+fn remove_old_log<R: Files + AllocGlobal, G: Log>(rt: &R, log: &G, names: &Names) {
     let old_log = names.old_log.as_str();
     if let Err(cause) = remove(rt, old_log) {
         warn!(log; "{old_log}: {cause}");
@@ -305,7 +332,7 @@ fn remove_old_log<G: Log>(rt: &HostRuntime, log: &G, names: &Names) {
 
 /// Looks whether the new ledger and its log still have their names, before the former one loses its
 /// own.
-fn check_part<G: Log>(rt: &HostRuntime, log: &G, names: &Names) -> Result<(), ProgramFault> {
+fn check_part<R: Files, G: Log>(rt: &R, log: &G, names: &Names) -> Result<(), ProgramFault> {
     for name in [names.part.as_str(), names.part_log.as_str()] {
         if !is_there(rt, name) {
             return Err(unopened(log, name, "it was removed"));
@@ -316,8 +343,8 @@ fn check_part<G: Log>(rt: &HostRuntime, log: &G, names: &Names) -> Result<(), Pr
 
 /// Lets the new ledger, which this process has open, take the place of the one that this connection
 /// is to. The cause of `ProgramFault::Store` is logged; the next start then does the rest.
-pub fn switch<G: Log, S: Start>(
-    rt: &HostRuntime,
+pub fn switch<R: Files + AllocGlobal, G: Log, S: Start>(
+    rt: &R,
     log: &G,
     names: &Names,
     old: Connection<FileStore<FileFrom<S>>>,
