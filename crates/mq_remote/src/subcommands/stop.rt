@@ -2,7 +2,7 @@
 ghost use Rattle.std.specs.Prelude.{◌≡◌, Err, IfOk, IfSome, map};
 ghost use Rattle.mq_request.specs.Range.{IsAmount, IsHost, IsRun, IsWithin};
 ghost use Rattle.mq_command.specs.Allowing.{IsSetter};
-ghost use Rattle.mq_process.specs.Arguments.{IsResumeArguments, IsStopArguments};
+ghost use Rattle.mq_process.specs.Arguments.{IsResumeArguments, IsStopArguments, last_stop_day};
 ghost use Rattle.mq_process.specs.Refusals.{HasNoAddress, NamesLogin, OrderRefuses};
 ghost use Rattle.mq_command.specs.Stopping.{RunsStop};
 ghost use Rattle.mq_remote.specs.Asked.{AsksAt, AsksEachOf, AsksResume, AsksStop, IsMeant};
@@ -88,7 +88,7 @@ fn stop_at_each<R: Print + Eprint + AllocGlobal, D: Dial, E: Write>(
 ) -> u8
     requires servers { ¬ HasNoAddress (map (λ s. s.now) servers.now) }
     requires setter { IsSetter setter.now }
-    requires day { IsWithin 0 376199 order.day }
+    requires day { IsWithin 0 last_stop_day order.day }
     ensures { AsksEachOf D.leads D.Link.told (RunsStop setter.now order)
         (map (λ s. s.now) servers.now) result }
 {
@@ -112,7 +112,7 @@ fn is_meant_at_one<R: Eprint + AllocGlobal, D: Dial>(
 ) -> bool
     requires servers { ¬ HasNoAddress (map (λ s. s.now) servers.now) }
     requires setter { IsSetter setter.now }
-    requires day { IsWithin 0 376199 day }
+    requires day { IsWithin 0 last_stop_day day }
     ensures { IsMeant D.leads D.Link.told setter.now.login day is_forced
         (map (λ s. s.now) servers.now) result }
 {
@@ -135,7 +135,7 @@ fn has_sent_at_one<R: Eprint + AllocGlobal, D: Dial>(
 ) -> bool
     requires servers { ¬ HasNoAddress (map (λ s. s.now) servers.now) }
     requires setter { IsSetter setter.now }
-    requires day { IsWithin 0 376199 day }
+    requires day { IsWithin 0 last_stop_day day }
     ensures { AsksToYes (UseAt D.leads D.Link.told setter.now.login day)
         (map (λ s. s.now) servers.now) result }
 {
@@ -156,7 +156,7 @@ fn ask_use<R: Eprint + AllocGlobal, D: Dial>(
     day: u32,
 ) -> bool
     requires setter { IsSetter setter.now }
-    requires day { IsWithin 0 376199 day }
+    requires day { IsWithin 0 last_stop_day day }
     ensures { UseAt D.leads D.Link.told setter.now.login day address result }
 {
     let logged = Logged::new(rt, LevelFilter::Off, Console(rt));
@@ -175,7 +175,7 @@ fn ask_stop<R: Print + Eprint + AllocGlobal, D: Dial, E: Write>(
     errors: &mut E,
 ) -> u8
     requires setter { IsSetter setter.now }
-    requires day { IsWithin 0 376199 order.day }
+    requires day { IsWithin 0 last_stop_day order.day }
     ensures { AsksAt D.leads D.Link.told (RunsStop setter.now order) address result }
 {
     let logged = Logged::new(rt, LevelFilter::Error, Console(rt));
@@ -220,7 +220,7 @@ fn resume_at_each<R: Print + Eprint + AllocGlobal, D: Dial, E: Write>(
 ) -> u8
     requires servers { ¬ HasNoAddress (map (λ s. s.now) servers.now) }
     requires setter { IsSetter setter.now }
-    requires day { IsWithin 0 376199 day }
+    requires day { IsWithin 0 last_stop_day day }
     requires more { IfSome more IsAmount }
     ensures { AsksEachOf D.leads D.Link.told (ResumesThere setter.now day more)
         (map (λ s. s.now) servers.now) result }
@@ -245,7 +245,7 @@ fn ask_resume<R: Print + Eprint + AllocGlobal, D: Dial, E: Write>(
     errors: &mut E,
 ) -> u8
     requires setter { IsSetter setter.now }
-    requires day { IsWithin 0 376199 day }
+    requires day { IsWithin 0 last_stop_day day }
     requires more { IfSome more IsAmount }
     ensures { AsksAt D.leads D.Link.told (ResumesThere setter.now day more) address result }
 {
