@@ -15,6 +15,7 @@ from cases.edges import (
     shown,
 )
 from cases.filters import CONFIG, INPUT, LIMIT, PROCEED, REGISTRATION, RESERVE, answer
+from cases.stopping import note_of
 from ends import LONG, Script, toml
 
 SESSION, MESSAGE, TOKEN = b"7641df9771b4ed00", b"4c56d3a1", b"1ef1c203cc576e5d"
@@ -219,7 +220,7 @@ def of_reports(world, checks):
             checks.equal(
                 f"report of day {day:,}, login {shown(login)}",
                 (came, server.heard),
-                ((0, line, ""), [wire.usage(login, day)]),
+                ((0, line, note_of(login)), [wire.usage(login, day)]),
             )
         with Script([Books().serve]) as server:
             came = world.run("report", "--server", server.address, "--day", str(day))

@@ -6,6 +6,7 @@ A limit of the program is the first of its run, so limits differ by their runs.
 from concurrent.futures import ThreadPoolExecutor
 from contextlib import nullcontext
 
+from cases.stopping import note_of
 from ends import SILENCE, Script, Server, unreached
 from wire import frame, page
 
@@ -51,8 +52,8 @@ BAD_PAGE = (1, "", "mailquota: bad page\n")
 DONE = (0, "", "")
 
 
-def done(printed):
-    return 0, printed, ""
+def done(printed, noted=""):
+    return 0, printed, noted
 
 
 def run(world, checks):
@@ -173,7 +174,7 @@ EXCHANGES = [
         SETTLED,
         [SERVED] * 3,
         [ASK_U, ASK_ALL, ASK_V_W],
-        [done(LINE), done(LINE), done("      0       0       3 v\\x20w\n")],
+        [done(LINE), done(LINE), done("      0       0       3 v\\x20w\n", note_of(b"v w"))],
         [USAGE, FIRST_PAGE, OTHER_USAGE],
     ),
     ("an empty ledger", b"", [SERVED], [ASK_ALL], [DONE], [FIRST_PAGE]),
@@ -182,7 +183,7 @@ EXCHANGES = [
         b"",
         [hexadecimal("8b 046120625c 00000001 000f4240 000186a0 000f4240")],
         [ASK_A_B],
-        [done("1000000  100000 1000000 a\\x20b\\x5c\n")],
+        [done("1000000  100000 1000000 a\\x20b\\x5c\n", note_of(b"a b\\"))],
         [ESCAPED_USAGE],
     ),
     (

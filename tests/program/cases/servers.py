@@ -505,6 +505,7 @@ def notes(world, checks):
             ("limit", ["--from", "1", "--cap", "1"]),
             ("stop", ["--day", "1", "--force"]),
             ("resume", ["--day", "1", "--cap", "1"]),
+            ("report", ["--day", "1"]),
         ]:
             errors = world.run(name, *at(first.address, second.address), "--login", "Alice", *more)[
                 2

@@ -787,7 +787,8 @@ def login_texts(world, checks):
             words = ["--login-text", printed]
             what = printed if len(printed) < 20 else f"{printed[:8]}.. of {len(login)} bytes"
             came = world.run("report", "--server", server.address, "--day", "1", *words)
-            checks.equal(f"report --login-text {what}", came, (0, f"{line}\n".encode(), ""))
+            wanted = 0, f"{line}\n".encode(), note_of(login)
+            checks.equal(f"report --login-text {what}", came, wanted)
             came = world.run(
                 "limit",
                 "--server",

@@ -453,7 +453,7 @@ def words_without_a_name(world, checks):
         for words in ([shown], ["--login=u v"], [f"--login-text={shown}"]):
             came = world.run("report", "--day=2", *words, *asked)
             checks.equal(
-                f"report {' '.join(words)}", came, (0, b"      0       0       3 u\\x20v\n", "")
+                f"report {' '.join(words)}", came, (0, b"      0       0       3 u\\x20v\n", NOTE)
             )
         for words in ([shown], ["--login=u v"], [f"--login-text={shown}"]):
             came = (

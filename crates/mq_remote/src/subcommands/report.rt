@@ -13,7 +13,7 @@ use mq_command::{print_columns, run_report, run_top};
 use mq_link::Link;
 use mq_process::{
     Dial, LoginArgument, ProcessFault, ReportArguments, TIMEOUT, ask_each, check_addresses,
-    day_named, end_process, found_server, link_to, login_of, names_login, servers_or,
+    day_named, end_process, found_server, link_to, login_of, names_login, servers_or, tell_note,
 };
 use mq_request::Login;
 use mq_request::bounds::LAST_DAY;
@@ -51,6 +51,18 @@ fn reported_of(
     }
 }
 
+/// Says on `errors` what is to be noted of the one login that is reported.
+fn tell_note_of<E: Write>(
+    alloc: Global,
+    reported: &ReportedLogins,
+    errors: &mut E,
+) -> Result<(), ProcessFault> {
+    match reported {
+        ReportedLogins::One(login) => tell_note(alloc, login, errors),
+        ReportedLogins::Top(_) | ReportedLogins::All => Ok(()),
+    }
+}
+
 /// `report`: prints what one login, or all, or those that used most, used on a day. With
 /// `has_columns` a line above says what the columns are.
 pub fn report<R: Files + Clock + Print + Eprint + AllocGlobal, D: Dial, E: Write>(
@@ -75,6 +87,7 @@ pub fn report<R: Files + Clock + Print + Eprint + AllocGlobal, D: Dial, E: Write
     let servers = chosen.as_slice();
     let day = day_named(rt, given.day, given.config, LAST_DAY)?;
     let reported = reported_of(rt.alloc(), given.login, given.top)?;
+    tell_note_of(rt.alloc(), &reported, errors)?;
     Ok(ask_each(
         rt,
         servers,

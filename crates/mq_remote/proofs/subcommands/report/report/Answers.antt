@@ -21,5 +21,8 @@ returns-in_err-day-clause-refuses g c = report_right c.args.given _ (search rule
 pub returns-in_err-reported-clause-refuses : goal.returns-in_err-reported-clause-refuses
 returns-in_err-reported-clause-refuses g c = report_right c.args.given _ (search rules) (subst (λ l. HasNoAddress l → ⊥) c.as_slice-words.ensures c.in_ok-check_addresses.ensures)
 
+pub returns-in_err-tell_note_of-clause-refuses : goal.returns-in_err-tell_note_of-clause-refuses
+returns-in_err-tell_note_of-clause-refuses g c = report_right c.args.given _ (search rules) (subst (λ l. HasNoAddress l → ⊥) c.as_slice-words.ensures c.in_ok-check_addresses.ensures)
+
 pub returns-clause-refuses : goal.returns-clause-refuses
 returns-clause-refuses g c = report_right c.args.given _ (search rules) (subst (λ l. HasNoAddress l → ⊥) c.as_slice-words.ensures c.in_ok-check_addresses.ensures)
