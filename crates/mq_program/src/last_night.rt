@@ -44,7 +44,7 @@ fn write_note<R: Files + Clock + AllocGlobal>(
 }
 
 /// Notes that the days before this one were forgotten. A note that can't be written is logged, and
-/// does no harm.
+/// then that of an earlier night goes, which isn't the last one any more.
 pub fn note_night<R: Files + Clock + AllocGlobal, G: Log>(
     rt: &R,
     log: &G,
@@ -55,6 +55,7 @@ pub fn note_night<R: Files + Clock + AllocGlobal, G: Log>(
 ) {
     if let Err(cause) = write_note(rt, ledger, zone, day, took) {
         warn!(log; "{ledger}.night: {cause}");
+        drop_note(rt, ledger);
     }
 }
 

@@ -423,7 +423,7 @@ def filled_books():
 def nights_of_others(world, checks, user):
     """In a folder that may not be written no new file can be made: days stay, and it is said why. A
     start once it may be written forgets. A note that may be neither read nor written isn't
-    told, and prevents no night."""
+    told, prevents no night, and goes, since it isn't of the last one any more."""
     source = f"{world.folder}/nights-of-others"
     books, day = filled(world, source, FEW), first_day()
     path = folder_of(world, "not-to-be-written", source)
@@ -473,7 +473,7 @@ def nights_of_others(world, checks, user):
         server.process.kill()
         server.status()
     same_rows(checks, f"{what}, once it may be", path, books.remembered(day))
-    checks.equal(f"{what}, once it may be: files", names(path), NOTED)
+    checks.equal(f"{what}, once it may be: files", names(path), SWITCHED)
     owners = {it: os.stat(path + it).st_uid for it in SWITCHED}
     checks.equal(f"{what}, once it may be: whose they are", owners, dict.fromkeys(SWITCHED, USER))
 
