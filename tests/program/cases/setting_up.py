@@ -58,6 +58,7 @@ def run(world, checks):
     inits(world, checks)
     refused_inits(world, checks)
     inits_by_root(world, checks)
+    inits_through_a_link(world, checks)
     statuses(world, checks)
     statuses_by_script(world, checks)
     statuses_of_a_file(world, checks)
@@ -274,6 +275,32 @@ def inits_by_root(world, checks):
             found,
             {it: (*is_of, 0o600) for it in ("ledger", "ledger-wal")},
         )
+
+
+def inits_through_a_link(world, checks):
+    """The folder in the settings may be a link, as systemd makes it: what root makes belongs to the
+    owner of the folder that it leads to."""
+    if os.geteuid():
+        checks.skip("a ledger that root makes through a link", "who tests isn't root")
+        return
+    owner, folder, link = (60_001, 60_002), f"{world.folder}/led-to", f"{world.folder}/leads"
+    os.mkdir(folder)
+    os.chown(folder, *owner)
+    os.symlink(folder, link)
+    path = f"{link}/ledger"
+    checks.equal(
+        "a ledger made by root through a link",
+        world.run("init", "--config", ledger_settings(world, path)),
+        (0, f"made {path}\n".encode(), ""),
+    )
+    checks.equal(
+        "a ledger made by root through a link: whose it is, and its log",
+        {
+            it: (os.stat(f"{folder}/{it}").st_uid, os.stat(f"{folder}/{it}").st_gid)
+            for it in os.listdir(folder)
+        },
+        {it: owner for it in ("ledger", "ledger-wal")},
+    )
 
 
 def statuses(world, checks):
