@@ -248,6 +248,8 @@ def limit_by_script(world, checks):
             "closed before its reply was whole",
         ),
         ("a length of 0 and no more", [b"\x00\x00", b"", b""], "closed before its reply was whole"),
+        ("a cut, and then no memory", [good[:-1], b"", RETRY], "it can't take the request now"),
+        ("a reset, and then bad", [RESET, RESET, BAD], "it takes the request for none"),
     ]:
         with Script(script) as server:
             came = set_limit(world, server.address, cap=5)

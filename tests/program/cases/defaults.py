@@ -65,6 +65,7 @@ def run(world, checks):
     over_ipv6(world, checks)
     without_settings(world, checks)
     wrong_settings(world, checks)
+    settings_of_others(world, checks)
     words_that_say_all(world, checks)
     retires(world, checks)
     by_a_clock(world, checks)
@@ -80,8 +81,9 @@ def filter_settings(address, **more):
     return toml({"host": "mx1", "server": address, **more})
 
 
-def with_settings(world, *words, server=None, filter_=None):
-    """What the program comes to that finds these settings in their places."""
+def with_settings(world, *words, server=None, filter_=None, user=None):
+    """What the program comes to that finds these settings in their places. With a user it runs as
+    that one, who may not read those of the server."""
     folder = world.new_file("") + ".etc"
     os.makedirs(folder)
     for name, text in (("server", server), ("filter", filter_)):
@@ -90,6 +92,8 @@ def with_settings(world, *words, server=None, filter_=None):
         elif text is not None:
             with open(f"{folder}/{name}.toml", "w", encoding="utf-8") as file:
                 file.write(text)
+    if user:
+        os.chmod(f"{folder}/server.toml", 0o600)
     apart = [
         "unshare",
         "--mount",
@@ -99,6 +103,7 @@ def with_settings(world, *words, server=None, filter_=None):
         APART,
         "sh",
         folder,
+        *(["setpriv", f"--reuid={user}", f"--regid={user}", "--clear-groups"] if user else []),
     ]
     came = subprocess.run(
         [*apart, world.program, *words],
@@ -436,6 +441,30 @@ def wrong_settings(world, checks):
         came,
         fault("settings can't be read", log=of_settings(nothing, NO_FILE)),
     )
+
+
+def settings_of_others(world, checks):
+    """Settings of the server that this user may not read are no reason to look for others."""
+    if os.geteuid():
+        checks.skip("settings that another user may not read", "who tests isn't root")
+        return
+    os.chmod(world.folder, 0o711)
+    with Server(world) as server:
+        for words in (["report", "--day", "1"], ["status"]):
+            checks.equal(
+                f"{words[0]} by settings of the server that this user may not read",
+                with_settings(
+                    world,
+                    *words,
+                    server=server_settings(server.address),
+                    filter_=filter_settings(server.address),
+                    user=60_003,
+                ),
+                fault(
+                    "settings can't be read",
+                    log=of_settings(f"{PLACE}/server.toml", "Permission denied (os error 13)"),
+                ),
+            )
 
 
 def words_that_say_all(world, checks):

@@ -78,6 +78,7 @@ def run(world, checks):
     differs_before_three(world, checks)
     no_new_file(world, checks)
     notes_of_nights(world, checks)
+    a_note_of_the_small_hours(world, checks)
     tries_again_in_an_hour(world, checks)
     takes_its_own_time(world, checks)
     warns_once_over_a_night(world, checks)
@@ -1003,6 +1004,21 @@ def notes_of_nights(world, checks):
                             f" {said[2] if said else 'N ms'}\n"
                         ),
                     )
+
+
+def a_note_of_the_small_hours(world, checks):
+    """Days that are overdue leave at a start before 03:00, as of the night before. The note has the
+    day's own number, as `mailquota day` does."""
+    what, path, day = "a start at 01:00", f"{world.folder}/small-hours", today()
+    made_of(world, path, [request(number, day - number % 6) for number in range(1, 20)])
+    server, _ = by_clock(world, path, DAY * day + 3_600)
+    with server:
+        wait_until(lambda: has_note(path))
+        checks.equal(f"{what}: what is forgotten", forgotten_from(server), [day - 1 - KEEP])
+    with open(f"{path}.night", encoding="ascii") as file:
+        said = file.read()
+    begins = f"forgot the days before {day - 1 - KEEP} on day {day}, in "
+    checks.holds(f"{what}: the note", said.startswith(begins), begins, said)
 
 
 def tries_again_in_an_hour(world, checks):
