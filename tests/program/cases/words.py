@@ -90,6 +90,7 @@ def usage_faults(world, checks):
         (["send"], "unrecognized subcommand 'send'"),
         (["replay", "--default", "-1"], "error: "),
         (["replay", "now"], "unexpected argument 'now' found"),
+        (["stop", "u", "--forc"], "unexpected argument '--forc' found"),
         (asked + ["--from", "1"], "--cap"),
         (asked + ["--from", "1", "--cap", "many"], "invalid value 'many'"),
         (["stop", "--all"], "LOGIN"),
@@ -473,6 +474,15 @@ def words_without_a_name(world, checks):
             )
             checks.holds(
                 f"stop and resume {' '.join(words)}", good, (stopped, resumed, [2, 2]), came
+            )
+        for name, *words in (
+            ["limit", "7", "--from=2"],
+            ["stop", "--day=4"],
+            ["resume", "--day=4"],
+            ["report", "--day=2"],
+        ):
+            checks.equal(
+                f"{name} of an empty word", world.run(name, "", *words, *asked), BAD_LOGIN
             )
         for words in (
             ["limit", "\\x2", "7", "--from=2"],
