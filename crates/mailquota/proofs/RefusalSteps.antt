@@ -1,15 +1,18 @@
--- The exit status of a status, a report, a resume, a retire or a replay of which a word is at fault.
+-- The exit status of a status, a report, a limit, a stop, a resume, a retire or a replay of which a
+-- word is at fault.
 use Rattle.std.proofs.Common.{◌≡◌, ℕ, List, Option, None, Some, Result, Ok, Err, sym, subst}
 use Rattle.std.specs.Prelude.{IfSome, MatchResult}
 use Rattle.std.specs.Borrow.{Bor}
 use Rattle.mq_process.specs.declared.arguments.LoginArgument.{LoginArgument}
+use Rattle.mq_process.specs.declared.arguments.LimitArguments.{LimitArguments}
 use Rattle.mq_process.specs.declared.arguments.ProbeArguments.{ProbeArguments}
 use Rattle.mq_process.specs.declared.arguments.ReportArguments.{ReportArguments}
 use Rattle.mq_process.specs.declared.arguments.ResumeArguments.{ResumeArguments}
 use Rattle.mq_process.specs.declared.arguments.RetireArguments.{RetireArguments}
+use Rattle.mq_process.specs.declared.arguments.StopArguments.{StopArguments}
 use Rattle.mq_process.specs.declared.arguments.ReplayArguments.{ReplayArguments}
 use Rattle.mq_process.specs.declared.arguments.Arguments.{Arguments}
-use Rattle.mq_process.specs.declared.arguments.Arguments.TheVariants.{Probe, Replay, Report, Resume, Retire}
+use Rattle.mq_process.specs.declared.arguments.Arguments.TheVariants.{Limit, Probe, Replay, Report, Resume, Retire, Stop}
 use Rattle.mq_process.specs.Faults.{process_status}
 use Rattle.mq_process.specs.Refusals.{NamesLogin, OrderRefuses, ProbeRefuses, ReportRefuses, RetireRefuses}
 use Rattle.mq_process.specs.declared.fault.ProcessFault.{ProcessFault}
@@ -70,6 +73,18 @@ pub probe_ends : (all : Arguments) (given : ProbeArguments) (asked : Result ℕ 
 probe_ends all given asked status is ends refuses =
     subst (λ words. Refuses words status) (sym is)
     (for_probe given (λ f. asked ≡ Err f) (λ f. status ≡ process_status f) (status_of process_status asked status ends) refuses)
+
+pub limit_ends : (all : Arguments) (given : LimitArguments) (asked : Result ℕ ProcessFault) (status : ℕ) → all ≡ Limit given
+    → MatchResult asked (λ s. status ≡ s) (λ f. status ≡ process_status f) → OrderRefuses given.host.now given.login given.servers (λ f. asked ≡ Err f) → Refuses all status
+limit_ends all given asked status is ends refuses =
+    subst (λ words. Refuses words status) (sym is)
+    (for_order given.host.now given.login given.servers (λ f. asked ≡ Err f) (λ f. status ≡ process_status f) (status_of process_status asked status ends) refuses)
+
+pub stop_ends : (all : Arguments) (given : StopArguments) (asked : Result ℕ ProcessFault) (status : ℕ) → all ≡ Stop given
+    → MatchResult asked (λ s. status ≡ s) (λ f. status ≡ process_status f) → OrderRefuses given.host.now given.login given.servers (λ f. asked ≡ Err f) → Refuses all status
+stop_ends all given asked status is ends refuses =
+    subst (λ words. Refuses words status) (sym is)
+    (for_order given.host.now given.login given.servers (λ f. asked ≡ Err f) (λ f. status ≡ process_status f) (status_of process_status asked status ends) refuses)
 
 pub resume_ends : (all : Arguments) (given : ResumeArguments) (asked : Result ℕ ProcessFault) (status : ℕ) → all ≡ Resume given
     → MatchResult asked (λ s. status ≡ s) (λ f. status ≡ process_status f) → OrderRefuses given.host.now given.login given.servers (λ f. asked ≡ Err f) → Refuses all status

@@ -1,4 +1,4 @@
-use Rattle.mailquota.proofs.RefusalSteps.{probe_ends, replay_ends, report_ends, resume_ends, retire_ends}
+use Rattle.mailquota.proofs.RefusalSteps.{limit_ends, probe_ends, replay_ends, report_ends, resume_ends, retire_ends, stop_ends}
 use Rattle.mailquota.proofs.subcommand.run_subcommand.Goals as goal
 
 pub returns-in-Replay : goal.returns-in-Replay
@@ -19,3 +19,11 @@ returns-in-Retire g c =
 pub returns-in-Resume : goal.returns-in-Resume
 returns-in-Resume g c =
     resume_ends c.args.given c.in-Resume.given c.resume.result c.end_process-in-Resume.result c.in-Resume.is c.end_process-in-Resume.ensures c.resume.ensures.refuses
+
+pub returns-in-Limit : goal.returns-in-Limit
+returns-in-Limit g c =
+    limit_ends c.args.given c.in-Limit.given c.limit.result c.end_process-in-Limit.result c.in-Limit.is c.end_process-in-Limit.ensures c.limit.ensures.refuses
+
+pub returns-in-Stop : goal.returns-in-Stop
+returns-in-Stop g c =
+    stop_ends c.args.given c.in-Stop.given c.stop.result c.end_process-in-Stop.result c.in-Stop.is c.end_process-in-Stop.ensures c.stop.ensures.refuses
