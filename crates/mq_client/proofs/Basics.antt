@@ -11,14 +11,6 @@ cons_head x y xs ys e = cc
 pub cons_tail : {A : Type 0} (x y : A) (xs ys : List A) → x ∷ xs ≡ y ∷ ys → xs ≡ ys
 cons_tail x y xs ys e = cc
 
-pub all_weaker : {A : Type 0} (P Q : A → Type 0) (xs : List A) → ((x : A) → P x → Q x) → AllByRecursion P xs → AllByRecursion Q xs
-all_weaker P Q [] f all = tt
-all_weaker P Q (x ∷ xs) f all = (f x all.0, all_weaker P Q xs f all.1)
-
-pub all_both : {A : Type 0} (P : A → Type 0) (xs ys : List A) → AllByRecursion P (xs ++ ys) → AllByRecursion P xs × AllByRecursion P ys
-all_both P [] ys all = (tt, all)
-all_both P (x ∷ xs) ys all = let (a, b) = all_both P xs ys all.1 in ((all.0, a), b)
-
 pub all_at : {A : Type 0} (P : A → Type 0) (k : ℕ) (xs : List A) (x : A) → AllByRecursion P xs → slice_get xs k ≡ Some x → P x
 all_at P k [] x all e = absurd (none_some x e)
 all_at P zero (y ∷ xs) x all e = subst P (some_is y x e) all.0

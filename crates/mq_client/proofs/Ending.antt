@@ -1,8 +1,9 @@
 -- Two runs over the same input, whose exchanges ended alike, do and write the same.
 use Rattle.std.proofs.Common.{◌≡◌, ℕ, Bool, true, false, List, [], ◌∷◌, ◌++◌, length, refl, sym, ap, ◌∙◌, subst, append_assoc, inl, inr, ◌⊎◌, Option, None, Some}
-use Rattle.mq_client.proofs.Words.{AfterReady, ArePlayed, BeforeReady, Drain, RunEnd, EndsWith, FilterFault, Filters, HasText, Holding, Holds, IsFound, IsInHand, IsLine, IsTooLong, Meaning, Outside, Reaches, Source, Spans, Stage, StandsAt, StandsFirst, State, Step, StopsAt, actions, all_lines, all_outcomes, answer_count, concat, drained, left_over, no_rest, none_some, outcomes, push, quiets, registration, some_is, text_of, true_false, view}
+use Rattle.mq_client.proofs.Words.{AfterReady, ArePlayed, BeforeReady, Drain, RunEnd, EndsWith, FilterFault, Filters, HasText, Holding, Holds, IsFound, IsInHand, IsLine, IsTooLong, Meaning, Outside, Reaches, Source, Spans, Stage, StandsAt, StandsFirst, State, Step, StopsAt, actions, all_lines, all_outcomes, answer_count, concat, drained, left_over, no_rest, none_some, outcomes, push, quiets, registration, some_is, true_false, view}
 use Rattle.mq_client.specs.InputFaults.{is_of_input}
 use Rattle.mq_client.specs.declared.fault.FilterFault.TheVariants as faults
+use Rattle.mq_line.proofs.TextLaws.{holds-fed, left-ends}
 use Rattle.mq_client.proofs.Looping.{is_line_none}
 use Rattle.mq_client.proofs.Turning.{OneReply}
 use Rattle.mq_client.proofs.Sameness.{same_filters, same_played, same_lines}
@@ -15,12 +16,8 @@ pub record Cutting : Type 0 where
   pub held : (text : List ℕ) (taken : List (List ℕ)) (held : List ℕ) → Holds text taken held → (all_lines text ≡ taken ++ all_lines held) × (left_over text ≡ left_over held)
   pub too_long : (held more : List ℕ) → IsTooLong held → IsTooLong (held ++ more)
 
--- bytes without a whole line
-no_lines : (C : Cutting) (text : List ℕ) → IsLine text ⊎ IsTooLong text → (all_lines text ≡ []) × (left_over text ≡ text)
-no_lines C text h = C.unique text [] text (record { whole = refl; each = tt }) h
-
-nothing_left : (C : Cutting) (text : List ℕ) → text ≡ [] → (all_lines text ≡ []) × (left_over text ≡ [])
-nothing_left C text e = let (f, g) = no_lines C text (inl (is_line_none text e)) in (f, g ∙ e)
+nothing_left : (text : List ℕ) → text ≡ [] → (all_lines text ≡ []) × (left_over text ≡ [])
+nothing_left text e = let (f, g) = left-ends text (inl (is_line_none text e)) in (f, g ∙ e)
 
 -- the line in front of some bytes is the first of all that come
 first_line : (C : Cutting) (line left rest : List ℕ) (s : StandsFirst line left) → all_lines (left ++ rest) ≡ line ∷ all_lines (s.rest ++ rest)
@@ -39,17 +36,17 @@ found_fate C (faults.Line f) stage pieces left rest read_failed write_failed i (
 found_fate C (faults.Track f) stage pieces left rest read_failed write_failed i (L, m, line, s, first, reads, e) = at_line C stage line left rest (Some (faults.Track f)) first (Untracked m L f s reads e refl)
 found_fate C faults.NotReady stage pieces left rest read_failed write_failed i (m, line, s, first, reads, e) = at_line C stage line left rest (Some faults.NotReady) first (TooEarly m s reads e refl)
 found_fate C faults.EndedEarly stage pieces left rest read_failed write_failed i (s, none, end) =
-    let (f, g) = nothing_left C (left ++ rest) (ap (λ (l : List ℕ). l ++ rest) none ∙ end) in
+    let (f, g) = nothing_left (left ++ rest) (ap (λ (l : List ℕ). l ++ rest) none ∙ end) in
     AtEnd f (NeverReady s g refl)
 found_fate C faults.CutLine stage pieces left rest read_failed write_failed i (some, one, end) =
     let same = no_rest left rest end in
     let F : List ℕ → Type 0 = IsLine in
     let all : IsLine (left ++ rest) = subst F (sym same) one in
-    let (f, g) = no_lines C (left ++ rest) (inl all) in
+    let (f, g) = left-ends (left ++ rest) (inl all) in
     AtEnd f (InLine (λ none. some (sym (g ∙ same) ∙ none)) (subst F (sym g) all) refl)
 found_fate C faults.TooLong stage pieces left rest read_failed write_failed i long =
     let all = C.too_long left rest long in
-    let (f, g) = no_lines C (left ++ rest) (inr all) in
+    let (f, g) = left-ends (left ++ rest) (inr all) in
     AtEnd f (Long (subst IsTooLong (sym g) all) refl)
 found_fate C f stage pieces left rest read_failed write_failed i found = absurd (true_false (sym i))
 
@@ -62,10 +59,6 @@ quiet f spans k stage left step next i h = h
 front_nil : (front rest : List ℕ) → front ++ rest ≡ [] → front ≡ []
 front_nil [] rest e = refl
 front_nil (x ∷ front) rest e = absurd (cc (e))
-
--- what was read and what is left, by the lines that were handled
-holds_all : (bytes rest : List ℕ) (ls : List (List ℕ)) (left : List ℕ) → Holds bytes ls left → Holds (bytes ++ rest) ls (left ++ rest)
-holds_all bytes rest ls left h = record { whole = ap (λ (l : List ℕ). l ++ rest) h.whole ∙ append_assoc (text_of ls) left rest; each = h.each }
 
 -- two runs over the same input come to the same place
 meets : (spans spans' : Spans) (k k' : Holding) (G : Grammar) (C : Cutting) (text text' : List ℕ) (ls ms : List (List ℕ)) (left left' : List ℕ) (stage stage' : Stage) (steps steps' : List Step) (written written' : List ℕ) (a b : Option FilterFault)
@@ -101,7 +94,7 @@ pub same_stops : OneReply → (G : Grammar) (C : Cutting) (o p : Outside) (piece
     → (push h.step h.steps ≡ push i.step i.steps) × (h.text ++ h.front ≡ i.text ++ i.front))
 same_stops U G C o p pieces others rest more now last read_failed write_failed read_failed' write_failed' f g h i e of_f of_g =
     let (same, stages, faults) = meets o.client.spans p.client.spans h.holding i.holding G C (concat pieces ++ rest) (concat others ++ more) h.lines i.lines (h.left ++ rest) (i.left ++ more) h.stage i.stage h.steps i.steps h.text i.text (Some f) (Some g) e
-    (holds_all (concat pieces) rest h.lines h.left h.whole) (holds_all (concat others) more i.lines i.left i.whole) h.reaches h.has_text i.reaches i.has_text
+    (holds-fed (concat pieces) h.lines h.left rest h.whole) (holds-fed (concat others) i.lines i.left more i.whole) h.reaches h.has_text i.reaches i.has_text
     (found_fate C f h.stage pieces h.left rest read_failed write_failed of_f h.found) (found_fate C g i.stage others i.left more read_failed' write_failed' of_g i.found) in
     let (no_step, no_next) = quiet f o.client.spans h.holding h.stage h.left h.step (h.front ++ h.rest) of_f h.in_hand in
     let (no_step', no_next') = quiet g p.client.spans i.holding i.stage i.left i.step (i.front ++ i.rest) of_g i.in_hand in
@@ -122,8 +115,8 @@ same_stops U G C o p pieces others rest more now last read_failed write_failed r
     )
 
 -- a run to the end of the input
-end_fate : (C : Cutting) (L : List Meaning) → Fate (AfterReady L) (all_lines []) (left_over []) None
-end_fate C L = let (f, g) = nothing_left C [] refl in AtEnd f (Over L refl g refl)
+end_fate : (L : List Meaning) → Fate (AfterReady L) (all_lines []) (left_over []) None
+end_fate L = let (f, g) = nothing_left [] refl in AtEnd f (Over L refl g refl)
 
 pub no_stop_and_end : (G : Grammar) (C : Cutting) (o p : Outside) (bytes more : List ℕ) (others : List (List ℕ)) (now last : Outside) (read_failed write_failed : Bool) (e : RunEnd) (g : FilterFault)
     → EndsWith o bytes now e → StopsAt p others (Some more) last read_failed write_failed g → bytes ≡ concat others ++ more → is_of_input g ≡ false
@@ -133,8 +126,8 @@ no_stop_and_end G C o p bytes more others now last read_failed write_failed e g 
     clash of_g =
         let texted : HasText o.client.spans (AfterReady h.after_ready) h.steps (registration ++ h.results) h.holding = (h.results, h.filters, refl) in
         let (ls, stages, faults) = meets o.client.spans p.client.spans h.holding i.holding G C bytes (concat others ++ more) h.lines i.lines [] (i.left ++ more) (AfterReady h.after_ready) i.stage h.steps i.steps (registration ++ h.results) i.text None (Some g) same
-        h.whole (holds_all (concat others) more i.lines i.left i.whole) h.ready texted i.reaches i.has_text
-        (end_fate C h.after_ready) (found_fate C g i.stage others i.left more read_failed write_failed of_g i.found) in
+        h.whole (holds-fed (concat others) i.lines i.left more i.whole) h.ready texted i.reaches i.has_text
+        (end_fate h.after_ready) (found_fate C g i.stage others i.left more read_failed write_failed of_g i.found) in
         none_some g faults
 
     by_kind : (b : Bool) → is_of_input g ≡ b → is_of_input g ≡ false

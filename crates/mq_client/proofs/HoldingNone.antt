@@ -1,6 +1,6 @@
 -- Without spans nothing is held back.
 use Rattle.std.proofs.Common.{◌≡◌, ℕ, ◌-◌, true, false, List, [], ◌∷◌, refl, ap, ◌∙◌, sym, subst, Option, None, Some, is_some, arith, not, if◌then◌else◌}
-use Rattle.mq_client.proofs.Words.{AllByRecursion, Answers, Asks, Closes, Closing, Decision, FilterLine, Filters, Full, Holding, Meaning, Query, ReportLine, Spans, Step, Takes, at_line, closing, filter, held_back, is_full, is_over, nat_le, nat_lt, or_second, push, query, still, still_paused}
+use Rattle.mq_client.proofs.Words.{AllByRecursion, Answers, Asks, Closes, Closing, Decision, FilterLine, Filters, FullLogin, Holding, Meaning, Query, ReportLine, Spans, Step, Takes, at_line, closing, filter, held_back, is_full, is_over, nat_le, nat_lt, or_second, push, query, still, still_paused}
 use Rattle.std.proofs.lemmas.Bool.Decides.{nat_tests}
 use Rattle.mq_line.specs.declared.results.Decision.TheVariants.{RejectLimit, RejectService}
 
@@ -11,7 +11,7 @@ no_pause : (seconds : ℕ) (paused : Option ℕ) → still_paused 0 seconds paus
 no_pause seconds None = refl
 no_pause seconds (Some since) = rw (at_once since seconds) refl
 
-none_full : (seconds : ℕ) (full : List Full) → filter (λ (f : Full). not (is_over 0 f.since seconds)) full ≡ []
+none_full : (seconds : ℕ) (full : List FullLogin) → filter (λ (f : FullLogin). not (is_over 0 f.since seconds)) full ≡ []
 none_full seconds [] = refl
 none_full seconds (f ∷ full) = rw (at_once f.since seconds) (none_full seconds full)
 
@@ -19,7 +19,7 @@ pub without_pause : (spans : Spans) (seconds : ℕ) (h : Holding) → spans.paus
 without_pause spans seconds h e = ap (λ n. still_paused n seconds h.paused) e ∙ no_pause seconds h.paused
 
 pub without_hold : (spans : Spans) (seconds : ℕ) (h : Holding) → spans.hold ≡ 0 → (still spans seconds h).full ≡ []
-without_hold spans seconds h e = ap (λ n. filter (λ (f : Full). not (is_over n f.since seconds)) h.full) e ∙ none_full seconds h.full
+without_hold spans seconds h e = ap (λ n. filter (λ (f : FullLogin). not (is_over n f.since seconds)) h.full) e ∙ none_full seconds h.full
 
 -- ---- no step is quiet then
 
@@ -35,7 +35,7 @@ record IsFree (h : Holding) : Type 0 where
 
 none_held : (h : Holding) (login : List ℕ) → IsFree h → held_back h login ≡ None
 none_held h login f =
-    subst (λ (l : List Full). (if is_full login l then Some RejectLimit else (if is_some h.paused then Some RejectService else None)) ≡ None) (sym f.full) (subst (λ (o : Option ℕ). (if is_some o then Some RejectService else None) ≡ None) (sym f.paused) refl)
+    subst (λ (l : List FullLogin). (if is_full login l then Some RejectLimit else (if is_some h.paused then Some RejectService else None)) ≡ None) (sym f.full) (subst (λ (o : Option ℕ). (if is_some o then Some RejectService else None) ≡ None) (sym f.paused) refl)
 
 loud_none : (step : Option Step) → step ≡ None → IsLoud step
 loud_none step e = subst IsLoud (sym e) tt

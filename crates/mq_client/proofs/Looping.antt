@@ -1,26 +1,22 @@
 -- Lines handled one after another.
 use Rattle.std.proofs.Common.{◌≡◌, ℕ, ◌+◌, Bool, true, false, List, [], ◌∷◌, ◌++◌, length, refl, sym, ap, ◌∙◌, subst, append_assoc, append-nil, arith, rules, cond, inl, inr, ◌⊎◌, Option, None, Some, is_some}
-use Rattle.mq_client.proofs.Words.{AfterReady, Appends, Appends-trans, BeforeReady, Carries, Closes, Does, Drain, RunEnd, EndsWith, Err, Exchange, FilterFault, FilterLine, HasText, Holding, Holds, IfSome, IsAt, IsAtWork, IsCut, IsEarly, IsFound, IsInHand, IsLine, IsOk, IsReady, IsRefused, Makes, MakesAll, MakesOne, MayGo, Meaning, Ok, Outside, Plays, Reaches, Reads, ReadyLine, Replies, Result, SoFar, Source, Spans, Stage, StandsAt, StandsFirst, State, Step, StopsAt, StopsWithin, Takes, Tells, ReportedExchange, TrackFault, TracksAt, after_line, all_push, answer_count, around, at_line, closing, concat, is_early, is_filter, meaning, nothing_held, push, registration, still, sum_by-cons, text_of, told_all, told_one, told_steps, track_fault as fault, view}
+use Rattle.mq_client.proofs.Words.{AfterReady, Appends, Appends-trans, BeforeReady, Carries, Closes, Does, Drain, RunEnd, EndsWith, Err, Exchange, FilterFault, FilterLine, HasText, Holding, Holds, IfErr, IfSome, IsAt, IsAtWork, IsCut, IsEarly, IsFound, IsInHand, IsLine, IsOk, IsReady, IsRefused, Makes, MakesAll, MakesOne, MayGo, Meaning, Ok, OnErr, Outside, Plays, Reaches, Reads, ReadyLine, Replies, Result, SoFar, Source, Spans, Stage, StandsAt, StandsFirst, State, Step, StopsAt, StopsWithin, Takes, Tells, ReportedExchange, TrackFault, TracksAt, after_line, all_push, answer_count, around, at_line, closing, concat, is_early, is_filter, meaning, nothing_held, push, registration, still, sum_by-cons, text_of, told_all, told_one, told_steps, track_fault as fault, view, Appends-nil}
 use Rattle.std.specs.Borrow.{Bor}
 use Rattle.mq_line.specs.declared.reading.Line.{Line}
 use Rattle.mq_line.specs.declared.reading.Line.TheVariants as line
 use Rattle.mq_line.proofs.TextLaws.{holds-taken}
 use Rattle.mq_client.specs.declared.fault.FilterFault.TheVariants as faults
 use Rattle.mq_client.specs.declared.filter.Filter.{Filter}
-use Rattle.mq_client.proofs.Telling.{Tells-none, Tells-trans}
+use Rattle.mq_lemmas.proofs.Telling.{Tells-none, Tells-trans}
 use Rattle.mq_client.proofs.Supplying.{concat_push}
-
-pub Appends-none : (o : Option (List ℕ)) → Appends o o []
-Appends-none None = tt
-Appends-none (Some xs) = sym (append-nil xs)
 
 -- nothing was done
 pub Does-still : (now : Outside) → Does now now None []
-Does-still now = record { written = Appends-none now.sink; exchanged = Tells-none now.told; made = refl }
+Does-still now = record { written = Appends-nil now.sink; exchanged = Tells-none now.told; made = refl }
 
 pub Does-nothing : {T : Type 0} (told : T → Option (List ReportedExchange)) (sink : Option (List ℕ)) (old new : T) (client client' : State) → new ≡ old → client' ≡ client → Does (around sink (told old) client) (around sink (told new) client') None []
 Does-nothing told sink old new client client' e f = record {
-  written = Appends-none sink;
+  written = Appends-nil sink;
   exchanged = subst (λ x. Tells (told old) (told x) []) (sym e) (Tells-none (told old));
   made = f;
 }
@@ -49,6 +45,11 @@ pub told_push : (a b c : Option (List ReportedExchange)) (steps : List Step) (st
 told_push a b c steps None h i =
     subst (Tells a c) (append-nil (told_steps steps)) (Tells-trans a b c (told_steps steps) [] h i)
 told_push a b c steps (Some x) h i = Tells-trans a b c (told_steps steps) (told_all x.group) h i
+
+-- a last call, whose answer is returned as it is, where it failed
+pub fails_so : {T E A B : Type 0} {P Q : E → Type 0} (r : Result T E) → IfErr r P → OnErr r A → OnErr r B → ((e : E) → P e → A → B → Q e) → IfErr r Q
+fails_so (Ok x) h a b f = tt
+fails_so (Err e) h a b f = f e h a b
 
 -- an answer that is an error isn't Ok, and one that is Ok is
 pub err_not_ok : {T E : Type 0} (r : Result T E) (e : E) → r ≡ Err e → IsOk r → ⊥
@@ -275,7 +276,7 @@ so_far_start sink told client f held none h tracks zero holdup = record {
   is_at = (h, tracks, zero);
   spans = ap (λ x. x.0) holdup;
   has_text = (refl, refl, ap (λ x. x.1) holdup);
-  written = Appends-none sink;
+  written = Appends-nil sink;
   exchanged = Tells-none told;
   made = makes_none client;
 }

@@ -1,6 +1,6 @@
 -- A step of a client, at each past at which it stands.
 use Rattle.std.proofs.Common.{◌≡◌, ℕ, ◌+◌, ◌≤◌, ◌==◌, Bool, false, true, List, [], ◌∷◌, ◌++◌, length, drop, refl, sym, ap, ◌∙◌, subst, arith, Option, None, Some, is_some, if◌then◌else◌, MatchBool}
-use Rattle.mq_client.proofs.Words.{Action, AreFailed, AreTries, Ask, RecipientAnswer, Close, CloseEnd, Closed, Drain, Exchange, HeldTransaction, IsUndecided, Live, Makes, NoneYet, OneMore, PlaysFrom, Reply, Request, Sends, SendsAll, SendsSome, SendsUpTo, Source, Standing, State, View, answer_by, answer_of, closing_of, decisions, drop-drop, eq-eqb, find, held_by, let_through, opened, refuses, reserve_of, tries_in, view, with_asked}
+use Rattle.mq_client.proofs.Words.{Action, AreFailed, AreTries, Ask, RecipientAnswer, Close, CloseEnd, Closed, Drain, Exchange, HeldTransaction, IsUndecided, Live, Makes, NoneYet, OneMore, PlaysFrom, Reply, Request, Sends, SendsAll, SendsSome, SendsUpTo, Source, TransactionState, State, View, answer_by, answer_of, closing_of, decisions, drop-drop, eq-eqb, find, held_by, let_through, opened, refuses, reserve_of, tries_in, view, with_asked}
 use Rattle.mq_client.proofs.Counting.{counted, length_closed}
 
 -- the answer is that of the reply that decided
@@ -139,7 +139,7 @@ closed_nothing c txn end quiet e =
           record { held = rw gone st.held; live = rw gone st.live; numbers = rw gone st.numbers; waiting = rw gone st.waiting };
     }
 
-gone_at : (v : View) (txn : ℕ) (st : Standing) (held new : List (ℕ × HeldTransaction)) (t : ℕ) (b : Bool) → held_by st ≡ None → find new t ≡ (if b then None else find held t)
+gone_at : (v : View) (txn : ℕ) (st : TransactionState) (held new : List (ℕ × HeldTransaction)) (t : ℕ) (b : Bool) → held_by st ≡ None → find new t ≡ (if b then None else find held t)
     → ((k : ℕ) → find held k ≡ held_by (v.standing k)) → find new t ≡ held_by (if b then st else v.standing t)
 gone_at v txn st held new t true e n h = n ∙ sym e
 gone_at v txn st held new t false e n h = n ∙ h t

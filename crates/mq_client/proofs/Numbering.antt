@@ -1,13 +1,13 @@
 -- Each number has one request, and each request that is sent is the one of its number.
 use Rattle.std.proofs.Common.{◌≡◌, ℕ, ◌+◌, ◌≤◌, ◌==◌, ◌||◌, not, nat_le, Bool, false, true, List, [], ◌∷◌, ◌++◌, refl, sym, ap, ◌∙◌, subst, arith, inl, inr, Option, None, Some, is_some, if◌then◌else◌}
-use Rattle.mq_client.proofs.Words.{Action, AllByRecursion, AreUnderway, Ask, RecipientAnswer, AsksForNoClosed, Close, CloseEnd, Closed, ComeInTurn, Drain, Exchange, HeldTransaction, Id, IsNumbered, Live, Never, NoneReturns, Release, Request, Settle, SettlesWhatWasLet, Source, Standing, Step, Suits, View, WasCommitted, after, after_close, all_append, all_drop, all_push, answer_of, closing_of, decisions, eq-eqb, eqb-true, exchanges_in, held_by, held_for, id_in, id_of, is_closed, is_other, length, let_through, live_in, ne_eqb, neither_first, neither_second, none_some, not_false, numbers_in, opened, option_map, option_or, queue_of, refuses, request_by, request_under, reserve_of, same_text, some_is, takes_number, tries_in, txn_in, view}
+use Rattle.mq_client.proofs.Words.{Action, AllByRecursion, AreUnderway, Ask, RecipientAnswer, AsksForNoClosed, Close, CloseEnd, Closed, ComeInTurn, Drain, Exchange, HeldTransaction, Id, IsNumbered, Live, Never, NoneReturns, Release, Request, Settle, SettlesWhatWasLet, Source, TransactionState, Step, Suits, View, WasCommitted, after, after_close, all_append, all_drop, all_push, answer_of, closing_of, decisions, eq-eqb, eqb-true, exchanges_in, held_by, held_for, id_in, id_of, is_closed, is_other, length, let_through, live_in, ne_eqb, neither_first, neither_second, none_some, not_false, numbers_in, opened, option_map, option_or, queue_of, refuses, request_by, request_under, reserve_of, same_text, some_is, takes_number, tries_in, txn_in, view, weaker}
 use Rattle.std.specs.Cmp.Lexicographic.{bytes_decides}
 use Rattle.mq_track.specs.declared.closing.CloseEnd.TheVariants as ending
 use Rattle.mq_client.specs.declared.recipient_answer.RecipientAnswer.TheVariants as asked
 use Rattle.mq_client.proofs.ReadingOff.{live_read, numbers_read}
 use Rattle.mq_client.proofs.Turning.{next_in_queue}
 use Rattle.mq_client.proofs.Bounding.{asked_free}
-use Rattle.mq_client.proofs.Basics.{all_weaker, all_at, mapped_some, of_closing, of_either}
+use Rattle.mq_client.proofs.Basics.{all_at, mapped_some, of_closing, of_either}
 
 -- ---- the request of a step
 
@@ -57,7 +57,7 @@ reserve_numbered true s P txn moment login y group k n e = tt
 reserve_numbered false s P txn moment login y group k n e = (newest s (record { action = Ask txn moment login; group = y ∷ group; quiet = k }) P (reserve_of s (n + 1) txn moment login) (ap (λ k. Some (reserve_of s (k + 1) txn moment login)) (sym e)), tt)
 
 all_older : (s : Source) (x : Step) (P : List Step) (qs : List Request) → AllByRecursion (IsNumbered s P) qs → AllByRecursion (IsNumbered s (x ∷ P)) qs
-all_older s x P qs all = all_weaker (IsNumbered s P) (IsNumbered s (x ∷ P)) qs (older s x P) all
+all_older s x P qs all = weaker (IsNumbered s P) (IsNumbered s (x ∷ P)) (older s x P) qs all
 
 closing_numbered : (s : Source) (P : List Step) (v : View) (txn : ℕ) (end : CloseEnd) (group : List Exchange) (k : Bool) (h : HeldTransaction) → v.numbers ≡ numbers_in P → live_in P txn ≡ Some h → AllByRecursion (IsNumbered s P) v.waiting
     → AllByRecursion (IsNumbered s (record { action = Close txn end; group = group; quiet = k } ∷ P)) (v.waiting ++ closing_of s (v.numbers + 1) txn end h ∷ [])
@@ -108,7 +108,7 @@ sent_numbered s n [] u = tt
 sent_numbered s n (x ∷ P) u =
     all_append (λ y. IsNumbered s (x ∷ P) y.request) x.group (exchanges_in P)
     (group_numbered s (tries_in n x.quiet) P (view s P) x.action x.group x.quiet (numbers_read s P) (live_read s P) (waiting_numbered s P) u.0)
-    (all_weaker (λ y. IsNumbered s P y.request) (λ y. IsNumbered s (x ∷ P) y.request) (exchanges_in P) (λ y. older s x P y.request) (sent_numbered s n P u.1))
+    (weaker (λ y. IsNumbered s P y.request) (λ y. IsNumbered s (x ∷ P) y.request) (λ y. older s x P y.request) (exchanges_in P) (sent_numbered s n P u.1))
 
 pub one_request : (s : Source) (P : List Step) (q r : Request) → IsNumbered s P q → IsNumbered s P r → id_in q ≡ id_in r → q ≡ r
 one_request s P q r i j e =
@@ -119,8 +119,8 @@ one_request s P q r i j e =
 pub one_for_each : (s : Source) (n : ℕ) (P : List Step) → AreUnderway s n P → AllByRecursion (λ x. AllByRecursion (λ y. id_in x.request ≡ id_in y.request → x.request ≡ y.request) (exchanges_in P)) (exchanges_in P)
 one_for_each s n P u =
     let all = sent_numbered s n P u in
-    all_weaker (λ x. IsNumbered s P x.request) (λ x. AllByRecursion (λ y. id_in x.request ≡ id_in y.request → x.request ≡ y.request) (exchanges_in P)) (exchanges_in P)
-    (λ x i. all_weaker (λ y. IsNumbered s P y.request) (λ y. id_in x.request ≡ id_in y.request → x.request ≡ y.request) (exchanges_in P) (λ y j e. one_request s P x.request y.request i j e) all) all
+    weaker (λ x. IsNumbered s P x.request) (λ x. AllByRecursion (λ y. id_in x.request ≡ id_in y.request → x.request ≡ y.request) (exchanges_in P)) (λ x i. weaker (λ y. IsNumbered s P y.request) (λ y. id_in x.request ≡ id_in y.request → x.request ≡ y.request) (λ y j e. one_request s P x.request y.request i j e) (exchanges_in P) all)
+    (exchanges_in P) all
 
 -- ---- what a settle asks for
 
@@ -188,7 +188,7 @@ settles s P q i = tt
 
 -- each settle that was sent asks for what was let through
 pub all_settle : (s : Source) (n : ℕ) (P : List Step) → AreUnderway s n P → AllByRecursion (λ x. SettlesWhatWasLet P x.request) (exchanges_in P)
-all_settle s n P u = all_weaker (λ x. IsNumbered s P x.request) (λ x. SettlesWhatWasLet P x.request) (exchanges_in P) (λ x i. settles s P x.request i) (sent_numbered s n P u)
+all_settle s n P u = weaker (λ x. IsNumbered s P x.request) (λ x. SettlesWhatWasLet P x.request) (λ x i. settles s P x.request i) (exchanges_in P) (sent_numbered s n P u)
 
 -- ---- what the requests of a transaction are
 
@@ -211,7 +211,7 @@ same_asked h moment login more e =
     ((bytes_decides h.login login).0 (not_false _ (neither_first (not (same_text h.login login)) _ same)), eqb-true h.moment moment (not_false _ (neither_second (not (same_text h.login login)) _ same)))
 
 -- a reserve of a transaction that an ask finds live
-reserve_stays : (s : Source) (n t moment : ℕ) (login : List ℕ) (answer : RecipientAnswer) (st : Standing) (q : Request) → is_closed st ≡ false → Suits s n t st q → Suits s n t (Live (let_through answer (opened moment login (held_by st)))) q
+reserve_stays : (s : Source) (n t moment : ℕ) (login : List ℕ) (answer : RecipientAnswer) (st : TransactionState) (q : Request) → is_closed st ≡ false → Suits s n t st q → Suits s n t (Live (let_through answer (opened moment login (held_by st)))) q
 reserve_stays s n t moment login answer Never q e suits = absurd suits
 reserve_stays s n t moment login answer (Live h) q e suits = suits ∙ let_reserve s n t answer h
 reserve_stays s n t moment login answer (Closed end number h) q e suits = absurd (ended_not end number h e)
@@ -223,7 +223,7 @@ reserve_new s n t moment login answer (Some h) live numbers waiting free =
     let (same_login, same_at) = same_asked h moment login _ free in
     ap (λ (m : ℕ). reserve_of s n t m login) (sym same_at) ∙ ap (λ (l : List ℕ). reserve_of s n t h.moment l) (sym same_login) ∙ let_reserve s n t answer h
 
-closed_stays : (s : Source) (n t number : ℕ) (end : CloseEnd) (h : HeldTransaction) (st : Standing) (q : Request) → held_by st ≡ Some h → Suits s n t st q → Suits s n t (Closed end number h) q
+closed_stays : (s : Source) (n t number : ℕ) (end : CloseEnd) (h : HeldTransaction) (st : TransactionState) (q : Request) → held_by st ≡ Some h → Suits s n t st q → Suits s n t (Closed end number h) q
 closed_stays s n t number end h Never q e suits = absurd suits
 closed_stays s n t number end h (Live k) q e suits = inl (subst (λ (x : HeldTransaction). q ≡ reserve_of s n t x.moment x.login) (some_is k h e) suits)
 closed_stays s n t number end h (Closed end' number' k) q e suits = absurd (none_some h e)

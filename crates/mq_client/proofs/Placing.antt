@@ -1,12 +1,12 @@
 -- The place where a run comes to its end follows from its whole input.
 use Rattle.std.proofs.Common.{◌≡◌, ℕ, ◌<◌, if◌then◌else◌, true, false, List, [], ◌∷◌, ◌++◌, length, refl, sym, ap, ◌∙◌, subst, append_assoc, length-append, arith, Option, None, Some}
-use Rattle.mq_client.proofs.Words.{le-leb, lt-leb, nat_le, AfterReady, AllByRecursion, AreRead, BeforeReady, ConfigLine, FilterFault, FilterLine, Filters, HasText, Holding, IsEarly, IsLine, IsReady, IsTooLong, Meaning, OtherLine, Reaches, Reads, ReadyLine, Spans, Stage, Step, Takes, TrackFault, at_line, fault, is_early, is_stamped, none_some, some_is, track_fault, true_false, ◌≢◌}
+use Rattle.mq_client.proofs.Words.{le-leb, lt-leb, nat_le, AfterReady, AllByRecursion, AreRead, BeforeReady, ConfigLine, FilterFault, FilterLine, Filters, HasText, Holding, IsEarly, IsLine, IsReady, IsTooLong, Meaning, OtherLine, Reaches, Reads, ReadyLine, Spans, Stage, Step, Takes, TrackFault, at_line, fault, is_early, is_stamped, none_some, some_is, track_fault, true_false, ◌≢◌, same_from_push}
 use Rattle.mq_line.specs.declared.fault.LineFault.{LineFault}
 use Rattle.mq_client.specs.declared.fault.FilterFault.TheVariants as faults
 use Rattle.mq_line.specs.Text.{max_line}
-use Rattle.mq_lemmas.proofs.Lists.{by_pushes}
-use Rattle.mq_client.proofs.Sameness.{push_front, early_apart, same_after, same_read, same_lines}
-use Rattle.mq_client.proofs.Basics.{all_both, nil_cons, cons_head, cons_tail}
+use Rattle.mq_lemmas.proofs.Lists.{by_pushes, all_split}
+use Rattle.mq_client.proofs.Sameness.{early_apart, same_after, same_read, same_lines}
+use Rattle.mq_client.proofs.Basics.{nil_cons, cons_head, cons_tail}
 
 -- a line has one meaning, and none where it has a fault
 pub record Grammar : Type 0 where
@@ -122,7 +122,7 @@ early_or_ready G (b ∷ before) (x ∷ ls) r y after d hb hl hr e = early_or_rea
 
 ready_not_early : (G : Grammar) (ls : List (List ℕ)) (L : List Meaning) → IsReady ls L → AllByRecursion IsEarly ls → ⊥
 ready_not_early G ls L h all =
-    early_apart G.unique h.ready ((all_both IsEarly h.before (h.ready ∷ h.after) (subst (AllByRecursion IsEarly) h.whole all)).1.0) h.reads_ready
+    early_apart G.unique h.ready ((all_split IsEarly h.before (h.ready ∷ h.after) (subst (AllByRecursion IsEarly) h.whole all)).1.0) h.reads_ready
 
 -- the line was taken after what those before it say
 abbrev IsTaken : List Meaning → List ℕ → Type 0
@@ -139,21 +139,21 @@ taken_at spans k G xs d y L (m ∷ M) steps text h (before, line, whole, reads, 
   where
     last : xs ++ y ∷ [] ≡ before ++ line ∷ [] → IsTaken L y
     last whole =
-        let (same, same_line) = push_front xs before y line whole in
+        let (same, same_line) = same_from_push xs before y line whole in
         let past : M ≡ L = same_read G.unique before xs M L (sym same) rest h in
         (m, subst (λ (l : List ℕ). Reads l m) (sym same_line) reads, ap (λ l. track_fault l m) (sym past) ∙ takes_sound (at_line spans m held) M m step next takes)
 
     earlier : ((front : List (List ℕ)) → AreRead (xs ++ y ∷ front) M → IsTaken L y) → (front : List (List ℕ)) (z : List ℕ) → (xs ++ y ∷ front ≡ before ++ line ∷ [] → IsTaken L y) → xs ++ y ∷ (front ++ z ∷ []) ≡ before ++ line ∷ [] → IsTaken L y
     earlier again front z _ whole =
-        let (same, same_line) = push_front (xs ++ y ∷ front) before z line (append_assoc xs (y ∷ front) (z ∷ []) ∙ whole) in
+        let (same, same_line) = same_from_push (xs ++ y ∷ front) before z line (append_assoc xs (y ∷ front) (z ∷ []) ∙ whole) in
         again front (subst (λ (l : List (List ℕ)). AreRead l M) (sym same) rest)
 
 passes : (spans : Spans) (k : Holding) (G : Grammar) (ls : List (List ℕ)) (y : List ℕ) (d : List (List ℕ)) (stage stage' : Stage) (steps : List Step) (text : List ℕ) → Reaches ls stage → Reaches (ls ++ y ∷ d) stage' → HasText spans stage' steps text k → Passed stage y
 passes spans k G ls y d BeforeReady BeforeReady steps text h i t =
-    let (m, reads, early) = (all_both IsEarly ls (y ∷ d) i).1.0 in
+    let (m, reads, early) = (all_split IsEarly ls (y ∷ d) i).1.0 in
     Early m refl reads (early_plain m early)
 passes spans k G ls y d BeforeReady (AfterReady M) steps text h i t = early_or_ready G i.before ls i.ready y i.after d i.early h i.reads_ready i.whole
-passes spans k G ls y d (AfterReady L) BeforeReady steps text h i t = absurd (ready_not_early G ls L h (all_both IsEarly ls (y ∷ d) i).0)
+passes spans k G ls y d (AfterReady L) BeforeReady steps text h i t = absurd (ready_not_early G ls L h (all_split IsEarly ls (y ∷ d) i).0)
 passes spans k G ls y d (AfterReady L) (AfterReady M) steps text h i (results, filters, whole) =
     let longer = ap (λ l. l ++ y ∷ d) h.whole ∙ append_assoc h.before (h.ready ∷ h.after) (y ∷ d) in
     let after : h.after ++ y ∷ d ≡ i.after = same_after G.unique h.before i.before h.ready i.ready (h.after ++ y ∷ d) i.after h.early i.early h.reads_ready i.reads_ready (sym longer ∙ i.whole) in

@@ -1,6 +1,6 @@
 -- What a past leaves is what is read off the whole list of its steps.
 use Rattle.std.proofs.Common.{◌≡◌, ℕ, ◌+◌, ◌==◌, Bool, false, true, List, [], ◌∷◌, refl, sym, ap, ◌∙◌, arith, cond, Option, None, Some, is_some, if◌then◌else◌, count_by}
-use Rattle.mq_client.proofs.Words.{Action, Ask, RecipientAnswer, Asking, Close, CloseEnd, Closed, Drain, Exchange, HeldTransaction, Live, Source, Standing, Step, View, after, after_close, answer_of, asking, asks_of, closed_by, closed_in, cons_option, eqb-true, filter_map, first_of, held_by, is_granted, let_through, live_by, live_in, live_or, numbers_in, opened, since_close, standing_in, standing_or, sum_by-cons, view}
+use Rattle.mq_client.proofs.Words.{Action, Ask, RecipientAnswer, Asking, Close, CloseEnd, Closed, Drain, Exchange, HeldTransaction, Live, Source, TransactionState, Step, View, after, after_close, answer_of, asking, asks_of, closed_by, closed_in, cons_option, eqb-true, filter_map, first_of, held_by, is_granted, let_through, live_by, live_in, live_or, numbers_in, opened, since_close, standing_in, sum_by-cons, view, unwrap_or}
 use Rattle.mq_client.specs.declared.recipient_answer.RecipientAnswer.TheVariants as asked
 use Rattle.mq_client.proofs.Counting.{count_in, one_if, counted}
 
@@ -85,12 +85,12 @@ ask_read t txn moment login answer v P true e all read = ap (λ o. live_or o (cl
 ask_read t txn moment login answer v P false e all read = read t
 
 -- a transaction is as it was where another is closed
-other_ended : (t number txn : ℕ) (end : CloseEnd) (o : Option HeldTransaction) (before : Standing) → (txn == t) ≡ false → standing_or (closed_by t number (Close txn end) o) before ≡ before
+other_ended : (t number txn : ℕ) (end : CloseEnd) (o : Option HeldTransaction) (before : TransactionState) → (txn == t) ≡ false → unwrap_or (closed_by t number (Close txn end) o) before ≡ before
 other_ended t number txn end None before f = refl
 other_ended t number txn end (Some h) before f = rw f refl
 
 close_read : (s : Source) (t txn : ℕ) (end : CloseEnd) (group : List Exchange) (k : Bool) (v : View) (P : List Step) (o : Option HeldTransaction) (b : Bool) → held_by (v.standing txn) ≡ o → (txn == t) ≡ b → v.numbers ≡ numbers_in P → IsLiveRead v P → IsRead v P
-    → (after_close s txn end group v o).standing t ≡ live_or (live_by (asks_after t b (record { action = Close txn end; group = group; quiet = k }) P)) (standing_or (closed_by t (numbers_in P + 1) (Close txn end) (live_in P t)) (closed_in P t))
+    → (after_close s txn end group v o).standing t ≡ live_or (live_by (asks_after t b (record { action = Close txn end; group = group; quiet = k }) P)) (unwrap_or (closed_by t (numbers_in P + 1) (Close txn end) (live_in P t)) (closed_in P t))
 close_read s t txn end group k v P None true e f n all read =
     let absent : live_in P t ≡ None = sym (all t) ∙ ap (λ k. held_by (v.standing k)) (sym (eqb-true txn t f)) ∙ e in
     read t ∙ rw absent refl

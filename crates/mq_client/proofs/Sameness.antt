@@ -1,6 +1,6 @@
 -- A run depends on the bytes that were read, on what stood before it, and on how its exchanges ended.
 use Rattle.std.proofs.Common.{◌≡◌, ℕ, Bool, true, List, [], ◌∷◌, ◌++◌, refl, sym, ap, ◌∙◌, subst, append_assoc, Option, None, Some, is_some}
-use Rattle.mq_client.proofs.Words.{some_is, Action, AllByRecursion, Answers, ArePlayed, AreRead, Ask, Asks, Closes, Closing, ComeInTurn, Decision, Exchange, FilterLine, Filters, Holding, IsEarly, IsReady, Meaning, ExchangeOutcome, Plays, Query, Reads, ReadyLine, Request, Source, Spans, Step, Takes, action_of, actions, after_line, all_outcomes, append_cancel_right, asking_of, at_line, close_of, closing, decision_by, held_back, held_for, is_early, next_of, none_some, option_map, outcomes, push, query, queue_of, quiets, result_text, tries_in, view}
+use Rattle.mq_client.proofs.Words.{some_is, Action, AllByRecursion, Answers, ArePlayed, AreRead, Ask, Asks, Closes, Closing, ComeInTurn, Decision, Exchange, FilterLine, Filters, Holding, IsEarly, IsReady, Meaning, ExchangeOutcome, Plays, Query, Reads, ReadyLine, Request, Source, Spans, Step, Takes, action_of, actions, after_line, all_outcomes, append_cancel_right, asking_of, at_line, close_of, closing, decision_by, held_back, held_for, is_early, next_of, none_some, option_map, outcomes, push, query, queue_of, quiets, result_text, tries_in, view, same_from_push}
 use Rattle.mq_client.proofs.Turning.{OneReply, IsOver, over, same_turns}
 use Rattle.mq_client.proofs.Basics.{nil_cons, cons_head, cons_tail}
 
@@ -23,20 +23,12 @@ pub push_not_nil : (xs : List (List ℕ)) (x : List ℕ) → [] ≡ xs ++ x ∷ 
 push_not_nil [] x e = nil_cons x [] e
 push_not_nil (y ∷ xs) x e = nil_cons y (xs ++ x ∷ []) e
 
-pub push_front : (xs ys : List (List ℕ)) (x y : List ℕ) → xs ++ x ∷ [] ≡ ys ++ y ∷ [] → (xs ≡ ys) × (x ≡ y)
-push_front [] [] x y e = (refl, cons_head x y [] [] e)
-push_front [] (z ∷ ys) x y e = absurd (push_not_nil ys y (cons_tail x z [] (ys ++ y ∷ []) e))
-push_front (z ∷ xs) [] x y e = absurd (push_not_nil xs x (sym (cons_tail z y (xs ++ x ∷ []) [] e)))
-push_front (z ∷ xs) (w ∷ ys) x y e =
-    let (f, g) = push_front xs ys x y (cons_tail z w (xs ++ x ∷ []) (ys ++ y ∷ []) e) in
-    (ap (λ h. h ∷ xs) (cons_head z w (xs ++ x ∷ []) (ys ++ y ∷ []) e) ∙ ap (λ l. w ∷ l) f, g)
-
 pub same_read : (U : (line : List ℕ) (m n : Meaning) → Reads line m → Reads line n → m ≡ n) (ls ms : List (List ℕ)) (L M : List Meaning) → ls ≡ ms → AreRead ls L → AreRead ms M → L ≡ M
 same_read U ls ms [] [] e h i = refl
 same_read U ls ms [] (n ∷ M) e h (before, line, whole, reads, rest) = absurd (push_not_nil before line (sym h ∙ e ∙ whole))
 same_read U ls ms (m ∷ L) [] e (before, line, whole, reads, rest) i = absurd (push_not_nil before line (sym i ∙ sym e ∙ whole))
 same_read U ls ms (m ∷ L) (n ∷ M) e (before, line, whole, reads, rest) (before', line', whole', reads', rest') =
-    let (f, g) = push_front before before' line line' (sym whole ∙ e ∙ whole') in
+    let (f, g) = same_from_push before before' line line' (sym whole ∙ e ∙ whole') in
     let same : m ≡ n = U line' m n (subst (λ (l : List ℕ). Reads l m) g reads) reads' in
     ap (λ x. x ∷ L) same ∙ ap (λ l. n ∷ l) (same_read U before before' L M f rest rest')
 

@@ -1,20 +1,10 @@
 -- What a link reports of several exchanges, and how tries add up.
+use Rattle.mq_lemmas.proofs.Telling.{Tells-trans}
 use Rattle.std.proofs.Common.{◌≡◌, ℕ, ◌<◌, Bool, true, false, List, [], ◌∷◌, ◌++◌, length, ◌||◌, is_some, refl, sym, ap, ◌∙◌, subst, append_assoc, append-nil, Option, None, Some, if◌then◌else◌}
 use Rattle.mq_client.proofs.Words.{Answered, AreFailed, AreTries, ComesOf, Exchange, Faulted, IsDecision, IsSent, IsTry, IsVerdict, ExchangeOutcome, Reply, Request, SpellsReply, Tells, ReportedExchange, TriesOutcome, decides, deciding, has_timed_out, is_decided, is_late, or_false, ran_out, request_frame, told_all, told_of, verdict_of}
 use Rattle.mq_client.specs.declared.verdict.Verdict.{Verdict}
 use Rattle.mq_client.specs.declared.tries.TriesOutcome.TheVariants as tried
 use Rattle.mq_link.specs.declared.link.LinkFault.{LinkFault}
-
-pub Tells-none : (t : Option (List ReportedExchange)) → Tells t t []
-Tells-none None = tt
-Tells-none (Some xs) = sym (append-nil xs)
-
-pub Tells-trans : (a b c : Option (List ReportedExchange)) (xs ys : List ReportedExchange) → Tells a b xs → Tells b c ys → Tells a c (xs ++ ys)
-Tells-trans a b None xs ys h i = tt
-Tells-trans None None (Some e) xs ys h i = absurd i
-Tells-trans None (Some d) (Some e) xs ys h i = absurd h
-Tells-trans (Some c) None (Some e) xs ys h i = absurd i
-Tells-trans (Some c) (Some d) (Some e) xs ys h i = i ∙ ap (λ l. l ++ ys) h ∙ append_assoc c xs ys
 
 -- an exchange of the request's frame
 pub told_frame : (old new : Option (List ReportedExchange)) (bytes : List ℕ) (q : Request) (o : ExchangeOutcome) → bytes ≡ request_frame q → Tells old new (record { frame = bytes; outcome = o } ∷ []) → Tells old new (record { frame = request_frame q; outcome = o } ∷ [])

@@ -1,11 +1,11 @@
 -- What waits is what is read off the whole past: the closings that no exchange decided.
-use Rattle.std.proofs.Common.{◌≡◌, ℕ, zero, suc, ◌+◌, ◌<◌, ◌≤◌, ◌==◌, ◌&&◌, ◌||◌, not, Bool, false, true, List, [], ◌∷◌, ◌++◌, refl, sym, ap, ◌∙◌, subst, arith, append_assoc, append-nil, Option, None, Some, is_some, if◌then◌else◌, filter}
-use Rattle.mq_client.proofs.Words.{Action, AllByRecursion, all_append, and_false, AreUnderway, Ask, Close, CloseEnd, ComeInTurn, Drain, Exchange, HeldTransaction, Id, Limit, Release, Request, Reserve, Retire, Settle, Source, Step, View, after, after_close, all_push, closing_of, closing_under, closings_in, decisions, drop, drop-drop, held_by, held_for, is_decided_by, is_decided_in, live_in, neither_so, never, none_some, numbers_in, or_first, or_second, queue_of, reserve_of, same_id, same_request, same_text, slice_get, some_is, tries_in, view, waiting_in}
+use Rattle.std.proofs.Common.{◌≡◌, ℕ, zero, suc, ◌+◌, ◌<◌, ◌≤◌, ◌==◌, ◌||◌, not, Bool, false, true, List, [], ◌∷◌, ◌++◌, refl, sym, ap, ◌∙◌, subst, arith, append_assoc, append-nil, Option, None, Some, is_some, if◌then◌else◌, filter}
+use Rattle.mq_client.proofs.Words.{Action, AllByRecursion, all_append, and_false, AreUnderway, Ask, Close, CloseEnd, ComeInTurn, Drain, Exchange, HeldTransaction, Id, Limit, Release, Request, Reserve, Retire, Settle, Source, Step, View, after, after_close, all_push, closing_of, closing_under, closings_in, decisions, drop, drop-drop, held_by, held_for, is_decided_by, is_decided_in, live_in, neither_so, never, none_some, numbers_in, or_first, or_second, queue_of, reserve_of, same_id, same_request, same_text, slice_get, some_is, tries_in, view, waiting_in, and_left, weaker}
 use Rattle.std.proofs.lemmas.List.Elements.{filter-append}
-use Rattle.mq_lemmas.proofs.Lists.{all_of}
-use Rattle.mq_lemmas.proofs.Numbers.{number_itself, other_number}
-use Rattle.mq_request.proofs.Alike.{text_itself, id_itself}
-use Rattle.mq_client.proofs.Basics.{all_at, all_both, all_weaker, of_closing}
+use Rattle.mq_lemmas.proofs.Lists.{all_of, all_split}
+use Rattle.mq_lemmas.proofs.Numbers.{other_number}
+use Rattle.mq_request.proofs.Alike.{request_itself}
+use Rattle.mq_client.proofs.Basics.{all_at, of_closing}
 use Rattle.mq_client.proofs.Turning.{next_in_queue}
 use Rattle.mq_client.proofs.ReadingOff.{live_read, numbers_read}
 
@@ -24,21 +24,13 @@ IsClosing (Settle id txn moment login count) = Unit {0}
 IsClosing (Release id txn moment login) = Unit {0}
 IsClosing _ = ⊥
 
-request_itself : (q : Request) → IsClosing q → same_request q q ≡ true
-request_itself (Settle id txn moment login count) c = rw (id_itself id, number_itself txn, number_itself moment, text_itself login, number_itself count) refl
-request_itself (Release id txn moment login) c = rw (id_itself id, number_itself txn, number_itself moment, text_itself login) refl
-request_itself q c = absurd c
-
-first_false : (a b : Bool) → a ≡ false → (a && b) ≡ false
-first_false a b e = rw e refl
-
 other_id : (a b : Id) → a.number < b.number → same_id a b ≡ false
 other_id a b h = never (same_text a.host b.host) _ (never (a.run == b.run) _ (other_number a.number b.number h))
 
 -- a closing under a later number is another request
 other_request : (r q : Request) → IsClosing q → seq_of r < seq_of q → same_request r q ≡ false
-other_request (Settle a txn moment login count) (Settle b txn' moment' login' count') c h = first_false (same_id a b) _ (other_id a b h)
-other_request (Release a txn moment login) (Release b txn' moment' login') c h = first_false (same_id a b) _ (other_id a b h)
+other_request (Settle a txn moment login count) (Settle b txn' moment' login' count') c h = and_left (same_id a b) _ (other_id a b h)
+other_request (Release a txn moment login) (Release b txn' moment' login') c h = and_left (same_id a b) _ (other_id a b h)
 other_request r (Settle b txn' moment' login' count') c h = refl
 other_request r (Release b txn' moment' login') c h = refl
 other_request r q c h = absurd c
@@ -63,7 +55,7 @@ ask_none : (n : ℕ) (r : Request) (group : List Exchange) (q : Request) → Com
 ask_none n r [] q turns other = refl
 ask_none n r (x ∷ group) q turns other =
     let is : x.request ≡ r = all_at (λ (p : Request). p ≡ r) (decisions group) (r ∷ []) x.request (refl, tt) (next_in_queue n (r ∷ []) group x.request turns.0).1 in
-    neither_so _ _ (first_false (same_request x.request q) (is_some x.decided) (ap (λ p. same_request p q) is ∙ other)) (ask_none n r group q turns.2 other)
+    neither_so _ _ (and_left (same_request x.request q) (is_some x.decided) (ap (λ p. same_request p q) is ∙ other)) (ask_none n r group q turns.2 other)
 
 -- ---- lists of closings, the earlier numbers first
 
@@ -89,7 +81,7 @@ ComesAfter xs q = AllByRecursion (λ r. seq_of r < seq_of q) xs
 
 comes_after : (xs ys : List Request) → Ascends (xs ++ ys) → AllByRecursion (ComesAfter xs) ys
 comes_after [] ys a = all_of (ComesAfter []) ys (λ q i. tt)
-comes_after (x ∷ xs) ys a = all_two (λ r. seq_of x < seq_of r) (ComesAfter xs) (ComesAfter (x ∷ xs)) ys (λ q h i. (h, i)) (all_both (λ r. seq_of x < seq_of r) xs ys a.0).1 (comes_after xs ys a.1)
+comes_after (x ∷ xs) ys a = all_two (λ r. seq_of x < seq_of r) (ComesAfter xs) (ComesAfter (x ∷ xs)) ys (λ q h i. (h, i)) (all_split (λ r. seq_of x < seq_of r) xs ys a.0).1 (comes_after xs ys a.1)
 
 -- ---- what a group leaves of a queue
 
@@ -106,35 +98,34 @@ starts_at zero (x ∷ queue) q e = ap (λ z. z ∷ queue) (some_is x q e)
 starts_at (suc k) [] q e = absurd (none_some q e)
 starts_at (suc k) (x ∷ queue) q e = starts_at k queue q e
 
-splits_more : (n : ℕ) (queue : List Request) (x : Exchange) (group : List Exchange) (b : Bool) → is_some x.decided ≡ b → AllByRecursion IsClosing queue → slice_get queue (decisions group) ≡ Some x.request
+splits_more : (n : ℕ) (queue : List Request) (x : Exchange) (group : List Exchange) (b : Bool) → is_some x.decided ≡ b → slice_get queue (decisions group) ≡ Some x.request
     → Splits queue group (drop (decisions group) queue) → Splits queue (x ∷ group) (drop (if b then decisions group + 1 else decisions group) queue)
-splits_more n queue x group false e all at p = record {
+splits_more n queue x group false e at p = record {
   done = p.done;
   whole = p.whole;
-  decided = all_weaker (λ q. is_decided_by group q ≡ true) (λ q. is_decided_by (x ∷ group) q ≡ true) p.done (λ q h. failed_more x group q e ∙ h) p.decided;
+  decided = weaker (λ q. is_decided_by group q ≡ true) (λ q. is_decided_by (x ∷ group) q ≡ true) (λ q h. failed_more x group q e ∙ h) p.done p.decided;
   others = λ q c h. failed_more x group q e ∙ p.others q c h;
 }
-splits_more n queue x group true e all at p =
+splits_more n queue x group true e at p =
     let r = x.request in
     let left = drop (decisions group + 1) queue in
     let front : drop (decisions group) queue ≡ r ∷ left = starts_at (decisions group) queue r at ∙ ap (λ l. r ∷ l) (drop-drop 1 (decisions group) queue) in
     let parts : queue ≡ p.done ++ r ∷ left = p.whole ∙ ap (λ l. p.done ++ l) front in
-    let closing = (all_both IsClosing p.done (r ∷ left) (subst (AllByRecursion IsClosing) parts all)).1.0 in
     record {
       done = p.done ++ r ∷ [];
       whole = parts ∙ sym (append_assoc p.done (r ∷ []) left);
       decided = all_push (λ q. is_decided_by (x ∷ group) q ≡ true) p.done r
-          (all_weaker (λ q. is_decided_by group q ≡ true) (λ q. is_decided_by (x ∷ group) q ≡ true) p.done (λ q h. or_second _ (is_decided_by group q) h) p.decided)
-          (or_first _ (is_decided_by group r) (rw (request_itself r closing) e));
+          (weaker (λ q. is_decided_by group q ≡ true) (λ q. is_decided_by (x ∷ group) q ≡ true) (λ q h. or_second _ (is_decided_by group q) h) p.done p.decided)
+          (or_first _ (is_decided_by group r) (rw (request_itself r) e));
       others = λ q c h.
-          let (first, last) = all_both (λ y. seq_of y < seq_of q) p.done (r ∷ []) h in
-          neither_so _ _ (first_false (same_request r q) (is_some x.decided) (other_request r q c last.0)) (p.others q c first);
+          let (first, last) = all_split (λ y. seq_of y < seq_of q) p.done (r ∷ []) h in
+          neither_so _ _ (and_left (same_request r q) (is_some x.decided) (other_request r q c last.0)) (p.others q c first);
     }
 
 splits : (n : ℕ) (queue : List Request) (group : List Exchange) → AllByRecursion IsClosing queue → ComeInTurn n queue group → Splits queue group (drop (decisions group) queue)
 splits n queue [] all turns = record { done = []; whole = refl; decided = tt; others = λ q c h. refl }
 splits n queue (x ∷ group) all turns =
-    splits_more n queue x group (is_some x.decided) refl all (next_in_queue n queue group x.request turns.0).1 (splits n queue group all turns.2)
+    splits_more n queue x group (is_some x.decided) refl (next_in_queue n queue group x.request turns.0).1 (splits n queue group all turns.2)
 
 -- ---- what waits in a past
 
@@ -156,8 +147,8 @@ waits_more dec closings waiting n q w c e = record {
   decided = w.decided;
   undecided = all_push (λ r. dec r ≡ false) waiting q w.undecided (w.beyond q c (omega (arith, e)));
   closing = all_push IsClosing closings q w.closing c;
-  ascends = ascends_push closings q w.ascends (all_weaker (λ r. seq_of r ≤ n) (λ r. seq_of r < seq_of q) closings (λ r h. omega (arith, h, e)) w.below);
-  below = all_push (λ r. seq_of r ≤ n + 1) closings q (all_weaker (λ r. seq_of r ≤ n) (λ r. seq_of r ≤ n + 1) closings (λ r h. omega (arith, h)) w.below) (omega (arith, e));
+  ascends = ascends_push closings q w.ascends (weaker (λ r. seq_of r ≤ n) (λ r. seq_of r < seq_of q) (λ r h. omega (arith, h, e)) closings w.below);
+  below = all_push (λ r. seq_of r ≤ n + 1) closings q (weaker (λ r. seq_of r ≤ n) (λ r. seq_of r ≤ n + 1) (λ r h. omega (arith, h)) closings w.below) (omega (arith, e));
   beyond = λ r d h. w.beyond r d (omega (arith, h));
 }
 
@@ -166,22 +157,22 @@ waits_sent : (dec : Request → Bool) (closings queue left : List Request) (n m 
 waits_sent dec closings queue left n m group w le p =
     let parts : closings ≡ w.done ++ (p.done ++ left) = w.whole ∙ ap (λ l. w.done ++ l) p.whole in
     let ordered : Ascends (p.done ++ left) = ascends_back w.done (p.done ++ left) (subst Ascends parts w.ascends) in
-    let closing_parts = all_both IsClosing w.done (p.done ++ left) (subst (AllByRecursion IsClosing) parts w.closing) in
-    let below_parts = all_both (λ q. seq_of q ≤ n) w.done (p.done ++ left) (subst (AllByRecursion (λ q. seq_of q ≤ n)) parts w.below) in
-    let open_parts = all_both (λ q. dec q ≡ false) p.done left (subst (AllByRecursion (λ q. dec q ≡ false)) p.whole w.undecided) in
-    let below_done = (all_both (λ q. seq_of q ≤ n) p.done left below_parts.1).0 in
+    let closing_parts = all_split IsClosing w.done (p.done ++ left) (subst (AllByRecursion IsClosing) parts w.closing) in
+    let below_parts = all_split (λ q. seq_of q ≤ n) w.done (p.done ++ left) (subst (AllByRecursion (λ q. seq_of q ≤ n)) parts w.below) in
+    let open_parts = all_split (λ q. dec q ≡ false) p.done left (subst (AllByRecursion (λ q. dec q ≡ false)) p.whole w.undecided) in
+    let below_done = (all_split (λ q. seq_of q ≤ n) p.done left below_parts.1).0 in
     record {
       done = w.done ++ p.done;
       whole = parts ∙ sym (append_assoc w.done p.done left);
       decided = all_append (λ q. (is_decided_by group q || dec q) ≡ true) w.done p.done
-          (all_weaker (λ q. dec q ≡ true) (λ q. (is_decided_by group q || dec q) ≡ true) w.done (λ q e. or_second (is_decided_by group q) (dec q) e) w.decided)
-          (all_weaker (λ q. is_decided_by group q ≡ true) (λ q. (is_decided_by group q || dec q) ≡ true) p.done (λ q e. or_first (is_decided_by group q) (dec q) e) p.decided);
+          (weaker (λ q. dec q ≡ true) (λ q. (is_decided_by group q || dec q) ≡ true) (λ q e. or_second (is_decided_by group q) (dec q) e) w.done w.decided)
+          (weaker (λ q. is_decided_by group q ≡ true) (λ q. (is_decided_by group q || dec q) ≡ true) (λ q e. or_first (is_decided_by group q) (dec q) e) p.done p.decided);
       undecided = all_two (λ q. IsClosing q × ComesAfter p.done q) (λ q. dec q ≡ false) (λ q. (is_decided_by group q || dec q) ≡ false) left (λ q a b. neither_so (is_decided_by group q) (dec q) (p.others q a.0 a.1) b)
-          (all_two IsClosing (ComesAfter p.done) (λ q. IsClosing q × ComesAfter p.done q) left (λ q a b. (a, b)) (all_both IsClosing p.done left closing_parts.1).1 (comes_after p.done left ordered)) open_parts.1;
+          (all_two IsClosing (ComesAfter p.done) (λ q. IsClosing q × ComesAfter p.done q) left (λ q a b. (a, b)) (all_split IsClosing p.done left closing_parts.1).1 (comes_after p.done left ordered)) open_parts.1;
       closing = w.closing;
       ascends = w.ascends;
-      below = all_weaker (λ q. seq_of q ≤ n) (λ q. seq_of q ≤ m) closings (λ q h. omega (arith, h, le)) w.below;
-      beyond = λ q c h. neither_so (is_decided_by group q) (dec q) (p.others q c (all_weaker (λ r. seq_of r ≤ n) (λ r. seq_of r < seq_of q) p.done (λ r i. omega (arith, i, h, le)) below_done)) (w.beyond q c (omega (arith, h, le)));
+      below = weaker (λ q. seq_of q ≤ n) (λ q. seq_of q ≤ m) (λ q h. omega (arith, h, le)) closings w.below;
+      beyond = λ q c h. neither_so (is_decided_by group q) (dec q) (p.others q c (weaker (λ r. seq_of r ≤ n) (λ r. seq_of r < seq_of q) (λ r i. omega (arith, i, h, le)) p.done below_done)) (w.beyond q c (omega (arith, h, le)));
     }
 
 -- ---- over a past
@@ -210,7 +201,7 @@ close_waits s n v P txn end group (Some h) same live turns w =
     let q = closing_of s (v.numbers + 1) txn end h in
     let (closing, number) = closing_is s (v.numbers + 1) txn end h in
     let more = waits_more (is_decided_in P) (closings_in s P) v.waiting v.numbers q w closing number in
-    let queue_closing = (all_both IsClosing more.done (v.waiting ++ q ∷ []) (subst (AllByRecursion IsClosing) more.whole more.closing)).1 in
+    let queue_closing = (all_split IsClosing more.done (v.waiting ++ q ∷ []) (subst (AllByRecursion IsClosing) more.whole more.closing)).1 in
     rw (live, ← same) (waits_sent (is_decided_in P) (closings_in s P ++ q ∷ []) (v.waiting ++ q ∷ []) (drop (decisions group) (v.waiting ++ q ∷ [])) (v.numbers + 1) (v.numbers + 1) group more (omega arith) (splits n (v.waiting ++ q ∷ []) group queue_closing turns))
 
 waits_step : (s : Source) (n : ℕ) (v : View) (P : List Step) (a : Action) (group : List Exchange) (k : Bool) → v.numbers ≡ numbers_in P → ((t : ℕ) → held_by (v.standing t) ≡ live_in P t)
@@ -219,7 +210,7 @@ waits_step s n v P (Ask txn moment login) [] k same live turns w = ask_waits s v
 waits_step s n v P (Ask txn moment login) (x ∷ group) k same live turns w = ask_waits s v P (x ∷ group) (quiet_ask s n (v.numbers + 1) txn moment login (x ∷ group) _ turns) (v.numbers + 1) (omega arith) w
 waits_step s n v P (Close txn end) group k same live turns w = close_waits s n v P txn end group (held_by (v.standing txn)) same (sym (live txn)) turns w
 waits_step s n v P Drain group k same live turns w =
-    let queue_closing = (all_both IsClosing w.done v.waiting (subst (AllByRecursion IsClosing) w.whole w.closing)).1 in
+    let queue_closing = (all_split IsClosing w.done v.waiting (subst (AllByRecursion IsClosing) w.whole w.closing)).1 in
     rw append-nil (waits_sent (is_decided_in P) (closings_in s P) v.waiting (drop (decisions group) v.waiting) v.numbers v.numbers group w (omega arith) (splits n v.waiting group queue_closing turns))
 
 waits : (s : Source) (n : ℕ) (P : List Step) → AreUnderway s n P → WaitsIn s (view s P) P

@@ -11,13 +11,13 @@ use Rattle.mq_client.specs.Past.{Action, Ask, Step, answer_of}
 use Rattle.mq_client.specs.declared.recipient_answer.RecipientAnswer.{RecipientAnswer}
 use Rattle.mq_client.specs.declared.recipient_answer.RecipientAnswer.TheVariants as asked
 use Rattle.mq_client.specs.declared.spans.Spans.{Spans}
-use Rattle.mq_client.specs.declared.holdup.Full.{Full}
+use Rattle.mq_client.specs.declared.holdup.FullLogin.{FullLogin}
 
 -- the second of the line since which no request is sent, in a pause, and the logins that were answered by the limit,
 -- each with the second of its line
 pub record Holding : Type 0 where
   pub paused : Option ℕ
-  pub full : List Full
+  pub full : List FullLogin
 
 -- nothing is held back
 abbrev pub nothing_held : Holding
@@ -51,7 +51,7 @@ still_by spans None h = h
 still_by spans (Some seconds) h = still spans seconds h
 
 -- whether the login is one whose limit was reached
-abbrev pub is_full : List ℕ → List Full → Bool
+abbrev pub is_full : List ℕ → List FullLogin → Bool
 is_full login full = list_any (λ f. same_text f.login login) full
 
 -- how a recipient of the login is answered with no exchange, where it is held back
@@ -75,7 +75,7 @@ full_in None = None
 full_in (Some x) = full_by x.action (answer_of x.group)
 
 -- with one more full login: 1,000 at most, and none where none is held back
-abbrev pub with_full : Spans → (seconds : ℕ) → Option (List ℕ) → List Full → List Full
+abbrev pub with_full : Spans → (seconds : ℕ) → Option (List ℕ) → List FullLogin → List FullLogin
 with_full spans seconds None full = full
 with_full spans seconds (Some login) full = if (spans.hold == 0) || nat_le 1000 (length full) then full
     else full ++ record { since = seconds; login = login } ∷ []

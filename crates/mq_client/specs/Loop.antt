@@ -10,7 +10,7 @@ use Rattle.mq_track.specs.Sessions.{fault as track_fault}
 use Rattle.mq_track.specs.State.{TracksAt}
 use Rattle.mq_track.specs.declared.fault.TrackFault.{TrackFault}
 use Rattle.mq_track.specs.declared.fault.TrackFault.TheVariants as track
-use Rattle.mq_link.specs.Link.{Tells}
+use Rattle.mq_lemmas.specs.Told.{Tells}
 use Rattle.mq_client.specs.Exchanges.{told_all}
 use Rattle.mq_client.specs.Past.{Step, State, Makes, MakesAll, told_steps}
 use Rattle.mq_client.specs.Holding.{Holding}
@@ -19,8 +19,8 @@ use Rattle.mq_client.specs.Run.{Stage, BeforeReady, AfterReady, Reaches, HasText
 use Rattle.mq_client.specs.Run.{StopsAt, is_early, is_stamped}
 use Rattle.mq_client.specs.declared.fault.FilterFault.{FilterFault}
 use Rattle.mq_client.specs.declared.fault.FilterFault.TheVariants as fault
-use Rattle.mq_client.specs.declared.filter.Early.{Early}
-use Rattle.mq_client.specs.declared.filter.Early.TheVariants as early
+use Rattle.mq_client.specs.declared.filter.EarlyLine.{EarlyLine}
+use Rattle.mq_client.specs.declared.filter.EarlyLine.TheVariants as early
 use Rattle.mq_client.specs.declared.filter.Filter.{Filter}
 use Rattle.mq_link.specs.declared.link.ReportedExchange.{ReportedExchange}
 
@@ -76,7 +76,7 @@ IsCut fault.Memory write_failed = Unit {0}
 IsCut f write_failed = ⊥
 
 -- what a line before `config|ready` is
-abbrev pub IsSorted : Meaning → Early → Type 0
+abbrev pub IsSorted : Meaning → EarlyLine → Type 0
 IsSorted m early.Passed = is_early m ≡ true
 IsSorted m early.Ready = m ≡ ReadyLine
 IsSorted m early.TooEarly = is_stamped m ≡ true

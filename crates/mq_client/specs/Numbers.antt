@@ -8,7 +8,7 @@ use Rattle.mq_request.specs.declared.message.Request.{Request}
 use Rattle.mq_request.specs.declared.message.Request.TheVariants.{Reserve, Settle, Release, Limit, Usage}
 use Rattle.mq_request.specs.declared.message.Request.TheVariants.{List as ListRequest, Retire}
 use Rattle.mq_client.specs.Exchanges.{Exchange}
-use Rattle.mq_client.specs.Past.{Source, Action, Ask, Close, Drain, Step, Standing, Never, Live, Closed, View, view}
+use Rattle.mq_client.specs.Past.{Source, Action, Ask, Close, Drain, Step, TransactionState, Never, Live, Closed, View, view}
 use Rattle.mq_client.specs.Past.{id_of, reserve_of, closing_of}
 use Rattle.mq_client.specs.Reading.{live_in, numbers_in}
 use Rattle.mq_track.specs.declared.closing.CloseEnd.TheVariants.{Commit}
@@ -75,7 +75,7 @@ SettlesWhatWasLet P (Settle id txn moment login count) = WasCommitted P txn mome
 SettlesWhatWasLet P _ = Unit {0}
 
 -- a transaction that was closed, by whichever end
-abbrev pub is_closed : Standing → Bool
+abbrev pub is_closed : TransactionState → Bool
 is_closed Never = false
 is_closed (Live h) = false
 is_closed (Closed end number h) = true
@@ -91,7 +91,7 @@ NoneReturns s [] = Unit {0}
 NoneReturns s (x ∷ P) = AsksForNoClosed (view s P) x.action × NoneReturns s P
 
 -- a request under a number suits its transaction: a reserve with its login and moment, or the one request of its close
-abbrev pub Suits : Source → (n txn : ℕ) → Standing → Request → Type 0
+abbrev pub Suits : Source → (n txn : ℕ) → TransactionState → Request → Type 0
 Suits s n txn Never q = ⊥
 Suits s n txn (Live h) q = q ≡ reserve_of s n txn h.moment h.login
 Suits s n txn (Closed end number h) q = (q ≡ reserve_of s n txn h.moment h.login)

@@ -60,21 +60,21 @@ let_through asked.Unavailable h = h
 
 -- a transaction: never asked for, live, or closed, by which end and under which number. With it stand its
 -- login and moment, and how many of its recipients were let through
-pub data Standing : Type 0 where
-  Never : Standing
-  Live : HeldTransaction → Standing
-  Closed : (end : CloseEnd) (number : ℕ) → HeldTransaction → Standing
+pub data TransactionState : Type 0 where
+  Never : TransactionState
+  Live : HeldTransaction → TransactionState
+  Closed : (end : CloseEnd) (number : ℕ) → HeldTransaction → TransactionState
 
 -- what a past leaves: each transaction, how many numbers are used, the requests that wait, in order, and the
 -- live transactions
 pub record View : Type 0 where
-  pub standing : ℕ → Standing
+  pub standing : ℕ → TransactionState
   pub numbers : ℕ
   pub waiting : List Request
   pub live : List ℕ
 
 -- what is known of a transaction while it is live
-abbrev pub held_by : Standing → Option HeldTransaction
+abbrev pub held_by : TransactionState → Option HeldTransaction
 held_by Never = None
 held_by (Live h) = Some h
 held_by (Closed end number h) = None
@@ -104,7 +104,7 @@ closing_of s number txn end h = if is_commit end && nat_le 1 h.granted then Sett
     else Release (id_of s number) txn h.moment h.login
 
 -- each transaction as it stood, but this one as it stands now
-abbrev pub set : ℕ → Standing → (ℕ → Standing) → ℕ → Standing
+abbrev pub set : ℕ → TransactionState → (ℕ → TransactionState) → ℕ → TransactionState
 set txn now standing t = if txn == t then now else standing t
 
 -- the live transactions with one that is asked for

@@ -1,11 +1,11 @@
 -- What a past leaves, read off the whole list of its steps, of which the newest comes first.
 use Rattle.std.specs.Prelude.{ℕ, ◌+◌, List, [], ◌∷◌, ◌++◌, Bool, true, false, ◌==◌, ◌&&◌, not, if◌then◌else◌, Option}
-use Rattle.std.specs.Prelude.{None, Some, is_some, filter, count_by}
+use Rattle.std.specs.Prelude.{None, Some, is_some, unwrap_or, filter, count_by}
 use Rattle.std.specs.List.{filter_map, list_any}
 use Rattle.mq_request.specs.Same.{same_request}
 use Rattle.mq_request.specs.declared.message.Request.{Request}
 use Rattle.mq_client.specs.Exchanges.{Exchange}
-use Rattle.mq_client.specs.Past.{Source, Action, Ask, Close, Drain, Step, Standing, Never, Live, Closed, answer_of}
+use Rattle.mq_client.specs.Past.{Source, Action, Ask, Close, Drain, Step, TransactionState, Never, Live, Closed, answer_of}
 use Rattle.mq_client.specs.Past.{closing_of}
 use Rattle.mq_track.specs.declared.closing.CloseEnd.{CloseEnd}
 use Rattle.mq_client.specs.declared.recipient_answer.RecipientAnswer.{RecipientAnswer}
@@ -83,29 +83,24 @@ numbers_in [] = 0
 numbers_in (x ∷ P) = if takes_number P x.action x.group then numbers_in P + 1 else numbers_in P
 
 -- a transaction that a close found live, under the number of the close
-abbrev pub closed_by : ℕ → (number : ℕ) → Action → Option HeldTransaction → Option Standing
+abbrev pub closed_by : ℕ → (number : ℕ) → Action → Option HeldTransaction → Option TransactionState
 closed_by t number (Ask txn moment login) held = None
 closed_by t number (Close txn end) None = None
 closed_by t number (Close txn end) (Some h) = if txn == t then Some (Closed end number h) else None
 closed_by t number Drain held = None
 
--- how a transaction stands after a step: as its close left it, or as before where the step closed none
-abbrev pub standing_or : Option Standing → Standing → Standing
-standing_or None before = before
-standing_or (Some now) before = now
-
 -- a transaction that isn't live, as the last close that found it live left it
-abbrev pub closed_in : List Step → ℕ → Standing
+abbrev pub closed_in : List Step → ℕ → TransactionState
 closed_in [] t = Never
-closed_in (x ∷ P) t = standing_or (closed_by t (numbers_in P + 1) x.action (live_in P t)) (closed_in P t)
+closed_in (x ∷ P) t = unwrap_or (closed_by t (numbers_in P + 1) x.action (live_in P t)) (closed_in P t)
 
 -- how a transaction stands: live, or as its last close left it
-abbrev pub live_or : Option HeldTransaction → Standing → Standing
+abbrev pub live_or : Option HeldTransaction → TransactionState → TransactionState
 live_or None before = before
 live_or (Some h) before = Live h
 
 -- how a transaction stands after the past
-abbrev pub standing_in : List Step → ℕ → Standing
+abbrev pub standing_in : List Step → ℕ → TransactionState
 standing_in P t = live_or (live_in P t) (closed_in P t)
 
 -- the request of the close of a transaction, under its number, where it was live

@@ -3,14 +3,13 @@ use Rattle.std.specs.Prelude.{◌≡◌, ◌≢◌, ◌⊎◌, ℕ, ◌≤◌, L
 use Rattle.std.specs.Prelude.{Some, is_some}
 use Rattle.std.specs.List.{AllByRecursion, concat}
 use Rattle.std.specs.Io.KnownBytes.{Appends, Consumes, IsAtEnd}
-use Rattle.mq_stream.specs.Flow.{TellsReads}
 use Rattle.mq_line.specs.Grammar.{Meaning, ConfigLine, ReadyLine, ReportLine, FilterLine, OtherLine, Reads, fault}
 use Rattle.mq_line.specs.Results.{registration}
 use Rattle.mq_line.specs.Text.{IsLine, IsTooLong, Holds}
 use Rattle.mq_track.specs.Events.{event}
 use Rattle.mq_track.specs.Sessions.{closing, fault as track_fault}
 use Rattle.mq_track.specs.Steps.{needs_memory}
-use Rattle.mq_link.specs.Link.{Tells}
+use Rattle.mq_lemmas.specs.Told.{Tells}
 use Rattle.mq_client.specs.Exchanges.{Exchange}
 use Rattle.mq_client.specs.Past.{Step, drained, State, StandsAt, view, MakesAll, told_steps}
 use Rattle.mq_client.specs.Holding.{Holding, nothing_held}
@@ -39,7 +38,7 @@ IsPiece piece = length piece ≤ 4096
 -- these reads were made, at most 1,099,511,627,776 of them
 pub record Supplies (old new : Supply) (pieces : List (List ℕ)) : Type 0 where
   pub consumed : Consumes old.remaining new.remaining (concat pieces)
-  pub told : TellsReads old.reads new.reads pieces
+  pub told : Tells old.reads new.reads pieces
   pub each : AllByRecursion IsPiece pieces
   pub few : length pieces ≤ 1099511627776
 

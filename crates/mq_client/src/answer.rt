@@ -8,7 +8,7 @@ ghost use Rattle.mq_track.specs.Sessions.{Sending};
 ghost use Rattle.mq_track.specs.State.{TracksAt};
 ghost use Rattle.mq_line.specs.Grammar.{Meaning};
 ghost use Rattle.mq_line.specs.Results.{result_text};
-ghost use Rattle.mq_link.specs.Link.{Tells};
+ghost use Rattle.mq_lemmas.specs.Told.{Tells};
 ghost use Rattle.std.specs.Option.{option_copied};
 ghost use Rattle.mq_client.specs.Past.{Step, Ask};
 ghost use Rattle.mq_client.specs.Holding.{times_out, full_by, full_in, noted_by};
@@ -22,7 +22,7 @@ use crate::client::Client;
 use crate::fault::FilterFault;
 use crate::holdup::Holdup;
 use crate::recipient_answer::RecipientAnswer;
-use crate::refusal::Cause;
+use crate::refusal::RefusalCause;
 use log::Log;
 use mq_line::{Decision, write_result};
 use mq_link::Link;
@@ -49,13 +49,13 @@ fn may_ask(login: &[u8], moment: u64) -> bool
 }
 
 /// Why a recipient of this login can't be asked for.
-fn cause_of(login: &[u8]) -> Cause
+fn cause_of(login: &[u8]) -> RefusalCause
     ensures { result ≡ cause_of login.now }
 {
     if is_login(login) {
-        Cause::Moment
+        RefusalCause::Moment
     } else {
-        Cause::Login
+        RefusalCause::Login
     }
 }
 
@@ -142,12 +142,10 @@ fn ask<'a, R: Log, K: Link>(
         client.warn_refused(rt, login, cause_of(login));
         return Ok(unasked(Decision::RejectService));
     }
-    match holdup.held_back(login) {
-        Some(decision) => {
-            note_held_back(client, decision);
-            return Ok(unasked(decision));
-        }
-        None => {}
+    if let Some(decision) = holdup.held_back(login) {
+        // (its step is a quiet one: no exchange is made, and nothing changes)
+        note_held_back(client, decision);
+        return Ok(unasked(decision));
     }
     match client.reserve(rt, link, txn, moment, login) {
         Ok(asking) => Ok(Ruling {
@@ -185,7 +183,7 @@ fn decide<'a, R: Log, K: Link>(
     match tracker.standing(inquiry.session) {
         Standing::Anonymous => Ok(unasked(Decision::Proceed)),
         Standing::Login { login, .. } => {
-            client.warn_refused(rt, login, Cause::NoTransaction);
+            client.warn_refused(rt, login, RefusalCause::NoTransaction);
             Ok(unasked(Decision::RejectService))
         }
         Standing::Open { login, txn, moment } => {

@@ -2,7 +2,7 @@
 ghost use Rattle.std.specs.Prelude.{◌≡◌, ◌≤◌, ◌<◌, ◌+◌, List, Option, [], length, None, true};
 ghost use Rattle.std.specs.Prelude.{false, IfOk, IsOk, OnOk, OnErr};
 ghost use Rattle.mq_request.specs.Range.{IsHost, IsRun, IsWithin, IsOrdinal, IsMoment, IsLogin};
-ghost use Rattle.mq_link.specs.Link.{Tells};
+ghost use Rattle.mq_lemmas.specs.Told.{Tells};
 ghost use Rattle.mq_client.specs.Exchanges.{Exchange, told_all};
 ghost use Rattle.mq_client.specs.Past.{Step, Ask, Close, Drain, StandsAt, Makes, view, answer_of};
 ghost use Rattle.mq_client.specs.Past.{find, refuses, reserve_of, closing_of, answer_by, tries_in};
@@ -14,7 +14,7 @@ ghost use Rattle.mq_request.specs.declared.message.Reply.{Reply};
 use crate::held_transaction::{HeldTransaction, closing_request, reserve_request};
 use crate::journal::Journal;
 use crate::recipient_answer::{RecipientAnswer, TimedAnswer, answer_to};
-use crate::refusal::{Cause, GivenWarnings, RefusedRecipient};
+use crate::refusal::{GivenWarnings, RefusalCause, RefusedRecipient};
 use crate::session::SessionName;
 use crate::spans::Spans;
 use crate::transactions::Transactions;
@@ -36,10 +36,13 @@ pub struct Client {
     alloc: Global,
     host: Host,
     run: u64,
+    /// How many times a request is sent that no reply decides, 1 to 10.
     tries: u32,
     spans: Spans,
     held: Transactions,
+    /// How many numbers are used, from 1 on.
     numbers: u32,
+    /// The closings that no reply has decided yet, in order.
     outbox: VecDeque<FramedRequest>,
     warned: GivenWarnings,
     journal: Journal,
@@ -113,7 +116,7 @@ fn tries_in(tries: u32, paused: bool) -> u32
 }
 
 /// Sends the request for a recipient, and answers whether it may go through.
-fn ask<R: Log, L: Link>(
+fn send_reserve<R: Log, L: Link>(
     rt: &R,
     alloc: Global,
     link: &mut L,
@@ -258,7 +261,7 @@ impl Client {
         // The number is used from here on, whatever comes of it: the server may have seen it.
         self.numbers = number;
         let journal = &mut self.journal;
-        let asking = ask(rt, self.alloc, link, reserve, self.tries, journal);
+        let asking = send_reserve(rt, self.alloc, link, reserve, self.tries, journal);
         self.journal
             .note_pause(rt, asking.timed_out, self.spans.pause);
         self.held.count(txn, asking.answer);
@@ -267,7 +270,7 @@ impl Client {
 
     /// Warns that recipients of the session are refused without asking the server, once for each
     /// cause.
-    pub fn warn_refused<R: Log>(&mut self, rt: &R, login: &[u8], cause: Cause)
+    pub fn warn_refused<R: Log>(&mut self, rt: &R, login: &[u8], cause: RefusalCause)
         ensures { self.new ≡ self.old }
     {
         let session = self.session;
@@ -288,9 +291,9 @@ impl Client {
         self.journal.count_held_back();
     }
 
-    /// Closes a transaction and sends what waits, in a pause nothing; one that isn't held changes
-    /// and sends nothing. It answers whether a request was left undecided of which a try ran out of
-    /// time. After an `Err` nothing has changed and no exchange was made.
+    /// Closes a transaction and sends what waits; in a pause it sends nothing. One that isn't held
+    /// changes and sends nothing. It answers whether a request was left undecided of which a try
+    /// ran out of time. After an `Err` nothing has changed and no exchange was made.
     pub fn close<R: Log, L: Link>(
         &mut self,
         rt: &R,
@@ -336,6 +339,7 @@ impl Client {
             → result ≡ length (view self.new.source P).waiting }
     {
         let (tries, journal) = (self.tries, &mut self.journal);
+        // (what follows the input's end is nothing that a pause could hold back)
         let _ = send_all(rt, self.alloc, link, &mut self.outbox, tries, journal);
         let left = self.outbox.len();
         left as u32

@@ -10,7 +10,7 @@ ghost use Rattle.mq_line.specs.Results.{registration};
 ghost use Rattle.mq_line.specs.Text.{IsLine};
 ghost use Rattle.mq_track.specs.Sessions.{closing, fault};
 ghost use Rattle.mq_track.specs.State.{TracksAt};
-ghost use Rattle.mq_link.specs.Link.{Tells};
+ghost use Rattle.mq_lemmas.specs.Told.{Tells};
 ghost use Rattle.mq_client.specs.Past.{Step, State};
 ghost use Rattle.mq_client.specs.Filter.{Closes, after_line};
 ghost use Rattle.mq_client.specs.Holding.{nothing_held, seconds_in, times_out, full_in};
@@ -90,7 +90,7 @@ fn register<W: Sink>(alloc: Global, output: &mut W) -> Result<(), FilterFault>
 }
 
 /// What a line before `config|ready` is.
-enum Early {
+enum EarlyLine {
     /// It is passed over.
     Passed,
     Ready,
@@ -98,13 +98,13 @@ enum Early {
     TooEarly,
 }
 
-fn early_of(line: &Line<'_>) -> Early
+fn early_of(line: &Line<'_>) -> EarlyLine
     ensures { IsSorted (meaning line.now) result }
 {
     match line {
-        Line::Config { .. } | Line::Other => Early::Passed,
-        Line::Ready => Early::Ready,
-        Line::Report { .. } | Line::Filter { .. } => Early::TooEarly,
+        Line::Config { .. } | Line::Other => EarlyLine::Passed,
+        Line::Ready => EarlyLine::Ready,
+        Line::Report { .. } | Line::Filter { .. } => EarlyLine::TooEarly,
     }
 }
 
@@ -229,9 +229,9 @@ fn before_ready<W: Sink>(
         (around (W.contents output.new) told client) (W.has_failed output.new)) }
 {
     match early_of(line) {
-        Early::Passed => Ok(()),
-        Early::TooEarly => Err(FilterFault::NotReady),
-        Early::Ready => match register(alloc, output) {
+        EarlyLine::Passed => Ok(()),
+        EarlyLine::TooEarly => Err(FilterFault::NotReady),
+        EarlyLine::Ready => match register(alloc, output) {
             Ok(()) => {
                 filter.is_ready = true;
                 Ok(())
@@ -301,10 +301,7 @@ fn after_ready<R: Log, W: Sink, K: Link>(
         };
     }
     let holdup = &mut filter.holdup;
-    match note(rt, &mut filter.tracker, line, holdup, link, client) {
-        Ok(()) => Ok(()),
-        Err(fault) => Err(fault),
-    }
+    note(rt, &mut filter.tracker, line, holdup, link, client)
 }
 
 /// Handles one line, which stands without its LF.
@@ -339,6 +336,7 @@ fn handle<R: Log, W: Sink, K: Link>(
         Ok(line) => line,
         Err(fault) => return Err(FilterFault::Line(fault)),
     };
+    // (these matches give the proof each way out by itself)
     if filter.is_ready {
         match after_ready(rt, alloc, filter, &line, output, link, client) {
             Ok(()) => Ok(()),
@@ -482,10 +480,7 @@ fn read_all<R: Log, S: Source, W: Sink, K: Link>(
             Err(DeviceFault) => return Err(FilterFault::Read),
         };
         if count == 0 {
-            match finish(rt, feed, filter, link, client) {
-                Ok(ended) => return Ok(ended),
-                Err(fault) => return Err(fault),
-            }
+            return finish(rt, feed, filter, link, client);
         }
         match feed.feed(&piece[..count]) {
             Ok(()) => {}

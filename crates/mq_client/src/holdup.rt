@@ -16,7 +16,7 @@ const MOST: usize = 1000;
 
 /// A login whose limit was reached, with the second of the line at which it was answered so.
 #[derive(Drop)]
-pub struct Full {
+pub struct FullLogin {
     pub since: u64,
     pub login: Login,
 }
@@ -27,7 +27,7 @@ pub struct Holdup {
     alloc: Global,
     spans: Spans,
     paused: Option<u64>,
-    full: Vec<Full>,
+    full: Vec<FullLogin>,
     ghost few: { length full.items ≤ 1000 },
 }
 
@@ -64,7 +64,7 @@ fn still_paused(span: u64, seconds: u64, paused: Option<u64>) -> Option<u64>
 }
 
 /// Whether the login is one whose limit was reached.
-fn is_full(login: &[u8], full: &[Full]) -> bool
+fn is_full(login: &[u8], full: &[FullLogin]) -> bool
     ensures { result ≡ is_full login.now full.now }
 {
     full.iter().any(|one| one.login.as_slice() == login)
@@ -169,7 +169,7 @@ impl Holdup {
             return Ok(());
         }
         let login = Login::from_slice(self.alloc, login)?;
-        self.full.push(Full { since, login })?;
+        self.full.push(FullLogin { since, login })?;
         Ok(())
     }
 }

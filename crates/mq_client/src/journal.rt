@@ -46,12 +46,12 @@ impl Journal {
         rt: &R,
         framed: &FramedRequest,
         tries: u32,
-        is_answered: bool,
+        has_other_reply: bool,
     ) {
         if tries == 0 {
             return;
         }
-        let level = if is_answered {
+        let level = if has_other_reply {
             Level::Warn
         } else {
             Level::Info
@@ -59,7 +59,7 @@ impl Journal {
         let unanswered = UnansweredRequest {
             framed,
             tries,
-            is_answered,
+            has_other_reply,
         };
         log_text(rt, level, &unanswered);
     }

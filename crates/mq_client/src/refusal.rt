@@ -5,20 +5,18 @@ ghost use Rattle.mq_client.specs.GivenWarnings.{Remembers};
 
 use crate::session::SessionName;
 use mq_request::EscapedText;
+use mq_request::bounds::LOGIN_LIMIT;
 use std::alloc::Global;
 use std::collections::VecDeque;
 use std::fmt;
 use std::marker::Model;
-
-/// The most bytes of a login that a warning shows.
-const LONGEST: usize = 255;
 
 /// The most warnings that are remembered.
 const REMEMBERED: usize = 64;
 
 /// Why a recipient is refused without asking the server.
 #[derive(Clone, Copy, Debug, PartialEq, Eq)]
-pub enum Cause {
+pub enum RefusalCause {
     /// smtpd reported no transaction in the session.
     NoTransaction,
     /// The login is empty or longer than 255 bytes.
@@ -35,16 +33,17 @@ pub enum Cause {
     Numbers,
 }
 
-impl fmt::Display for Cause {
+impl fmt::Display for RefusalCause {
     fn fmt<W: fmt::Write>(&self, f: &mut fmt::Formatter<W>) -> fmt::Result {
         f.write_str(match self {
-            Cause::NoTransaction => "smtpd reported no transaction",
-            Cause::Login => "the login is empty or longer than 255 bytes",
-            Cause::Moment => "the transaction's second is out of range",
-            Cause::Changed => "the transaction began with another login or at another second",
-            Cause::Recipients => "the transaction has 1,000 recipients already",
-            Cause::Places => "4,096 transactions are open or wait for the server",
-            Cause::Numbers => "the numbers of this run are used up",
+            RefusalCause::NoTransaction => "smtpd reported no transaction",
+            RefusalCause::Login => "the login is empty or longer than 255 bytes",
+            RefusalCause::Moment => "the transaction's second is out of range",
+            RefusalCause::Changed =>
+                "the transaction began with another login or at another second",
+            RefusalCause::Recipients => "the transaction has 1,000 recipients already",
+            RefusalCause::Places => "4,096 transactions are open or wait for the server",
+            RefusalCause::Numbers => "the numbers of this run are used up",
         })
     }
 }
@@ -54,7 +53,7 @@ impl fmt::Display for Cause {
 pub struct RefusedRecipient<'a> {
     pub session: SessionName,
     pub login: &'a [u8],
-    pub cause: Cause,
+    pub cause: RefusalCause,
 }
 
 impl fmt::Display for RefusedRecipient<'_> {
@@ -71,14 +70,14 @@ impl fmt::Display for RefusedRecipient<'_> {
 
 /// The bytes of a login, or the first 255 of a longer one.
 fn shortened(login: &[u8]) -> &[u8] {
-    login.get(..LONGEST).unwrap_or(login)
+    login.get(..usize::from(LOGIN_LIMIT)).unwrap_or(login)
 }
 
 /// A warning that was given.
 #[derive(Clone, Copy, PartialEq, Eq, Drop)]
 pub struct GivenWarning {
     pub session: SessionName,
-    pub cause: Cause,
+    pub cause: RefusalCause,
 }
 
 /// The latest warnings, so that each cause is warned of once in a session. Sessions whose names
@@ -111,7 +110,7 @@ impl GivenWarnings {
 
     /// Whether this is the first warning of the session for this cause; it is remembered, unless
     /// memory runs out.
-    pub fn is_first(&mut self, session: SessionName, cause: Cause) -> bool
+    pub fn is_first(&mut self, session: SessionName, cause: RefusalCause) -> bool
         ensures first { result ≡ true
             → Contains self.old (record { session = session; cause = cause }) → ⊥ }
         ensures known { result ≡ false

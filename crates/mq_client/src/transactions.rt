@@ -9,17 +9,15 @@ ghost use Rattle.mq_client.specs.declared.held_transaction.HeldTransaction.{Held
 
 use crate::held_transaction::HeldTransaction;
 use crate::recipient_answer::RecipientAnswer;
-use crate::refusal::Cause;
+use crate::refusal::RefusalCause;
 use mq_request::Login;
+use mq_request::bounds::COUNT_LIMIT;
 use std::alloc::{AllocError, Global};
 use std::collections::BTreeMap;
 use std::marker::Model;
 
 /// The most transactions that are held and closings that wait.
 const PLACES: usize = 4096;
-
-/// The most recipients of a transaction.
-const RECIPIENTS: u32 = 1000;
 
 /// The transactions that a client holds, each from its first request until its closing.
 #[derive(Drop)]
@@ -90,7 +88,7 @@ impl Transactions {
         txn: u32,
         moment: u64,
         login: &[u8],
-    ) -> Option<Cause>
+    ) -> Option<RefusalCause>
         requires { waiting < 2 ^ 32 }
         ensures refuses { is_some result ≡ refuses (find self.now txn)
             (length self.now) numbers waiting moment
@@ -105,20 +103,21 @@ impl Transactions {
         match self.records.get(&txn) {
             Some(known) => {
                 if is_other(known, moment, login) {
-                    Some(Cause::Changed)
-                } else if known.granted >= RECIPIENTS {
-                    Some(Cause::Recipients)
+                    Some(RefusalCause::Changed)
+                } else if known.granted >= COUNT_LIMIT {
+                    // (one settle has to count them all)
+                    Some(RefusalCause::Recipients)
                 } else if unused < 1 + live {
-                    Some(Cause::Numbers)
+                    Some(RefusalCause::Numbers)
                 } else {
                     None
                 }
             }
             None => {
                 if live + waiting >= PLACES {
-                    Some(Cause::Places)
+                    Some(RefusalCause::Places)
                 } else if unused < 2 + live {
-                    Some(Cause::Numbers)
+                    Some(RefusalCause::Numbers)
                 } else {
                     None
                 }

@@ -3,7 +3,7 @@ ghost use Rattle.std.specs.Prelude.{◌≡◌, ◌<◌, ◌≤◌, ◌∷◌, �
 ghost use Rattle.std.specs.Prelude.{length, IfOk};
 ghost use Rattle.mq_request.specs.Range.{IsRequest};
 ghost use Rattle.std.specs.List.{AllByRecursion};
-ghost use Rattle.mq_link.specs.Link.{Tells};
+ghost use Rattle.mq_lemmas.specs.Told.{Tells};
 ghost use Rattle.mq_client.specs.Exchanges.{Exchange, IsTry, AreTries, IsSent, Sends, told_of};
 ghost use Rattle.mq_client.specs.Exchanges.{told_all};
 ghost use Rattle.mq_frame.specs.Spelling.{request_frame};
@@ -174,7 +174,7 @@ pub fn try_all<R: Log, L: Link>(
         × AreTries tries framed.now.request group decided × ComesOf decided group result }
 {
     let mut body = Vec::new(alloc);
-    let mut is_answered = false;
+    let mut has_other_reply = false;
     let mut timed_out = false;
     for _attempt in 0..tries {
         let tried = try_once(link, framed, &mut body);
@@ -183,13 +183,14 @@ pub fn try_all<R: Log, L: Link>(
             return tried;
         }
         timed_out = with_try(timed_out, tried);
-        is_answered = is_answered || is_other_reply(body.as_slice());
+        has_other_reply = has_other_reply || is_other_reply(body.as_slice());
     }
-    journal.note_undecided(rt, framed, tries, is_answered);
+    journal.note_undecided(rt, framed, tries, has_other_reply);
     undecided(timed_out)
 }
 
-/// Sends a closing up to so many times, and answers what came of it.
+/// Sends a closing up to so many times, and answers what came of it. Apart from `try_all` so that
+/// the loop over closings is proved by less: whether a closing was decided, by whichever reply.
 fn send<R: Log, L: Link>(
     rt: &R,
     alloc: Global,

@@ -100,7 +100,7 @@ fn is_answer(reply: ReplyParts<'_>) -> bool
     !matches!(reply, ReplyParts::Retry | ReplyParts::Bad)
 }
 
-/// Whether a body that decides nothing is yet an answer to some request.
+/// Whether this body, which decides nothing, is an answer, though to another request.
 pub fn is_other_reply(body: &[u8]) -> bool
     ensures spelled { (reply : Reply) → SpellsReply body.now reply → result ≡ is_answer reply }
     ensures other { ((reply : Reply) → SpellsReply body.now reply → ⊥) → result ≡ false }

@@ -14,15 +14,15 @@ pub struct UnansweredRequest<'a> {
     pub framed: &'a FramedRequest,
     /// How many times the request was sent, 1 to 10.
     pub tries: u32,
-    /// A reply came that answers another request.
-    pub is_answered: bool,
+    /// Whether a reply came that answers another request.
+    pub has_other_reply: bool,
 }
 
 impl fmt::Display for UnansweredRequest<'_> {
     fn fmt<W: fmt::Write>(&self, f: &mut fmt::Formatter<W>) -> fmt::Result {
         let named = NamedRequest(self.framed);
         let tries = self.tries;
-        let other = if self.is_answered {
+        let other = if self.has_other_reply {
             ", but a reply of another kind or number"
         } else {
             ""

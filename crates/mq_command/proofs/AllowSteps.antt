@@ -1,5 +1,5 @@
 -- The room that grows with each refusal, and the line that is told.
-use Rattle.mq_command.proofs.Words.{AsksUsed, ClearsLater, DayUsage, Err, GivesLimit, IfOk, Keeps, Later, List, LooksLater, MatchResult, Ok, Option, OrderFault, PrintsLine, ReportedExchange, Result, SetsBoth, Setter, StopOrder, StoppedLogin, [], ap, appends_kept, arith, at_least, inr, later_status, min, refl, room, subst, suc, sym, zero, ℕ, ◌*◌, ◌+◌, ◌∙◌, ◌≡◌}
+use Rattle.mq_command.proofs.Words.{AsksUsed, ClearsLater, DayUsage, Err, GivesLimit, IfOk, Keeps, LaterLimit, List, LooksLater, MatchResult, Ok, Option, OrderFault, PrintsLine, ReportedExchange, Result, SetsBoth, Setter, StopOrder, StoppedLogin, [], ap, appends_kept, arith, at_least, inr, later_status, min, refl, room, subst, suc, sym, zero, ℕ, ◌*◌, ◌+◌, ◌∙◌, ◌≡◌}
 
 pub room_more : (refused grown : ℕ) → grown ≡ room refused → min (grown * 2 + 8) 1000000 ≡ room (refused + 1)
 room_more refused grown is =
@@ -28,7 +28,7 @@ not_later setter order stopped zero told never = absurd (never refl)
 not_later setter order stopped (suc first) told never = (refl, refl)
 
 -- and limits of later days were looked for where it is
-pub looked_later : (setter : Setter) (order : StopOrder) (stopped : StoppedLogin) (first status : ℕ) (old new : Option (List ReportedExchange)) (found : Result (Option Later) OrderFault)
+pub looked_later : (setter : Setter) (order : StopOrder) (stopped : StoppedLogin) (first status : ℕ) (old new : Option (List ReportedExchange)) (found : Result (Option LaterLimit) OrderFault)
     → first ≡ 0 → status ≡ later_status found → ClearsLater setter order.day stopped.later order.is_all old new found
     → LooksLater setter order (Ok stopped) first status old new
 looked_later setter order stopped first status old new found whole is looks =

@@ -1,17 +1,12 @@
 -- One exchange more of a question.
+use Rattle.mq_lemmas.proofs.Telling.{Tells-trans}
 use Rattle.mq_command.proofs.Words.{All, All-push, AskFault, Asks, Brings, Err, IsAnswered, IsErrAnd, IsMissed, IsUnanswered, IsUndecoded, List, Memory, None, Ok, Option, Reply, ReportedExchange, Request, Result, Sends, Some, Tells, Unavailable, [], ap, append_assoc, arith, fits, inr, length_push, true, ℕ, ◌++◌, ◌+◌, ◌<◌, ◌∙◌, ◌∷◌, ◌≡◌}
-
-tells_more : (old mid new : Option (List ReportedExchange)) (group : List ReportedExchange) (one : ReportedExchange) → Tells old mid group → Tells mid new (one ∷ []) → Tells old new (group ++ one ∷ [])
-tells_more old mid None group one a b = tt
-tells_more None (Some mid) (Some new) group one a b = absurd a
-tells_more (Some old) (Some mid) (Some new) group one a b = b ∙ ap (λ l. l ++ one ∷ []) a ∙ append_assoc old group (one ∷ [])
-tells_more old None (Some new) group one a b = absurd b
 
 -- after so many exchanges that brought no reply that answers
 module _ (request : Request) (old mid new : Option (List ReportedExchange)) (count : ℕ) (one : ReportedExchange)
     (sends : Sends request one) (before : IsUnanswered request count old mid) (told : Tells mid new (one ∷ [])) where
   told_all : Tells old new (before.group ++ one ∷ [])
-  told_all = tells_more old mid new before.group one before.told told
+  told_all = Tells-trans old mid new before.group (one ∷ []) before.told told
 
   sent_all : All (Sends request) (before.group ++ one ∷ [])
   sent_all = All-push (Sends request) before.group one before.sent sends

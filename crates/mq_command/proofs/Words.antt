@@ -35,7 +35,8 @@ pub use Rattle.mq_ledger.specs.Answer.{answer, appended, known_by}
 pub use Rattle.mq_ledger.specs.Arrivals.{floor}
 pub use Rattle.mq_ledger.specs.History.{closed, closes, freed, granted_in, held, requests, reserved, same_transaction, settled, transaction}
 pub use Rattle.mq_ledger.specs.declared.entry.Entry.{Entry}
-pub use Rattle.mq_link.specs.Link.{Brings, Tells}
+pub use Rattle.mq_lemmas.specs.Told.{Tells}
+pub use Rattle.mq_link.specs.Link.{Brings}
 pub use Rattle.mq_link.specs.declared.link.ReportedExchange.{ReportedExchange}
 pub use Rattle.mq_command.specs.Allowing.{AreRefused, SetsBoth, limit, no_limit, room}
 pub use Rattle.mq_command.specs.Asking.{Asks, IsAnswered, IsMissed, IsUnanswered, IsUndecoded, Sends, fits}
@@ -53,7 +54,7 @@ pub use Rattle.mq_command.specs.Vis.{lower, vis}
 pub use Rattle.mq_command.specs.declared.allow.Setter.{Setter}
 pub use Rattle.mq_command.specs.declared.ask.AskFault.{AskFault}
 pub use Rattle.mq_command.specs.declared.ask.AskFault.TheVariants.{Memory, Unavailable}
-pub use Rattle.mq_command.specs.declared.later.Later.{Later}
+pub use Rattle.mq_command.specs.declared.later.LaterLimit.{LaterLimit}
 pub use Rattle.mq_command.specs.declared.order.OrderFault.{OrderFault}
 pub use Rattle.mq_command.specs.declared.order.OrderFault.TheVariants.{Unanswered}
 pub use Rattle.mq_command.specs.declared.output.OutputFault.{OutputFault}

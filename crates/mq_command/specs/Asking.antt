@@ -10,7 +10,8 @@ use Rattle.mq_request.specs.declared.message.Reply.{Reply}
 use Rattle.mq_request.specs.declared.message.Reply.TheVariants as says
 use Rattle.mq_command.specs.declared.ask.AskFault.{AskFault}
 use Rattle.mq_command.specs.declared.ask.AskFault.TheVariants.{Unavailable, Memory}
-use Rattle.mq_link.specs.Link.{Brings, Tells}
+use Rattle.mq_lemmas.specs.Told.{Tells}
+use Rattle.mq_link.specs.Link.{Brings}
 use Rattle.mq_link.specs.declared.link.ReportedExchange.{ReportedExchange}
 
 -- whether a reply answers a release, a limit, a retire, a usage or a list

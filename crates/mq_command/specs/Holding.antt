@@ -9,67 +9,67 @@ use Rattle.mq_command.specs.declared.allow.Setter.{Setter}
 use Rattle.mq_command.specs.declared.hold.AfterRefusal.{AfterRefusal}
 use Rattle.mq_command.specs.declared.hold.AfterRefusal.TheVariants.{Again, Stays, Fails}
 use Rattle.mq_command.specs.declared.hold.HeldLimit.{HeldLimit}
-use Rattle.mq_command.specs.declared.hold.Holding.{Holding}
+use Rattle.mq_command.specs.declared.hold.KnownUse.{KnownUse}
 use Rattle.mq_command.specs.declared.hold.LaterUse.{LaterUse}
 use Rattle.mq_command.specs.declared.order.OrderFault.{OrderFault}
 use Rattle.mq_command.specs.declared.order.OrderFault.TheVariants.{Over}
 use Rattle.mq_command.specs.declared.usage.DayUsage.{DayUsage}
 
 -- what is known before the first limit is sent
-abbrev pub begin : ℕ → DayUsage → Holding
+abbrev pub begin : ℕ → DayUsage → KnownUse
 begin day usage = record { used = usage.used; room = 0; last = day }
 
 -- The limit that is sent: what is used, with room, and never above the one that the login had.
-abbrev pub held_cap : DayUsage → Holding → ℕ
-held_cap usage holding = allowed usage.cap holding.used 0 holding.room
+abbrev pub held_cap : DayUsage → KnownUse → ℕ
+held_cap usage known = allowed usage.cap known.used 0 known.room
 
 -- What follows where a limit was refused, since more is used on some day. On the very day: it is sent again with what is used
 -- by now, and with more room. On a later day: with what is used there and no more room; where the login had less than that, its
 -- limit stays. No limit is refused by an earlier day.
-abbrev pub after_refusal : ℕ → DayUsage → Holding → ℕ → ℕ → AfterRefusal
-after_refusal day usage holding over now =
-    if over == day then Again (record { used = now; room = min (holding.room * 2 + 8) 1000000; last = holding.last })
+abbrev pub after_refusal : ℕ → DayUsage → KnownUse → ℕ → ℕ → AfterRefusal
+after_refusal day usage known over now =
+    if over == day then Again (record { used = now; room = min (known.room * 2 + 8) 1000000; last = known.last })
     else (if nat_lt over day then Fails
     else (if nat_lt usage.cap now then Stays (record { cap = usage.cap; last = over - 1; is_more = true })
-    else Again (record { used = now; room = holding.room; last = over })))
+    else Again (record { used = now; room = known.room; last = over })))
 
 -- so many limits of a day were sent and refused, and each time it was to be sent again
 pub data AreRefusedAgain (setter : Setter) (first day : ℕ) (usage : DayUsage) (start : Option (List ReportedExchange))
-    : ℕ → Holding → Option (List ReportedExchange) → Type 0 where
+    : ℕ → KnownUse → Option (List ReportedExchange) → Type 0 where
   none_sent : AreRefusedAgain setter first day usage start 0 (begin day usage) start
-  one_refused : (refused : ℕ) (holding next : Holding) (over now : ℕ) (mid new : Option (List ReportedExchange))
-      → AreRefusedAgain setter first day usage start refused holding mid
-      → OrdersFresh (limit_of setter (first + refused) day (held_cap usage holding)) mid new (Err (Over over now))
-      → after_refusal day usage holding over now ≡ Again next
+  one_refused : (refused : ℕ) (known next : KnownUse) (over now : ℕ) (mid new : Option (List ReportedExchange))
+      → AreRefusedAgain setter first day usage start refused known mid
+      → OrdersFresh (limit_of setter (first + refused) day (held_cap usage known)) mid new (Err (Over over now))
+      → after_refusal day usage known over now ≡ Again next
       → AreRefusedAgain setter first day usage start (refused + 1) next new
 
 -- the limit that is set, and the last day that it is right for: the day itself, or a later one on which so much is used
-abbrev pub outcome : ℕ → DayUsage → Holding → HeldLimit
-outcome day usage holding =
-    record { cap = held_cap usage holding; last = holding.last; is_more = not (holding.last == day) }
+abbrev pub outcome : ℕ → DayUsage → KnownUse → HeldLimit
+outcome day usage known =
+    record { cap = held_cap usage known; last = known.last; is_more = not (known.last == day) }
 
 -- where the limit is refused by this, it isn't sent again
-abbrev pub EndsIt : ℕ → DayUsage → Holding → OrderFault → Type 0
-EndsIt day usage holding (Over over now) = after_refusal day usage holding over now ≡ Fails
-EndsIt day usage holding _ = ⊤
+abbrev pub EndsIt : ℕ → DayUsage → KnownUse → OrderFault → Type 0
+EndsIt day usage known (Over over now) = after_refusal day usage known over now ≡ Fails
+EndsIt day usage known _ = ⊤
 
 -- What sending the last limit leads to: it is set, or refused by a later day, and the limit that the login had stays, or neither.
-abbrev pub EndsHolding : Setter → ℕ → ℕ → DayUsage → ℕ → Holding → Option (List ReportedExchange) → Option (List ReportedExchange) → Result HeldLimit OrderFault → Type 0
-EndsHolding setter first day usage refused holding old new (Ok it) =
-    (OrdersFresh (limit_of setter (first + refused) day (held_cap usage holding)) old new (Ok tt) × (it ≡ outcome day usage holding))
+abbrev pub EndsHolding : Setter → ℕ → ℕ → DayUsage → ℕ → KnownUse → Option (List ReportedExchange) → Option (List ReportedExchange) → Result HeldLimit OrderFault → Type 0
+EndsHolding setter first day usage refused known old new (Ok it) =
+    (OrdersFresh (limit_of setter (first + refused) day (held_cap usage known)) old new (Ok tt) × (it ≡ outcome day usage known))
     ⊎ ((over now : ℕ) × (refused < 17)
-    × OrdersFresh (limit_of setter (first + refused) day (held_cap usage holding)) old new (Err (Over over now))
-    × (after_refusal day usage holding over now ≡ Stays it))
-EndsHolding setter first day usage refused holding old new (Err fault) =
-    OrdersFresh (limit_of setter (first + refused) day (held_cap usage holding)) old new (Err fault)
-    × ((refused ≡ 17) ⊎ EndsIt day usage holding fault)
+    × OrdersFresh (limit_of setter (first + refused) day (held_cap usage known)) old new (Err (Over over now))
+    × (after_refusal day usage known over now ≡ Stays it))
+EndsHolding setter first day usage refused known old new (Err fault) =
+    OrdersFresh (limit_of setter (first + refused) day (held_cap usage known)) old new (Err fault)
+    × ((refused ≡ 17) ⊎ EndsIt day usage known fault)
 
 -- What letting a login have nothing more on a day leads to, by what it used there. The limit is sent up to 18 times.
 abbrev pub Holds : Setter → ℕ → ℕ → DayUsage → Option (List ReportedExchange) → Option (List ReportedExchange) → Result HeldLimit OrderFault → Type 0
 Holds setter first day usage old new ended =
-    (refused : ℕ) × (holding : Holding) × (mid : Option (List ReportedExchange)) × (refused < 18)
-    × AreRefusedAgain setter first day usage old refused holding mid
-    × EndsHolding setter first day usage refused holding mid new ended
+    (refused : ℕ) × (known : KnownUse) × (mid : Option (List ReportedExchange)) × (refused < 18)
+    × AreRefusedAgain setter first day usage old refused known mid
+    × EndsHolding setter first day usage refused known mid new ended
 
 -- the same of a later day, where what it used is asked first
 abbrev pub HoldsDay : Setter → ℕ → ℕ → Option (List ReportedExchange) → Option (List ReportedExchange) → Result HeldLimit OrderFault → Type 0

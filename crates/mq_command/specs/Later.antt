@@ -7,7 +7,7 @@ use Rattle.mq_command.specs.Orders.{OrdersFresh}
 use Rattle.mq_command.specs.Usage.{AsksUsed, FailsToAsk}
 use Rattle.mq_command.specs.declared.allow.Setter.{Setter}
 use Rattle.mq_command.specs.declared.hold.LaterUse.{LaterUse}
-use Rattle.mq_command.specs.declared.later.Later.{Later}
+use Rattle.mq_command.specs.declared.later.LaterLimit.{LaterLimit}
 use Rattle.mq_command.specs.declared.order.OrderFault.{OrderFault}
 use Rattle.mq_command.specs.declared.usage.DayUsage.{DayUsage}
 
@@ -16,7 +16,7 @@ abbrev pub most_on : LaterUse → ℕ → ℕ
 most_on later day = if nat_le day later.last then later.most else 0
 
 -- the day's limit was answered, and is above this
-abbrev pub HasLimit : Setter → ℕ → ℕ → Option (List ReportedExchange) → Option (List ReportedExchange) → Later → Type 0
+abbrev pub HasLimit : Setter → ℕ → ℕ → Option (List ReportedExchange) → Option (List ReportedExchange) → LaterLimit → Type 0
 HasLimit setter day most old new later =
     (usage : DayUsage) × AsksUsed setter.login day old new (Ok usage) × (most < usage.cap)
     × (later ≡ record { day = day; cap = usage.cap })
@@ -28,15 +28,15 @@ HasNoLimit setter day most old new =
 
 -- What looking at a later day leads to: its limit isn't above what the login may have, or it is, and where all are to be lowered, it
 -- was set to that from that day on, under this number.
-abbrev pub ClearsDay : Setter → ℕ → ℕ → ℕ → Bool → Option (List ReportedExchange) → Option (List ReportedExchange) → Result (Option Later) OrderFault → Type 0
+abbrev pub ClearsDay : Setter → ℕ → ℕ → ℕ → Bool → Option (List ReportedExchange) → Option (List ReportedExchange) → Result (Option LaterLimit) OrderFault → Type 0
 ClearsDay setter number day most all old new (Ok None) =
     HasNoLimit setter day most old new
-    ⊎ ((later : Later) × (asked : Option (List ReportedExchange)) × HasLimit setter day most old asked later × (all ≡ true)
+    ⊎ ((later : LaterLimit) × (asked : Option (List ReportedExchange)) × HasLimit setter day most old asked later × (all ≡ true)
     × OrdersFresh (limit_of setter number day most) asked new (Ok tt))
 ClearsDay setter number day most all old new (Ok (Some later)) = HasLimit setter day most old new later × (all ≡ false)
 ClearsDay setter number day most all old new (Err fault) =
     FailsToAsk setter day old new fault
-    ⊎ ((later : Later) × (asked : Option (List ReportedExchange)) × HasLimit setter day most old asked later × (all ≡ true)
+    ⊎ ((later : LaterLimit) × (asked : Option (List ReportedExchange)) × HasLimit setter day most old asked later × (all ≡ true)
     × OrdersFresh (limit_of setter number day most) asked new (Err fault))
 
 -- so many days were looked at in turn from this one on, and no limit stays above what the login may have; the numbers begin with
@@ -51,7 +51,7 @@ pub data AreCleared (setter : Setter) (all : Bool) (first : ℕ) (may : LaterUse
 -- What looking at the days after the next one leads to, up to 399 of them, and then at the last day of all, where it isn't one of
 -- them: the first limit that stays in force, or none. That of the last day is never lowered, since it may have been set from an
 -- earlier one.
-abbrev pub ClearsLater : Setter → ℕ → LaterUse → Bool → Option (List ReportedExchange) → Option (List ReportedExchange) → Result (Option Later) OrderFault → Type 0
+abbrev pub ClearsLater : Setter → ℕ → LaterUse → Bool → Option (List ReportedExchange) → Option (List ReportedExchange) → Result (Option LaterLimit) OrderFault → Type 0
 ClearsLater setter day may all old new ended =
     (count : ℕ) × (mid : Option (List ReportedExchange)) × AreCleared setter all (day + 2) may old count mid
     × (((count ≡ 399) × ClearsDay setter 2419 LAST_DAY (most_on may LAST_DAY) false mid new ended)
@@ -60,6 +60,6 @@ ClearsLater setter day may all old new ended =
     × ClearsDay setter (2020 + count) (day + 2 + count) (most_on may (day + 2 + count)) all mid new ended)))
 
 -- 0 where no limit stays in force, else 1
-abbrev pub later_status : Result (Option Later) OrderFault → ℕ
+abbrev pub later_status : Result (Option LaterLimit) OrderFault → ℕ
 later_status (Ok None) = 0
 later_status _ = 1

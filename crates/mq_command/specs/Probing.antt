@@ -8,7 +8,8 @@ use Rattle.mq_request.specs.declared.message.Request.TheVariants as asks
 use Rattle.mq_request.specs.declared.message.Reply.{Reply}
 use Rattle.mq_request.specs.declared.message.Reply.TheVariants as says
 use Rattle.mq_command.specs.Asking.{IsMissed, Sends, fits}
-use Rattle.mq_link.specs.Link.{Brings, Tells}
+use Rattle.mq_lemmas.specs.Told.{Tells}
+use Rattle.mq_link.specs.Link.{Brings}
 use Rattle.mq_command.specs.Orders.{Prints, PrintsLine}
 use Rattle.mq_stream.specs.Flow.{AppendsFront}
 use Rattle.mq_command.specs.declared.ask.AskFault.{AskFault}

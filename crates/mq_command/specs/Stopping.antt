@@ -14,7 +14,7 @@ use Rattle.mq_command.specs.declared.allow.Setter.{Setter}
 use Rattle.mq_command.specs.declared.ask.AskFault.{AskFault}
 use Rattle.mq_command.specs.declared.hold.HeldLimit.{HeldLimit}
 use Rattle.mq_command.specs.declared.hold.LaterUse.{LaterUse}
-use Rattle.mq_command.specs.declared.later.Later.{Later}
+use Rattle.mq_command.specs.declared.later.LaterLimit.{LaterLimit}
 use Rattle.mq_command.specs.declared.look_back.SoughtDay.TheVariants.{Use, Limit}
 use Rattle.mq_command.specs.declared.order.OrderFault.{OrderFault}
 use Rattle.mq_command.specs.declared.order.OrderFault.TheVariants.{Unanswered}
@@ -151,7 +151,7 @@ stopped_lines login stopped day =
 -- limits of later days were looked for where the login is stopped and that was printed, and nothing more was asked where not
 abbrev pub LooksLater : Setter → StopOrder → Result StoppedLogin AllowFault → ℕ → ℕ → Option (List ReportedExchange) → Option (List ReportedExchange) → Type 0
 LooksLater setter order (Ok stopped) zero status old new =
-    (found : Result (Option Later) OrderFault) × (status ≡ later_status found)
+    (found : Result (Option LaterLimit) OrderFault) × (status ≡ later_status found)
     × ClearsLater setter order.day stopped.later order.is_all old new found
 LooksLater setter order (Ok stopped) (suc first) status old new = (status ≡ suc first) × (new ≡ old)
 LooksLater setter order (Err fault) first status old new = (status ≡ first) × (new ≡ old)

@@ -5,7 +5,8 @@ ghost use Rattle.mq_request.specs.Range.{IsReply, IsRequest};
 ghost use Rattle.mq_frame.specs.Spelling.{SpellsReply, request_frame};
 ghost use Rattle.mq_request.specs.declared.message.Reply.{Reply as AnyReply};
 ghost use Rattle.mq_command.specs.Asking.{fits, Asks, IsMissed, Sends};
-ghost use Rattle.mq_link.specs.Link.{Brings, Tells};
+ghost use Rattle.mq_lemmas.specs.Told.{Tells};
+ghost use Rattle.mq_link.specs.Link.{Brings};
 ghost use Rattle.mq_command.specs.declared.ask.AskFault.TheVariants.{Memory as NoMemory};
 ghost use Rattle.mq_link.specs.declared.link.ReportedExchange.{ReportedExchange};
 
@@ -21,7 +22,7 @@ pub const TRIES: u32 = 3;
 /// Why a question brought no answer.
 #[derive(Clone, Copy, Debug, PartialEq, Error)]
 pub enum AskFault {
-    /// No reply that answers came in three tries.
+    /// No reply came that answers, in all tries: three, or one where it is asked once.
     #[error("quota service unavailable")]
     Unavailable,
     /// A growth was refused, for the request's frame or for a reply that came.

@@ -8,7 +8,7 @@ ghost use Rattle.mq_command.specs.Holding.{Holds, HoldsDay, HoldsLater, HoldsNex
 ghost use Rattle.mq_command.specs.Holding.{held_cap, outcome};
 ghost use Rattle.mq_command.specs.declared.hold.AfterRefusal.TheVariants.{Again, Stays};
 ghost use Rattle.mq_command.specs.declared.hold.HeldLimit.{HeldLimit as AnyHeldLimit};
-ghost use Rattle.mq_command.specs.declared.hold.Holding.{Holding as AnyHolding};
+ghost use Rattle.mq_command.specs.declared.hold.KnownUse.{KnownUse as AnyKnownUse};
 
 use crate::allow::{LIMITS, Setter, allowed, set_limit};
 use crate::order::OrderFault;
@@ -18,15 +18,15 @@ use mq_request::bounds::{AMOUNT_LIMIT, LAST_DAY};
 use std::alloc::Global;
 
 /// On how many days after the one on which it is stopped a login may have used something.
-const LATER_DAYS: u32 = 100;
+pub(crate) const LATER_DAYS: u32 = 100;
 
-/// How many numbers of the run belong to each day on which a login used something: 18 for its
-/// limit, and the 19th for that of the next day.
-const NUMBERS_OF_DAY: u32 = 20;
+/// How many numbers of the run belong to each day on which a login used something: `LIMITS` for its
+/// limit, and the one after them for that of the next day.
+pub(crate) const NUMBERS_OF_DAY: u32 = 20;
 
 /// What is known of a day whose limit is sent.
 #[derive(Clone, Copy, Debug)]
-struct Holding {
+struct KnownUse {
     /// Recipients that are used on the day, or on a later one.
     used: u32,
     /// Recipients that may be used meanwhile.
@@ -50,7 +50,7 @@ pub(crate) struct HeldLimit {
 #[derive(Clone, Copy, Debug)]
 enum AfterRefusal {
     /// Another limit is sent.
-    Again(Holding),
+    Again(KnownUse),
     /// The limit stays that the login has.
     Stays(HeldLimit),
     /// The refusal makes no sense.
@@ -67,29 +67,29 @@ pub(crate) struct LaterUse {
 }
 
 /// The limit that is sent for a day.
-fn held_cap(usage: DayUsage, holding: Holding) -> u32
+fn held_cap(usage: DayUsage, known: KnownUse) -> u32
     requires { IsAmount usage.cap }
-    ensures is { result ≡ held_cap usage holding }
+    ensures is { result ≡ held_cap usage known }
     ensures in_range { IsAmount result }
 {
-    allowed(usage.cap, holding.used, 0, holding.room)
+    allowed(usage.cap, known.used, 0, known.room)
 }
 
 /// What follows where a limit of a day is refused since so much is used on some day. More that is
 /// used on a later day is no reason to add room. The limit is never above the one that the login
 /// has: where that is below what is used later, it stays.
-fn after_refusal(day: u32, usage: DayUsage, holding: Holding, over: u32, now: u32) -> AfterRefusal
-    requires room { holding.room ≤ 1000000 }
+fn after_refusal(day: u32, usage: DayUsage, known: KnownUse, over: u32, now: u32) -> AfterRefusal
+    requires room { known.room ≤ 1000000 }
     requires most { IsAmount usage.cap }
-    ensures is { result ≡ after_refusal day usage holding over now }
+    ensures is { result ≡ after_refusal day usage known over now }
     ensures in_range { (stays : AnyHeldLimit) → result ≡ Stays stays → IsAmount stays.cap }
-    ensures room { (next : AnyHolding) → result ≡ Again next → next.room ≤ 1000000 }
+    ensures room { (next : AnyKnownUse) → result ≡ Again next → next.room ≤ 1000000 }
 {
     if over == day {
-        AfterRefusal::Again(Holding {
+        AfterRefusal::Again(KnownUse {
             used: now,
-            room: (holding.room * 2 + 8).min(AMOUNT_LIMIT),
-            last: holding.last,
+            room: (known.room * 2 + 8).min(AMOUNT_LIMIT),
+            last: known.last,
         })
     } else if over < day {
         AfterRefusal::Fails
@@ -100,24 +100,24 @@ fn after_refusal(day: u32, usage: DayUsage, holding: Holding, over: u32, now: u3
             is_more: true,
         })
     } else {
-        AfterRefusal::Again(Holding {
+        AfterRefusal::Again(KnownUse {
             used: now,
-            room: holding.room,
+            room: known.room,
             last: over,
         })
     }
 }
 
 /// The limit of a day that is set.
-fn outcome(day: u32, usage: DayUsage, holding: Holding) -> HeldLimit
+fn outcome(day: u32, usage: DayUsage, known: KnownUse) -> HeldLimit
     requires { IsAmount usage.cap }
-    ensures is { result ≡ outcome day usage holding }
+    ensures is { result ≡ outcome day usage known }
     ensures in_range { IsAmount result.cap }
 {
     HeldLimit {
-        cap: held_cap(usage, holding),
-        last: holding.last,
-        is_more: holding.last != day,
+        cap: held_cap(usage, known),
+        last: known.last,
+        is_more: known.last != day,
     }
 }
 
@@ -140,18 +140,18 @@ pub(crate) fn hold<L: Link>(
     ensures holds { Holds setter.now first day usage (L.told link.old) (L.told link.new) result }
     ensures in_range { IfOk result (λ held. IsAmount held.cap) }
 {
-    let mut holding = Holding {
+    let mut known = KnownUse {
         used: usage.used,
         room: 0,
         last: day,
     };
     for refused in 0..LIMITS - 1 {
-        let cap = held_cap(usage, holding);
+        let cap = held_cap(usage, known);
         match set_limit(alloc, link, setter, first + refused, day, cap) {
-            Ok(()) => return Ok(outcome(day, usage, holding)),
+            Ok(()) => return Ok(outcome(day, usage, known)),
             Err(OrderFault::Over(over, now)) => {
-                match after_refusal(day, usage, holding, over, now) {
-                    AfterRefusal::Again(next) => holding = next,
+                match after_refusal(day, usage, known, over, now) {
+                    AfterRefusal::Again(next) => known = next,
                     AfterRefusal::Stays(stays) => return Ok(stays),
                     AfterRefusal::Fails => return Err(OrderFault::Over(over, now)),
                 }
@@ -159,9 +159,9 @@ pub(crate) fn hold<L: Link>(
             Err(fault) => return Err(fault),
         }
     }
-    let cap = held_cap(usage, holding);
+    let cap = held_cap(usage, known);
     match set_limit(alloc, link, setter, first + (LIMITS - 1), day, cap) {
-        Ok(()) => Ok(outcome(day, usage, holding)),
+        Ok(()) => Ok(outcome(day, usage, known)),
         Err(fault) => Err(fault),
     }
 }
@@ -204,12 +204,25 @@ fn hold_next<L: Link>(
     ensures in_range { IfOk result (λ next. IfSome next (λ next. IsAmount next.most)) }
 {
     let day = later.last + 1;
-    match set_limit(alloc, link, setter, NUMBERS_OF_DAY * place + 19, day, 0) {
+    match set_limit(
+        alloc,
+        link,
+        setter,
+        NUMBERS_OF_DAY * place + (LIMITS + 1),
+        day,
+        0,
+    ) {
         Ok(()) => return Ok(None),
         Err(OrderFault::Over(_day, _used)) => {}
         Err(fault) => return Err(fault),
     }
-    match hold_day(alloc, link, setter, NUMBERS_OF_DAY * place + 21, day) {
+    match hold_day(
+        alloc,
+        link,
+        setter,
+        NUMBERS_OF_DAY * place + (NUMBERS_OF_DAY + 1),
+        day,
+    ) {
         Ok(held) => Ok(Some(LaterUse {
             most: later.most.max(held.cap),
             last: held.last,
@@ -246,7 +259,7 @@ pub(crate) fn hold_later<L: Link>(
         alloc,
         link,
         setter,
-        NUMBERS_OF_DAY * LATER_DAYS + 19,
+        NUMBERS_OF_DAY * LATER_DAYS + (LIMITS + 1),
         later.last + 1,
         0,
     ) {

@@ -3,11 +3,11 @@ ghost use Rattle.std.specs.Prelude.{◌≡◌, ◌+◌, Result as AnyResult, Opt
 ghost use Rattle.mq_request.specs.Range.{IsAmount, IsDay, IsWithin};
 ghost use Rattle.mq_command.specs.Allowing.{IsSetter};
 ghost use Rattle.mq_command.specs.Later.{ClearsDay, ClearsLater, later_status, most_on};
-ghost use Rattle.mq_command.specs.declared.later.Later.{Later as AnyLater};
+ghost use Rattle.mq_command.specs.declared.later.LaterLimit.{LaterLimit as AnyLaterLimit};
 ghost use Rattle.mq_command.specs.declared.order.OrderFault.{OrderFault as AnyOrderFault};
 
 use crate::allow::{Setter, set_limit};
-use crate::hold::LaterUse;
+use crate::hold::{LATER_DAYS, LaterUse, NUMBERS_OF_DAY};
 use crate::order::OrderFault;
 use crate::telling::say;
 use crate::usage::ask_used;
@@ -21,20 +21,20 @@ use std::io::Write;
 const LOOKS: u32 = 400;
 
 /// The number of the first limit that is set so; those of a `stop` are below it.
-const FIRST_NUMBER: u32 = 2_020;
+const FIRST_NUMBER: u32 = NUMBERS_OF_DAY * (LATER_DAYS + 1);
 
 /// A limit of a later day that stays in force, above what the login may have there.
 #[derive(Clone, Copy, Debug, PartialEq)]
-pub struct Later {
+pub struct LaterLimit {
     /// The first day on which it is found, which may be later than the one from which it was set.
     pub day: u32,
     /// Recipients a day.
     pub cap: u32,
 }
 
-impl fmt::Display for Later {
+impl fmt::Display for LaterLimit {
     fn fmt<W: fmt::Write>(&self, f: &mut fmt::Formatter<W>) -> fmt::Result {
-        let Later { day, cap } = *self;
+        let LaterLimit { day, cap } = *self;
         write!(f, "a limit of {cap} stays in force on day {day}")
     }
 }
@@ -58,7 +58,7 @@ fn clear_day<L: Link>(
     day: u32,
     most: u32,
     is_all: bool,
-) -> Result<Option<Later>, OrderFault>
+) -> Result<Option<LaterLimit>, OrderFault>
     requires setter { IsSetter setter.now }
     requires number { IsWithin 1 3000 number }
     requires day { IsDay day }
@@ -74,7 +74,7 @@ fn clear_day<L: Link>(
         return Ok(None);
     }
     if !is_all {
-        return Ok(Some(Later {
+        return Ok(Some(LaterLimit {
             day,
             cap: usage.cap,
         }));
@@ -95,7 +95,7 @@ fn clear_later<L: Link>(
     day: u32,
     later: LaterUse,
     is_all: bool,
-) -> Result<Option<Later>, OrderFault>
+) -> Result<Option<LaterLimit>, OrderFault>
     requires setter { IsSetter setter.now }
     requires day { IsDay (day + 1) }
     requires most { IsAmount later.most }
@@ -149,7 +149,7 @@ pub(crate) fn clear_and_say<L: Link, E: Write>(
     requires setter { IsSetter setter.now }
     requires day { IsDay (day + 1) }
     requires most { IsAmount later.most }
-    ensures looks { (ended : AnyResult (AnyOption AnyLater) AnyOrderFault)
+    ensures looks { (ended : AnyResult (AnyOption AnyLaterLimit) AnyOrderFault)
         × (result ≡ later_status ended)
         × ClearsLater setter.now day later is_all (L.told link.old) (L.told link.new) ended }
     ensures quiet { result ≡ 0 → errors.new ≡ errors.old }
@@ -162,7 +162,7 @@ pub(crate) fn clear_and_say<L: Link, E: Write>(
 }
 
 /// Says on `errors` which limit stays in force. The result is the exit status.
-fn tell_later<E: Write>(later: Later, is_all: bool, errors: &mut E) -> u8
+fn tell_later<E: Write>(later: LaterLimit, is_all: bool, errors: &mut E) -> u8
     ensures { result ≡ 1 }
 {
     let _ = if is_all {

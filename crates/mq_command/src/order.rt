@@ -130,7 +130,8 @@ pub fn order_fresh<L: Link>(
 }
 
 /// Sends an order up to three times, and prints what came of it. The result is the exit status, 0
-/// or 1.
+/// or 1. Others call it by `run_limit` or `run_retire`, so that none sends a retire, which nothing
+/// undoes, where it means a limit.
 fn run_order<L: Link, W: Write, E: Write>(
     alloc: Global,
     link: &mut L,

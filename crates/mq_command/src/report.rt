@@ -20,7 +20,7 @@ use crate::output::OutputFault;
 use crate::report::page::is_ascending;
 use crate::report::row::{write_row, write_rows};
 use crate::report::top::top_of;
-use crate::telling::{say, tell};
+use crate::telling::{say, tell_text};
 use mq_link::Link;
 use mq_request::bounds::ROW_LIMIT;
 use mq_request::{Login, Reply, Request, UsageRow, UsageRows};
@@ -361,5 +361,5 @@ pub fn print_columns<W: Write, E: Write>(output: &mut W, errors: &mut E) -> u8
         (W.contents output.new) result }
     ensures quiet { result ≡ 0 → errors.new ≡ errors.old }
 {
-    tell(Ok(()), "settled reserved  limit login\n", output, errors)
+    tell_text("settled reserved  limit login\n", output, errors)
 }

@@ -5,6 +5,7 @@ use Rattle.std.specs.BTreeMap.{BTreeMap, UpdatesBy, get, is_at}
 use Rattle.std.specs.Cmp.{unsigned_tied}
 use Rattle.std.specs.Map.{lookup}
 use Rattle.std.specs.Ordering.{nat_cmp}
+use Rattle.std.proofs.lemmas.Bool.{ne_eqb}
 use Rattle.std.proofs.lemmas.Bool.Decides.{eqb_tells}
 use Rattle.mq_lemmas.proofs.Options.{none_some, some_is}
 use Rattle.mq_server.specs.Held.{State, fresh}
@@ -12,7 +13,7 @@ use Rattle.mq_connections.specs.declared.opened.OpenConnection.{OpenConnection}
 use Rattle.mq_connections.specs.Sessions.{held}
 use Rattle.mq_connections.specs.Turns.{Closes, Offers}
 use Rattle.mq_connections.specs.Wires.{Wire}
-use Rattle.mq_connections.proofs.Standing.{Opens, not_eqb}
+use Rattle.mq_connections.proofs.Standing.{Opens}
 
 abbrev Map : Type 0
 Map = BTreeMap ℕ OpenConnection
@@ -21,7 +22,7 @@ abbrev connection_of : Option OpenConnection → Option State
 connection_of o = option_map (λ o. o.connection) o
 
 apart : (k q : ℕ) → k ≢ q → is_at (nat_cmp k) q ≡ false
-apart k q not = unsigned_tied k q ∙ not_eqb k q not
+apart k q not = unsigned_tied k q ∙ ne_eqb k q not
 
 -- another number's stays
 pub held_beside : (m n : Map) (k : ℕ) (w : Option OpenConnection) → UpdatesBy nat_cmp (nat_cmp k) m n w → (q : ℕ) → q ≢ k → held n q ≡ held m q

@@ -4,7 +4,7 @@ use Rattle.std.specs.Prelude.{IsSome, IfErr, OnOk, cond, eqb, filter, take}
 use Rattle.std.specs.Option.{option_to_list}
 use Rattle.std.specs.Io.KnownBytes.{Appends, Consumes, ReadConsumes}
 use Rattle.std.proofs.KnownBytes.{Appends-nil, Appends-trans, Consumes-kept, Consumes-nil, Consumes-trans}
-use Rattle.std.proofs.lemmas.Bool.{eq-eqb}
+use Rattle.std.proofs.lemmas.Bool.{eq-eqb, ne_eqb}
 use Rattle.std.proofs.lemmas.Bool.Decides.{eqb_tells}
 use Rattle.std.proofs.lemmas.List.{map-append}
 use Rattle.std.proofs.lemmas.List.Elements.{filter-append}
@@ -14,8 +14,8 @@ use Rattle.mq_request.specs.declared.message.Request.{Request}
 use Rattle.mq_ledger.specs.declared.entry.Entry.{Entry}
 use Rattle.mq_ledger.specs.declared.ledger.ReportedCall.{ReportedCall}
 use Rattle.mq_ledger.specs.Legal.{Book, IsLegalBook}
-use Rattle.mq_ledger.specs.Told.{Tells}
-use Rattle.mq_ledger.proofs.Telling.{Tells-none}
+use Rattle.mq_lemmas.specs.Told.{Tells}
+use Rattle.mq_lemmas.proofs.Telling.{Tells-none}
 use Rattle.mq_server.specs.declared.connection.Progress.{Progress}
 use Rattle.mq_server.specs.declared.connection.Progress.TheVariants.{Ended}
 use Rattle.mq_server.specs.declared.connection.EndCause.{EndCause}
@@ -26,6 +26,7 @@ use Rattle.mq_server.specs.Delivery.{HasGrown, failed_call}
 use Rattle.mq_server.specs.Held.{State, fresh}
 use Rattle.mq_server.specs.Life.{AreAnswered, Exchange, Life, Lives, StandsNext, deliveries, told_of, unborn, with_taken}
 use Rattle.mq_server.proofs.Advance.{ended_same}
+use Rattle.mq_server.proofs.Telling.{Tells-all}
 use Rattle.mq_connections.specs.declared.fault.RoomFault.{RoomFault}
 use Rattle.mq_connections.specs.declared.fault.RoomFault.TheVariants as faults
 use Rattle.mq_connections.specs.Sessions.{EndsServing, GoesOn, GoesOnOrStops, HaveServed, Outside, Placed, Session, all_of, those_of}
@@ -52,20 +53,13 @@ all_more ps n xs = map-append (λ (p : Placed). p.exchange) ps (on n xs) ∙ ap 
 abbrev those : ℕ → List Placed → List Placed
 those n ps = filter (λ p. eqb p.number n) ps
 
-not_told : (a b : ℕ) → a ≢ b → ((eqb a b ≡ true) × (a ≡ b)) ⊎ ((eqb a b ≡ false) × (a ≢ b)) → eqb a b ≡ false
-not_told a b not (inl (t, is)) = absurd (not is)
-not_told a b not (inr (f, is)) = f
-
-pub not_eqb : (a b : ℕ) → a ≢ b → eqb a b ≡ false
-not_eqb a b not = not_told a b not (eqb_tells a b)
-
 own : (n : ℕ) (xs : List Exchange) → those_of n (on n xs) ≡ xs
 own n [] = refl
 own n (x ∷ xs) = ap (λ (b : Bool). all_of (cond b (placed n x ∷ those n (on n xs)) (those n (on n xs)))) (eq-eqb n n refl) ∙ ap (λ (q : List Exchange). x ∷ q) (own n xs)
 
 others : (m n : ℕ) (xs : List Exchange) → m ≢ n → those_of n (on m xs) ≡ []
 others m n [] not = refl
-others m n (x ∷ xs) not = ap (λ (b : Bool). all_of (cond b (placed m x ∷ those n (on m xs)) (those n (on m xs)))) (not_eqb m n not) ∙ others m n xs not
+others m n (x ∷ xs) not = ap (λ (b : Bool). all_of (cond b (placed m x ∷ those n (on m xs)) (those n (on m xs)))) (ne_eqb m n not) ∙ others m n xs not
 
 those_more : (n : ℕ) (ps qs : List Placed) → those_of n (ps ++ qs) ≡ those_of n ps ++ those_of n qs
 those_more n ps qs = ap all_of (filter-append (λ (p : Placed). eqb p.number n) ps qs) ∙ map-append (λ (p : Placed). p.exchange) (those n ps) (those n qs)
@@ -305,9 +299,6 @@ pub record TurnOf (new now : Outside) (number : ℕ) (p : Progress) (c after : S
   pub turn : Turns new.book now.book.history new.told now.told p (new.wires number) (now.wires number) c after
   pub others_same : (n : ℕ) → n ≢ number → now.wires n ≡ new.wires n
 
-told_none : (t u : Option (List ReportedCall)) (xs : List Exchange) → Tells t u (told_of xs) → Tells t u (told_of xs ++ [])
-told_none t u xs told = let P : List ReportedCall → Type 0 = λ q. Tells t u q in subst P (sym (append-nil (told_of xs))) told
-
 above_held : (n last number : ℕ) → last < n → n ≡ number → number ≤ last → ⊥
 above_held n last number above is within = omega (arith, above, is, within)
 
@@ -395,7 +386,7 @@ module _ (old new now : Outside) (number last : ℕ) (p : Progress) (c after : S
   -- the connection is still open
   pub goes_open : Follow → (still : ℕ → Option State) → Works p → p ≢ Ended (Err Memory) → (c.end ≢ Some (Err Store) → after.end ≢ Some (Err Store)) → Others still → still number ≡ Some after → GoesOn old now last still None
   goes_open follow still works room stays others stands =
-      goes_turn follow still None (told_none new.told now.told xs (worked_calls new.told now.told c.end p xs works t.turn.calls)) others
+      goes_turn follow still None (Tells-all new.told now.told (told_of xs) (worked_calls new.told now.told c.end p xs works t.turn.calls)) others
       (λ d is. (some_is d after (sym is ∙ stands), t.turn.whole room, stays (g.are_held number c here).2)) (λ none. absurd (none_some after (sym none ∙ stands))) (λ some. absurd (false_true some)) tt
 
 -- ---- what it comes to

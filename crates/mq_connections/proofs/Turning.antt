@@ -11,8 +11,8 @@ use Rattle.mq_request.specs.declared.message.Request.{Request}
 use Rattle.mq_ledger.specs.declared.entry.Entry.{Entry}
 use Rattle.mq_ledger.specs.declared.ledger.ReportedCall.{ReportedCall}
 use Rattle.mq_ledger.specs.Legal.{Book, IsLegalBook}
-use Rattle.mq_ledger.specs.Told.{Tells}
-use Rattle.mq_ledger.proofs.Telling.{Tells-none, Tells-trans}
+use Rattle.mq_lemmas.specs.Told.{Tells}
+use Rattle.mq_lemmas.proofs.Telling.{Tells-none, Tells-trans}
 use Rattle.mq_server.specs.declared.connection.Progress.{Progress}
 use Rattle.mq_server.specs.declared.connection.Progress.TheVariants.{Answered, Waits, Ended}
 use Rattle.mq_server.specs.declared.connection.EndCause.{EndCause}
@@ -22,7 +22,7 @@ use Rattle.mq_server.specs.declared.input.TheConstants.{PIECE}
 use Rattle.mq_server.specs.Delivery.{failed_call}
 use Rattle.mq_server.specs.Held.{State}
 use Rattle.mq_server.specs.Life.{AreAnswered, Exchange, Life, Lives, MakesCalls, StandsNext, told_of, with_bytes, with_exchanges, with_taken}
-use Rattle.mq_server.proofs.Advance.{told_both, same_life, ended_same}
+use Rattle.mq_server.proofs.Advance.{Extended, told_both, same_life, ended_same}
 use Rattle.mq_connections.specs.Turns.{ClosesAtEnd, Offers, Turns, lived}
 use Rattle.mq_connections.specs.Wires.{AreOffered, IsKnownAs, Wire}
 
@@ -83,15 +83,11 @@ carried_none l = λ i. named l (sym (append-nil l.bytes) i) l.exchanges (sym (ap
 lived_both : (l : Life) (r s : List ℕ) (xs ys : List Exchange) (rest rest' w v : List ℕ) → lived (lived l r xs rest w) s ys rest' v ≡ lived l (r ++ s) (xs ++ ys) rest' (w ++ v)
 lived_both l r s xs ys rest rest' w v = λ i. named l (append_assoc l.bytes r s i) (append_assoc l.exchanges xs ys i) rest' (append_assoc l.taken w v i)
 
--- each life of a connection goes on by exchanges, and the request at which the store failed stands next
-abbrev pub Extends : State → State → List Exchange → Option Request → Type 0
-Extends c now xs failed = (l : Life) → Lives l c → (rest : List ℕ) × Lives (with_exchanges l xs rest) now × StandsNext failed rest
-
 -- each life of a connection goes on by bytes in and bytes out
 abbrev pub Carries : State → State → List ℕ → List ℕ → Type 0
 Carries c now read written = (l : Life) → Lives l c → Lives (carried l read written) now
 
-pub extends_none : (c : State) → Extends c c [] None
+pub extends_none : (c : State) → Extended c c [] None
 extends_none c = λ l here. (l.rest, (let P : Life → Type 0 = λ q. Lives q c in subst P (same_life l) here), tt)
 
 pub carries_none : (c : State) → Carries c c [] []
@@ -174,7 +170,7 @@ stands_on (Some r) rest read none stands = let P : List ℕ → Type 0 = λ q. S
 
 -- answers, and then bytes in or out
 pub turned : (b : Book) (history : List Entry) (t u : Option (List ReportedCall)) (p : Progress) (old new : Wire) (c d now : State) (xs : List Exchange) (read lost written : List ℕ)
-    → AreAnswered b xs history → (calls : MakesCalls c.end p t u xs) → Extends c d xs calls.failed → (IsSome calls.failed → read ≡ []) → length lost ≤ PIECE → (p ≢ Ended (Err Memory) → lost ≡ []) → Consumes old.remaining new.remaining (read ++ lost) → Appends old.contents new.contents written
+    → AreAnswered b xs history → (calls : MakesCalls c.end p t u xs) → Extended c d xs calls.failed → (IsSome calls.failed → read ≡ []) → length lost ≤ PIECE → (p ≢ Ended (Err Memory) → lost ≡ []) → Consumes old.remaining new.remaining (read ++ lost) → Appends old.contents new.contents written
     → ClosesAtEnd c now old.remaining read → Carries d now read written → Turns b history t u p old new c now
 turned b history t u p old new c d now xs read lost written right calls extends none few whole consumed sent closed carries = record {
   exchanges = xs;
@@ -307,9 +303,6 @@ ended_to p q end is store failed = store (ended_same end (Err Store) (sym is ∙
 
 pub ended_back : (p q : Progress) (end : Result EndCause ServeFault) → p ≡ Ended end → (q ≡ Ended (Err Store) → end ≡ Err Store) → q ≡ Ended (Err Store) → p ≡ Ended (Err Store)
 ended_back p q end is other failed = is ∙ ap Ended (other failed)
-
-pub ended_some : (a b : Result EndCause ServeFault) → Some a ≡ Some b → a ≡ b
-ended_some a b is = cc
 
 -- a write that took none
 pub wrote_none : {E : Type 0} (a b : Option (List ℕ)) (r : Result ℕ E) (bytes : List ℕ) → r ≡ Ok 0 → WriteAppends a b r bytes → Appends a b []

@@ -1,8 +1,8 @@
 -- Entries one after another.
-use Rattle.mq_forget.proofs.Words.{All, Entry, IsLegal, IsMoment, IsRequest, List, Release, Request, Reserve, Settle, Some, Transaction, [], ap, arith, either, false, history_of, inl, inr, is_of, length, moment_of, named, refl, remembered, requests, stays, subst, sym, take, true, ℕ, ◌++◌, ◌+◌, ◌<◌}
+use Rattle.mq_forget.proofs.Words.{All, Entry, IsLegal, IsMoment, IsRequest, List, Release, Request, Reserve, Settle, Some, Transaction, [], ap, arith, either, false, history_of, inl, inr, is_of, length, moment_of, named, remembered, requests, stays, subst, sym, take, true, ℕ, ◌++◌, ◌+◌, ◌<◌}
 use Rattle.mq_forget.proofs.Words.{◌∙◌, ◌∷◌, ◌≡◌}
-use Rattle.std.proofs.Common.{suc, drop, get_or, add-one, drop-cons}
-use Rattle.std.proofs.lemmas.List.{take-append-drop, take_more}
+use Rattle.std.proofs.Common.{suc, drop, get_or}
+use Rattle.std.proofs.lemmas.List.{drop_more, take-append-drop, take_more}
 use Rattle.mq_forget.specs.Carried.{IsFront}
 
 moment_in_range : (t : Transaction) (r : Request) → is_of t r ≡ true → IsRequest r → IsMoment (moment_of r)
@@ -22,15 +22,12 @@ named_in_range (x ∷ H) t e all h = elim (either (is_of t x.request)) [
       named_in_range H t e (λ k d less. all (suc k) d (omega arith)) rest)
 ]
 
--- the next entry of a whole
-pub at_next : (H : List Entry) (i : ℕ) (d : Entry) → i < length H → take i H ++ get_or H i d ∷ drop (i + 1) H ≡ H
-at_next H i d less = ap (λ xs. take i H ++ xs) (sym (rw (add-one, drop-cons H i d) refl)) ∙ take-append-drop i H
-
 pub front_at : (H : List Entry) (i : ℕ) → IsFront (take i H) H
 front_at H i = record { rest = drop i H; is = take-append-drop i H }
 
+-- the next entry of a whole
 pub next_of : (H : List Entry) (i : ℕ) (e : Entry) → i < length H → e ≡ get_or H i e → take i H ++ e ∷ drop (i + 1) H ≡ H
-next_of H i e less is = ap (λ x. take i H ++ x ∷ drop (i + 1) H) is ∙ at_next H i e less
+next_of H i e less is = ap (λ x. take i H ++ x ∷ drop (i + 1) H) is ∙ ap (λ xs. take i H ++ xs) (sym (drop_more H i e less)) ∙ take-append-drop i H
 
 pub more_of : (H : List Entry) (i : ℕ) (e : Entry) → i < length H → e ≡ get_or H i e → take (i + 1) H ≡ take i H ++ e ∷ []
 more_of H i e less is = take_more H i e less ∙ ap (λ x. take i H ++ x ∷ []) (sym is)

@@ -2,10 +2,9 @@
 use Rattle.mq_forget.proofs.Words.{All-from_recursion, All-map, AllByRecursion, Entry, Id, IsLeastOver, IsLegal, IsLoginPage, IsRequest, List, None, Option, Request, Some, [], answer, ap, arith, arrival_fresh, either, entry, false, has_id, history_of, id_of, inl, inr, is_about, is_below, is_set}
 use Rattle.mq_forget.proofs.Words.{is_some, known_by, neither, not_some, over, page, recursion_from_All, refl, remembered, requests, stays, stored, subst, sym, true, used, with_arrival, with_arrival_by, ℕ, ◌++◌, ◌<◌, ◌∙◌, ◌∷◌, ◌≡◌}
 use Rattle.std.proofs.lemmas.List.Elements.{All-push}
-use Rattle.mq_lemmas.proofs.Lists.{by_pushes}
+use Rattle.mq_lemmas.proofs.Lists.{by_pushes, all_but_last}
 use Rattle.mq_ledger.specs.Answer.{appended}
 use Rattle.mq_forget.specs.Kept.{Keeps}
-use Rattle.mq_ledger.proofs.Basics.{all_split}
 use Rattle.mq_forget.proofs.Lists.{find_none}
 use Rattle.mq_forget.proofs.Staying.{one_kept, one_gone, alike, same_cap, same_below}
 use Rattle.mq_forget.proofs.Fronts.{Builds}
@@ -93,7 +92,7 @@ module _ (day : ℕ → ℕ) (default : ℕ) (laws : Ledgers day default) (D : �
   arrivals_legal A = by_pushes (λ A. AllByRecursion IsRequest A → IsLegal day default (remembered day D (history_of day default A)))
       (λ _. none_legal)
       (λ A r before all.
-      let parts = all_split IsRequest A r all in
+      let parts = all_but_last IsRequest A r all in
       let k = arrival_legal (history_of day default A) r (id_of r) refl (laws.builds.legal A (All-from_recursion IsRequest A parts.0)) parts.1 (before parts.0) in
       subst (λ x. IsLegal day default (remembered day D x)) (sym (laws.builds.arrived A r)) k)
       A

@@ -4,10 +4,6 @@ use Rattle.std.specs.Prelude.{fold}
 use Rattle.std.proofs.lemmas.List.Sums.{sum_by-cons}
 pub use Rattle.mq_ledger.proofs.Basics.{filter_in}
 
-pub nothing_either_way : (b : Bool) → ◌≡◌ {A = ℕ} (if b then 0 else 0) 0
-nothing_either_way true = refl
-nothing_either_way false = refl
-
 -- Members.
 
 pub filter_same : {X : Type 0} (p q : X → Bool) (xs : List X) → ((x : X) → In x xs → p x ≡ q x) → filter p xs ≡ filter q xs

@@ -2,13 +2,13 @@
 use Rattle.mq_forget.proofs.Words.{Bool, Entry, Id, In, IsLegal, Limit, List, None, Option, Release, Reply, Request, Reserve, Settle, Some, Transaction, agrees, answer, any_nothing, ap, counted, day_named, either, entry, false, filter_in, find-append, first_so, granted, has_reserve, if_open}
 use Rattle.mq_forget.proofs.Words.{if◌then◌else◌, inl, inr, is_about, is_of, is_set, le_is, lt_is, moment_of, named, nat_le, not, option_or, refl, remembered, reserved, second_so, settled, stays, subst, sum_nothing, sym, transaction, transaction_itself, true, ℕ, ◌&&◌, ◌++◌, ◌+◌, ◌<◌, ◌==◌, ◌∙◌, ◌∷◌}
 use Rattle.mq_forget.proofs.Words.{◌≡◌, ◌≤◌}
-use Rattle.mq_lemmas.proofs.Numbers.{number_is}
+use Rattle.mq_lemmas.proofs.Numbers.{if_zero, number_is}
 use Rattle.mq_request.specs.declared.message.Reply.TheVariants.{Granted, Settled, Mismatch}
 use Rattle.mq_request.specs.Same.{same_text}
 use Rattle.mq_ledger.specs.History.{is_at, concerns, is_open, reserved_of, is_abandoned, settled_of}
 use Rattle.mq_ledger.specs.Page.{is_login, login_on}
 use Rattle.mq_ledger.proofs.Basics.{sum_same}
-use Rattle.mq_forget.proofs.Lists.{nothing_either_way, sum_kept, any_kept}
+use Rattle.mq_forget.proofs.Lists.{sum_kept, any_kept}
 use Rattle.mq_forget.proofs.Staying.{or_or, alike}
 use Rattle.mq_forget.proofs.Fronts.{Builds, next, behind}
 
@@ -85,7 +85,7 @@ listed day l d r a h = absurd (cc h)
 no_reserve : (day : ℕ → ℕ) (K : List Entry) (l : List ℕ) (d : ℕ) (x : Entry) → (counts x.request x.reply ≡ true → concerns day l d x.request ≡ true → ⊥) → reserved_of day K l d x ≡ 0
 no_reserve day K l d x never = elim (either (counts x.request x.reply)) [
   | inr not_so ↦ (let z : granted x.request x.reply ≡ 0 = granted_counts x.request x.reply not_so in
-      ap (λ n. if concerns day l d x.request && is_open K x.request then n else 0) z ∙ nothing_either_way (concerns day l d x.request && is_open K x.request))
+      ap (λ n. if concerns day l d x.request && is_open K x.request then n else 0) z ∙ if_zero (concerns day l d x.request && is_open K x.request) 0 refl)
   | inl so ↦ elim (either (concerns day l d x.request)) [ inl t ↦ absurd (never so t) | inr f ↦ rw f refl ]
 ]
 

@@ -13,7 +13,7 @@ pub use Rattle.mq_ledger.proofs.Transactions.{entry, transaction_itself}
 pub use Rattle.mq_ledger.specs.Answer.{answer, history_of, if_open, known_by, replies_after, reply, reply_by, reply_to, stored, with_arrival, with_arrival_by}
 pub use Rattle.mq_ledger.specs.Arrivals.{greater, has_id, id_of, is_below}
 pub use Rattle.mq_ledger.specs.Day.{day_of}
-pub use Rattle.mq_ledger.specs.History.{Transaction, agrees, closed, counted, granted, is_of, named, requests, reserved, settled, transaction, used}
+pub use Rattle.mq_ledger.specs.History.{Transaction, agrees, closed, counted, granted, is_of, named, requests, reserved, settled, transaction, used, moment_of}
 pub use Rattle.mq_ledger.specs.Legal.{IsLegal}
 pub use Rattle.mq_ledger.specs.Limits.{cap}
 pub use Rattle.mq_ledger.specs.Over.{IsLeastOver, over}
@@ -29,4 +29,4 @@ pub use Rattle.mq_request.specs.declared.message.Reply.{Reply}
 pub use Rattle.mq_request.specs.declared.message.Request.{Request}
 pub use Rattle.mq_request.specs.declared.message.Request.TheVariants.{Limit, Release, Reserve, Retire, Settle}
 pub use Rattle.mq_forget.specs.Kept.{AreAlike}
-pub use Rattle.mq_forget.specs.Remembered.{AreLaterOrPast, day_named, is_about, is_later, is_later_by, is_past, is_remembered, is_set, moment_of, remembered, stays}
+pub use Rattle.mq_forget.specs.Remembered.{AreLaterOrPast, day_named, is_about, is_later, is_later_by, is_past, is_remembered, is_set, remembered, stays}

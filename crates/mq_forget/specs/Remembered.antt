@@ -13,17 +13,9 @@ use Rattle.mq_request.specs.declared.message.Reply.TheVariants.{LimitSet}
 use Rattle.mq_ledger.specs.declared.entry.Entry.{Entry}
 use Rattle.mq_ledger.specs.Answer.{stored, known_by, reply, with_arrival}
 use Rattle.mq_ledger.specs.Arrivals.{id_of, is_below}
-use Rattle.mq_ledger.specs.History.{Transaction, requests, transaction, named}
-
--- the moment of a reserve, settle or release
-abbrev pub moment_of : Request → ℕ
-moment_of (Reserve id txn moment login count) = moment
-moment_of (Settle id txn moment login count) = moment
-moment_of (Release id txn moment login) = moment
-moment_of (Limit id from_day cap login) = 0
-moment_of (Usage login day) = 0
-moment_of (ListRequest day after) = 0
-moment_of (Retire id) = 0
+use Rattle.mq_ledger.specs.History.{Transaction, requests, transaction, named, moment_of}
+use Rattle.mq_ledger.specs.Day.{day_of}
+use Rattle.mq_ledger.specs.Legal.{Book}
 
 -- the day of a transaction: that of the entry that names it, or of the moment where none does
 abbrev pub day_named : (ℕ → ℕ) → ℕ → Option Entry → ℕ
@@ -53,6 +45,10 @@ stays day D H e = is_about day D H e.request || is_set e.request e.reply
 -- H without the days before D
 abbrev pub remembered : (ℕ → ℕ) → ℕ → List Entry → List Entry
 remembered day D H = filter (stays day D H) H
+
+-- what is remembered of a book from day D on
+abbrev pub remembered_book : ℕ → Book → Book
+remembered_book D b = record { zone = b.zone; default = b.default; history = remembered (day_of b.zone) D b.history }
 
 -- by the entry with the number of the request: it stays; where there is none, the request is about D or a later day
 abbrev pub is_remembered : (ℕ → ℕ) → ℕ → List Entry → Request → Option Entry → Bool

@@ -5,9 +5,9 @@ ghost use Rattle.mq_request.specs.Range.{IsRequest, IsMoment};
 ghost use Rattle.mq_ledger.specs.declared.entry.Entry.{Entry as AnyEntry};
 ghost use Rattle.mq_ledger.specs.Answer.{history_of};
 ghost use Rattle.mq_ledger.specs.Day.{day_of};
-ghost use Rattle.mq_ledger.specs.History.{transaction, is_of, named, requests};
+ghost use Rattle.mq_ledger.specs.History.{transaction, is_of, named, requests, moment_of};
 ghost use Rattle.mq_ledger.specs.Legal.{IsLegal};
-ghost use Rattle.mq_forget.specs.Remembered.{moment_of, day_named, is_about, is_set, stays};
+ghost use Rattle.mq_forget.specs.Remembered.{day_named, is_about, is_set, stays};
 ghost use Rattle.mq_forget.specs.Remembered.{remembered};
 ghost use Rattle.mq_forget.specs.Carried.{IsFront};
 

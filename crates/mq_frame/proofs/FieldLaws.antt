@@ -5,7 +5,7 @@ use Rattle.std.specs.Int.{Width, w32, w64, byte_len, from_be_bytes, to_be_bytes}
 use Rattle.std.specs.List.{All, flat_map}
 use Rattle.std.proofs.lemmas.Bool.{cases_lt, ltb-false, le-ltb}
 use Rattle.std.proofs.lemmas.Bool.Decides.{nat_tests, Decides-eqb}
-use Rattle.std.proofs.lemmas.List.{take_at, drop_at, take-append-drop, length-append, length-take, get_or-drop, get_or-take, get_or_past}
+use Rattle.std.proofs.lemmas.List.{take_at, drop_at, take-append-drop, length-append, length-take, get_or-drop, get_or-take, get_or_past, nil_from_length}
 use Rattle.std.proofs.lemmas.List.Elements.{All-nil, All-cons, All-head, All-tail}
 use Rattle.std.proofs.lemmas.Nat.{be_bytes_4, be_bytes_8, from_be_bytes-to_be_bytes_4, from_be_bytes-to_be_bytes_8}
 use Rattle.mq_lemmas.proofs.Booleans.{first_so, second_so, both_so}
@@ -238,16 +238,12 @@ counted_field {X} high f F field = record { takes = counted_takes high f F field
 
 -- ---- all of the bytes
 
-no_more : (l : List ℕ) → length l ≡ 0 → l ≡ []
-no_more [] h = refl
-no_more (x ∷ l) h = absurd (omega arith)
-
 pub whole_takes : {X : Type 0} (f : Field X) (F : X → Type 0) → IsField f F → (bytes : List ℕ) (x : X) → IsBytes bytes → whole f bytes ≡ Some x → (bytes ≡ f.spell x) × F x
 whole_takes {X} f F field bytes x fits e =
     let b = bind_some (f.read bytes) (λ y. (if length y.1 == 0 then Some y.0 else None)) x e in
     let k = kept_some (length b.0.1 == 0) b.0.0 x b.2 in
     let t = field.takes bytes b.0.0 b.0.1 fits b.1 in
-    let none : b.0.1 ≡ [] = no_more b.0.1 ((Decides-eqb (length b.0.1) 0).0 k.0) in
+    let none : b.0.1 ≡ [] = nil_from_length b.0.1 ((Decides-eqb (length b.0.1) 0).0 k.0) in
     let P : X → Type 0 = λ y. (bytes ≡ f.spell y) × F y in
     subst P k.1 (t.0.parts ∙ ap (λ (l : List ℕ). f.spell b.0.0 ++ l) none ∙ append-nil (f.spell b.0.0), t.1)
 

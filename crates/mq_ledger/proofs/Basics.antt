@@ -72,10 +72,6 @@ filter_map_in f (z ∷ xs) y i = elim (option_cases (f z)) [
   ])
 ]
 
-pub all_split : {X : Type 0} (P : X → Type 0) (xs : List X) (x : X) → AllByRecursion P (xs ++ x ∷ []) → AllByRecursion P xs × P x
-all_split P [] x all = (tt, all.0)
-all_split P (y ∷ xs) x all = (let r = all_split P xs x all.1 in ((all.0, r.0), r.1))
-
 -- Sums.
 
 pub two_sums_le : {X : Type 0} (f g k : X → ℕ) (xs : List X) → ((x : X) → In x xs → f x + g x ≤ k x) → sum_by f xs + sum_by g xs ≤ sum_by k xs

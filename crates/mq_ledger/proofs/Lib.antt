@@ -19,7 +19,6 @@ pub mod Ranges
 pub mod Rules
 pub mod Suiting
 pub mod Summing
-pub mod Telling
 pub mod Transactions
 pub mod Within
 pub mod Words

@@ -3,7 +3,7 @@ use Rattle.mq_ledger.proofs.Words.{All, All-from_recursion, AllByRecursion, Bool
 use Rattle.mq_ledger.proofs.Words.{fold_push, has_id, history_of, id_of, inl, inr, is_below, is_some, kept_with, known_by, list_any, map-append, nat_lt, or_second, raised, recursion_from_All, refl, reply, reply_by, reply_to, requests, stored, subst, sym, true, with_arrival, with_arrival_by, ℕ, ◌++◌}
 use Rattle.mq_ledger.proofs.Words.{◌||◌, ◌∙◌, ◌∷◌, ◌≡◌}
 use Rattle.mq_request.proofs.Alike.{request_itself, id_itself}
-use Rattle.mq_ledger.proofs.Basics.{all_split}
+use Rattle.mq_lemmas.proofs.Lists.{all_but_last}
 use Rattle.mq_ledger.proofs.Transactions.{entry, floor_push, under_greater}
 
 -- First arrivals.
@@ -30,7 +30,7 @@ kept_all P kept r None all h = all
 kept_all P kept r (Some id) all h = elim (either (is_below kept id || list_any (has_id id) kept)) [ inl t ↦ rw t all | inr f ↦ rw f (all_push P kept r all h) ]
 
 pub first_all : (P : Request → Type 0) (A : List Request) → AllByRecursion P A → AllByRecursion P (first A)
-first_all P A = by_pushes (λ A. AllByRecursion P A → AllByRecursion P (first A)) (λ _. tt) (λ A r before all. (let was = all_split P A r all in
+first_all P A = by_pushes (λ A. AllByRecursion P A → AllByRecursion P (first A)) (λ _. tt) (λ A r before all. (let was = all_but_last P A r all in
     subst (AllByRecursion P) (sym (first_push A r)) (kept_all P (first A) r (id_of r) (before was.0) was.1))) A
 
 -- Histories that are built.

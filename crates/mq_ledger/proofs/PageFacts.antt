@@ -1,4 +1,5 @@
 -- A page is the first hundred logins, and nothing else is.
+use Rattle.mq_lemmas.proofs.Lists.{in_contains}
 use Rattle.mq_ledger.proofs.Words.{All, All-from_recursion, AllByRecursion, Bool, Contains, Entry, In, IsAscending, List, None, Option, Some, [], all_at, all_of, all_push, ap, arith, below, clash, find, has_reserve, inl, inr, is_login, is_some, length, length-append, login_on, logins_above}
 use Rattle.mq_ledger.proofs.Words.{logins_on, option_cases, page, recursion_from_All, refl, subst, suc, sym, take, text_is, text_itself, true, zero, ℕ, ◌++◌, ◌∙◌, ◌∷◌, ◌≡◌, ◌≤◌, ◌⊎◌}
 use Rattle.std.proofs.lemmas.List.{length-take}
@@ -14,9 +15,6 @@ all_in ls = All-from_recursion (λ m. In m ls) ls (all_of (λ m. In m ls) ls (λ
 
 contains_in : (ls : List (List ℕ)) (l : List ℕ) → Contains ls l → In l ls
 contains_in ls l there = All-contains (λ m. In m ls) ls l (all_in ls) there
-
-in_contains : (ls : List (List ℕ)) (l : List ℕ) → In l ls → Contains ls l
-in_contains ls l i = all_at (Contains ls) ls l (recursion_from_All (Contains ls) ls (All-contains_itself ls)) i
 
 -- The front of ascending logins.
 

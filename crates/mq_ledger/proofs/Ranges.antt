@@ -4,10 +4,10 @@ use Rattle.mq_ledger.proofs.Words.{Usage, [], all_at, all_of, all_push, answer, 
 use Rattle.mq_ledger.proofs.Words.{page, recursion_from_All, refl, reply, reply_by, reply_to, requests, row, same_request, settled_or_too_many, some_is, stored, subst, transaction, used, ℕ, ◌==◌, ◌∷◌, ◌≡◌, ◌≤◌}
 use Rattle.std.proofs.lemmas.List.Elements.{All-nil}
 use Rattle.std.proofs.lemmas.List.{length-map}
-use Rattle.mq_lemmas.proofs.Lists.{all_filter}
+use Rattle.mq_lemmas.proofs.Lists.{all_filter, all_but_last}
 use Rattle.mq_request.specs.Range.{IsId, IsLogin, IsRow, IsPage as IsRows}
 use Rattle.mq_ledger.proofs.Answering.{by_open, by_room, by_held, by_over, of_legal}
-use Rattle.mq_ledger.proofs.Basics.{filter_in, filter_map_in, found, all_split}
+use Rattle.mq_ledger.proofs.Basics.{filter_in, filter_map_in, found}
 use Rattle.mq_ledger.proofs.Overs.{least_in, day_given}
 use Rattle.mq_ledger.proofs.PageFacts.{page_few, in_page}
 use Rattle.mq_ledger.proofs.Transactions.{entry, transaction_itself, used_is, held_goes}
@@ -125,7 +125,7 @@ legal_replies day default H low days legal =
     (of_legal day default P (legal_good day default [] (record { range = All-nil (λ e. IsRequest e.request); distinct = refl; built = refl }), λ _. tt) (λ K r p. (
       good_step day default K r p.0,
       λ all.
-          (let was = all_split (λ e. IsRequest e.request) K (entry r (answer day default K r)) all in
+          (let was = all_but_last (λ e. IsRequest e.request) K (entry r (answer day default K r)) all in
           let ranged : IsRanged day default K = record { good = p.0; low = low.to; days = days; all = was.0 } in
           all_push (λ e. IsReply e.reply) K (entry r (answer day default K r)) (p.1 was.0) (answer_range day default K ranged r was.1)),
     )) H legal).1

@@ -33,6 +33,13 @@ transaction id txn = record { host = id.host; run = id.run; txn = txn }
 abbrev pub same_transaction : Transaction → Transaction → Bool
 same_transaction t u = same_text t.host u.host && ((t.run == u.run) && (t.txn == u.txn))
 
+-- the moment of a reserve, settle or release
+abbrev pub moment_of : Request → ℕ
+moment_of (Reserve id txn moment login count) = moment
+moment_of (Settle id txn moment login count) = moment
+moment_of (Release id txn moment login) = moment
+moment_of _ = 0
+
 -- the request is a reserve, settle or release of the transaction
 abbrev pub is_of : Transaction → Request → Bool
 is_of t (Reserve id txn moment login count) = same_transaction t (transaction id txn)

@@ -14,4 +14,3 @@ pub mod Rule
 pub mod SameDays
 pub mod Suits
 pub mod Sums
-pub mod Told

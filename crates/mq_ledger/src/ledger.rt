@@ -48,7 +48,7 @@ pub struct ReportedCall {
 /// still kept its premise as the call returns.
 pub trait Ledger {
     ghost use Rattle.std.specs.Prelude.{◌∷◌, [], List, Option, None};
-    ghost use Rattle.mq_ledger.specs.Told.{Tells};
+    ghost use Rattle.mq_lemmas.specs.Told.{Tells};
     ghost use Rattle.mq_ledger.specs.declared.ledger.ReportedCall.{ReportedCall};
 
     // The calls of `apply` so far, the oldest first, where the ledger reports them.

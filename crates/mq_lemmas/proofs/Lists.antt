@@ -1,6 +1,6 @@
 -- What is in a list, and what holds of each element.
-use Rattle.std.proofs.Common.{◌≡◌, ℕ, zero, suc, ◌≤◌, Bool, true, false, List, [], ◌∷◌, ◌++◌, length, refl, sym, ap, subst, ◌∙◌, inl, inr, arith, append_assoc, append-nil}
-use Rattle.std.specs.Prelude.{◌⊎◌, drop, filter, find, Option, Some}
+use Rattle.std.proofs.Common.{◌≡◌, ℕ, zero, suc, ◌≤◌, Bool, true, List, [], ◌∷◌, ◌++◌, length, refl, sym, ap, subst, ◌∙◌, inl, inr, arith, append_assoc, append-nil}
+use Rattle.std.specs.Prelude.{◌⊎◌, Contains, drop, filter, find, Some}
 use Rattle.std.specs.List.{AllByRecursion}
 use Rattle.mq_lemmas.proofs.Booleans.{either}
 
@@ -63,3 +63,15 @@ by_pushes P none more xs = by_pushes_from P more [] xs none where
   by_pushes_from : {X : Type 0} (P : List X → Type 0) → ((xs : List X) (x : X) → P xs → P (xs ++ x ∷ [])) → (done xs : List X) → P done → P (done ++ xs)
   by_pushes_from P more done [] p = subst P (sym (append-nil done)) p
   by_pushes_from P more done (x ∷ xs) p = subst P (append_assoc done (x ∷ []) xs) (by_pushes_from P more (done ++ x ∷ []) xs (more done x p))
+
+pub all_split : {X : Type 0} (P : X → Type 0) (xs ys : List X) → AllByRecursion P (xs ++ ys) → AllByRecursion P xs × AllByRecursion P ys
+all_split P [] ys all = (tt, all)
+all_split P (x ∷ xs) ys all = let (a, b) = all_split P xs ys all.1 in ((all.0, a), b)
+
+pub all_but_last : {X : Type 0} (P : X → Type 0) (xs : List X) (x : X) → AllByRecursion P (xs ++ x ∷ []) → AllByRecursion P xs × P x
+all_but_last P xs x all = let (a, b) = all_split P xs (x ∷ []) all in (a, b.0)
+
+pub in_contains : {X : Type 0} (xs : List X) (x : X) → In x xs → Contains xs x
+in_contains [] x i = absurd i
+in_contains (y ∷ xs) x (inl e) = (0, omega arith, e)
+in_contains (y ∷ xs) x (inr i) = (let r = in_contains xs x i in (suc r.0, omega (arith, r.1), r.2))

@@ -1,8 +1,10 @@
 -- Which of two numbers is which, and less.
-use Rattle.std.proofs.Common.{◌≡◌, ℕ, ◌<◌, ◌≤◌, Bool, true, false, refl, inl, inr, arith}
-use Rattle.std.specs.Prelude.{◌⊎◌, ◌==◌, nat_le, if◌then◌else◌}
+use Rattle.std.proofs.Common.{◌≡◌, ℕ, ◌<◌, ◌≤◌, Bool, true, false, refl, arith}
+use Rattle.std.specs.Prelude.{◌⊎◌, ◌==◌, if◌then◌else◌}
 use Rattle.std.proofs.lemmas.Bool.{ne_eqb}
-use Rattle.std.proofs.lemmas.Bool.Decides.{Decides-eqb, nat_tests}
+use Rattle.std.proofs.lemmas.Bool.Decides.{Decides-eqb}
+-- of two numbers whether the first is at most the second
+pub use Rattle.std.proofs.lemmas.Bool.{leb-true as le_of, le-leb as le_is, leb-false as lt_of, lt-leb as lt_is}
 
 pub number_is : (m n : ℕ) → (m == n) ≡ true → m ≡ n
 number_is m n h = (Decides-eqb m n).0 h
@@ -12,18 +14,6 @@ number_itself n = (Decides-eqb n n).1 refl
 
 pub other_number : (m n : ℕ) → m < n → (m == n) ≡ false
 other_number m n h = ne_eqb m n (λ e. omega (arith, h, e))
-
-pub le_of : (m n : ℕ) → nat_le m n ≡ true → m ≤ n
-le_of m n h = grind (arith, nat_tests)
-
-pub le_is : (m n : ℕ) → m ≤ n → nat_le m n ≡ true
-le_is m n h = grind (arith, nat_tests)
-
-pub lt_of : (m n : ℕ) → nat_le m n ≡ false → n < m
-lt_of m n h = grind (arith, nat_tests)
-
-pub lt_is : (m n : ℕ) → n < m → nat_le m n ≡ false
-lt_is m n h = grind (arith, nat_tests)
 
 pub le_or_lt : (a b : ℕ) → (a ≤ b) ⊎ (b < a)
 le_or_lt a b = grind arith

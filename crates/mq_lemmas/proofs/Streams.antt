@@ -1,5 +1,5 @@
 -- Of a stream that is as it was: nothing was read of it or written to it.
-use Rattle.std.proofs.Common.{◌≡◌, ℕ, List, [], sym, ◌∙◌, append-nil}
+use Rattle.std.proofs.Common.{ℕ, List, [], sym, ◌∙◌, append-nil}
 use Rattle.std.specs.Prelude.{Option, Some, None}
 use Rattle.std.specs.Io.KnownBytes.{Appends, Consumes, Keeps}
 

@@ -1,7 +1,8 @@
-//! Lemmas of booleans, options, numbers and lists, for the proofs of the other crates: each stands
-//! here once.
+//! Lemmas of booleans, options, numbers, lists and maps by bytes, for the proofs of the other
+//! crates: each stands here once.
 //!
-//! It has no code; of streams it has what holds of one that is as it was. From
+//! It has no code; of streams it has what holds of one that is as it was, and `specs/Told.antt`
+//! says how what is reported of calls grows. From
 //! `mq_forget/proofs/Answers.antt`:
 //!
 //!     later_le from D d a b = elim (either (nat_lt from D)) [ inl t ↦ rw t b | inr f ↦ rw f a ]

@@ -4,6 +4,7 @@ use Rattle.std.specs.Prelude.{◌⊎◌, slice_get}
 use Rattle.std.specs.List.{AllByRecursion, concat, join_with_byte}
 use Rattle.std.proofs.lemmas.Bool.{cases_lt, lt-ltb, le-ltb}
 use Rattle.std.proofs.lemmas.List.{length-append}
+use Rattle.std.proofs.ByRecursion.{All-push}
 use Rattle.std.proofs.lemmas.List.Splits.{slice_split_at, slice_split_none, join_with_byte-slice_split}
 use Rattle.mq_line.specs.Pieces.{pieces, Lacks}
 use Rattle.mq_line.specs.Text.{IsLine, IsTooLong, text_of, lines_among, left_among, lines, left, Holds, lines_by_piece, left_by_piece}
@@ -57,17 +58,13 @@ pub text_of-push : (taken : List (List ℕ)) (line : List ℕ) → text_of (take
 text_of-push [] line = refl
 text_of-push (l ∷ taken) line = ap (λ (t : List ℕ). l ++ 10 ∷ t) (text_of-push taken line) ∙ sym (append_assoc l (10 ∷ text_of taken) (line ++ 10 ∷ []))
 
-each-push : (taken : List (List ℕ)) (line : List ℕ) → AllByRecursion IsLine taken → IsLine line → AllByRecursion IsLine (taken ++ line ∷ [])
-each-push [] line h is = (is, tt)
-each-push (l ∷ taken) line h is = (h.0, each-push taken line h.1 is)
-
 pub holds-taken : (text : List ℕ) (taken : List (List ℕ)) (line rest : List ℕ) → IsLine line → Holds text taken (line ++ 10 ∷ rest) → Holds text (taken ++ line ∷ []) rest
 holds-taken text taken line rest is h = record {
   whole = h.whole
       ∙ ap (λ (l : List ℕ). text_of taken ++ l) (sym (append_assoc line (10 ∷ []) rest))
       ∙ sym (append_assoc (text_of taken) (line ++ 10 ∷ []) rest)
       ∙ ap (λ (l : List ℕ). l ++ rest) (sym (text_of-push taken line));
-  each = each-push taken line h.each is;
+  each = All-push IsLine taken line h.each is;
 }
 
 -- the lines of the text are those taken and those held
@@ -83,7 +80,7 @@ holds-lines text (line ∷ taken) held h =
     )
 
 -- the next line of the text is the first of those held
-slice_get-push : (taken more : List (List ℕ)) → slice_get (taken ++ more) (length taken) ≡ slice_get more 0
+pub slice_get-push : (taken more : List (List ℕ)) → slice_get (taken ++ more) (length taken) ≡ slice_get more 0
 slice_get-push [] more = refl
 slice_get-push (l ∷ taken) more = slice_get-push taken more
 

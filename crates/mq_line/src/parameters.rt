@@ -2,8 +2,8 @@
 ghost use Rattle.std.specs.Prelude.{◌≡◌, Option};
 ghost use Rattle.std.specs.Option.{option_map, option_copied};
 ghost use Rattle.mq_line.specs.Pieces.{fields};
-ghost use Rattle.mq_line.specs.Parameters.{result_of as result_of_lem};
-ghost use Rattle.mq_line.specs.Parameters.{auth_at_end as auth_at_end_lem, auth, message};
+ghost use Rattle.mq_line.specs.Parameters.{result_of as result_of_spec};
+ghost use Rattle.mq_line.specs.Parameters.{auth_at_end as auth_at_end_spec, auth, message};
 
 use crate::fields::{first_field, last_field, rest_of};
 
@@ -17,7 +17,7 @@ pub enum AuthResult {
 
 /// The result that a word stands for.
 fn result_of(word: &[u8]) -> Option<AuthResult>
-    ensures { result ≡ result_of_lem word.now }
+    ensures { result ≡ result_of_spec word.now }
 {
     if word == b"pass".as_slice() {
         Some(AuthResult::Pass)
@@ -33,7 +33,7 @@ fn result_of(word: &[u8]) -> Option<AuthResult>
 /// The result and the user name where the result stands last.
 fn auth_at_end<'a>(params: &'a [u8]) -> Option<(AuthResult, &'a [u8])>
     ensures { option_map (λ found. (found.0, found.1.now)) result
-        ≡ auth_at_end_lem (fields params.now) }
+        ≡ auth_at_end_spec (fields params.now) }
 {
     let (name, last) = last_field(params);
     match result_of(last) {

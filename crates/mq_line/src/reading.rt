@@ -4,9 +4,9 @@ ghost use Rattle.std.specs.Prelude.{IfOk, IfErr, IsOkAnd, MatchResult};
 ghost use Rattle.std.specs.List.{list_all, list_any};
 ghost use Rattle.std.specs.Char.{is_ascii_digit};
 ghost use Rattle.mq_line.specs.Pieces.{fields_left};
-ghost use Rattle.mq_line.specs.Grammar.{Meaning, meaning, Means, Reads, fault as fault_lem};
+ghost use Rattle.mq_line.specs.Grammar.{Meaning, meaning, Means, Reads, fault as fault_spec};
 ghost use Rattle.mq_line.specs.Grammar.{is_number, max_fraction_digits};
-ghost use Rattle.mq_line.specs.Grammar.{seconds_of as seconds_of_lem};
+ghost use Rattle.mq_line.specs.Grammar.{seconds_of as seconds_of_spec};
 ghost use Rattle.mq_line.specs.Grammar.{IsStamp, stamp_fault, config_fault, report_fault};
 ghost use Rattle.mq_line.specs.Grammar.{filter_fault};
 
@@ -72,7 +72,7 @@ fn is_fraction(digits: &[u8]) -> bool
 
 /// The seconds of a time such as `1576146008.006099`. The part after the point isn't used.
 fn seconds_of(time: &[u8]) -> Option<u64>
-    ensures { result ≡ seconds_of_lem time.now }
+    ensures { result ≡ seconds_of_spec time.now }
 {
     let mut seconds = 0;
     for (place, byte) in time.iter().enumerate() {
@@ -172,7 +172,7 @@ fn read_filter<'a>(left: Option<&'a [u8]>) -> Result<Line<'a>, LineFault>
 /// A line by its fields.
 fn read_fields<'a>(line: &'a [u8]) -> Result<Line<'a>, LineFault>
     ensures { MatchResult result (λ v. Reads line.now (meaning v))
-        (λ e. fault_lem line.now ≡ Some e) }
+        (λ e. fault_spec line.now ≡ Some e) }
 {
     let (first, left) = first_field(line);
     if first == b"config".as_slice() {
@@ -197,8 +197,8 @@ pub fn read_line<'a>(line: &'a [u8]) -> Result<Line<'a>, LineFault>
     // What the line means is answered.
     ensures only { (m : Meaning) → Reads line.now m → IsOkAnd result (λ v. meaning v ≡ m) }
     // The fault is the first that the line has, and is answered wherever it has one.
-    ensures fault { IfErr result (λ e. fault_lem line.now ≡ Some e) }
-    ensures refused { (e : LineFault) → fault_lem line.now ≡ Some e → result ≡ Err e }
+    ensures fault { IfErr result (λ e. fault_spec line.now ≡ Some e) }
+    ensures refused { (e : LineFault) → fault_spec line.now ≡ Some e → result ≡ Err e }
 {
     read_fields(line)
 }

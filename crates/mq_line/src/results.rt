@@ -1,7 +1,7 @@
 //! What a filter writes to smtpd.
 ghost use Rattle.std.specs.Prelude.{◌≡◌, ◌+◌, ◌<◌, ◌++◌, OnOk, OnErr, length, vec_capacity};
 ghost use Rattle.std.specs.Prelude.{vec_len, take};
-ghost use Rattle.mq_line.specs.Results.{registration, answer as answer_lem, in_a_row, result_text};
+ghost use Rattle.mq_line.specs.Results.{registration, answer as answer_spec, in_a_row, result_text};
 
 use std::alloc::AllocError;
 
@@ -18,7 +18,7 @@ pub enum Decision {
 
 /// The field of a result line that says so.
 fn answer_of(decision: Decision) -> &'static [u8]
-    ensures { result.now ≡ answer_lem decision }
+    ensures { result.now ≡ answer_spec decision }
 {
     match decision {
         Decision::Proceed => b"proceed",

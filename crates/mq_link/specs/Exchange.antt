@@ -39,7 +39,7 @@ pub record Route : Type 0 where
   pub timeout : Duration
 
 -- what makes the connections of a link, and the connection that is open
-pub record Standing (C S : Type 0) : Type 0 where
+pub record LinkState (C S : Type 0) : Type 0 where
   pub connector : C
   pub stream : Option S
 

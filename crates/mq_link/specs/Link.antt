@@ -16,9 +16,3 @@ outcome_of (Err fault) body = Faulted fault
 abbrev pub Brings : ExchangeOutcome → Reply → Type 0
 Brings (Answered body) reply = SpellsReply body reply
 Brings (Faulted fault) reply = ⊥
-
--- the exchanges that a link reports have grown by these, where it still reports them afterwards
-abbrev pub Tells : Option (List ReportedExchange) → Option (List ReportedExchange) → List ReportedExchange → Type 0
-Tells (Some before) (Some after) more = after ≡ before ++ more
-Tells None (Some after) more = ⊥
-Tells before None more = ⊤

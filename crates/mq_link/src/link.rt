@@ -32,7 +32,8 @@ pub struct ReportedExchange {
 /// A link to the quota server.
 pub trait Link {
     ghost use Rattle.std.specs.Prelude.{◌≡◌, ◌∷◌, [], List, Option, None, OnErr};
-    ghost use Rattle.mq_link.specs.Link.{Tells, outcome_of};
+    ghost use Rattle.mq_lemmas.specs.Told.{Tells};
+    ghost use Rattle.mq_link.specs.Link.{outcome_of};
     ghost use Rattle.mq_link.specs.declared.link.ReportedExchange.{ReportedExchange};
 
     // The exchanges so far, the oldest first, where the link reports them.

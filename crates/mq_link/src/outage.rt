@@ -1,7 +1,7 @@
 //! When an outage is logged: its beginning and its end, at most one outage a second, and what the
 //! end counts.
 ghost use Rattle.std.specs.Prelude.{◌≡◌, ◌<◌, ◌↔◌, false, IsTrue, Some, None, if◌then◌else◌};
-ghost use Rattle.mq_link.specs.Outage.{is_due as is_due_lem, is_last_try, missed, is_beginning};
+ghost use Rattle.mq_link.specs.Outage.{is_due as is_due_spec, is_last_try, missed, is_beginning};
 ghost use Rattle.mq_link.specs.Outage.{begun, is_ending, ended, passed};
 
 use std::time::{Duration, Instant};
@@ -26,7 +26,7 @@ pub struct Outage {
 
 /// Whether a second or more is over since a line.
 fn is_due(line: Option<Instant>, now: Option<Instant>) -> bool
-    ensures { result ≡ is_due_lem line now }
+    ensures { result ≡ is_due_spec line now }
 {
     match (line, now) {
         (Some(line), Some(now)) => now.duration_since(line) >= Duration::from_secs(QUIET),

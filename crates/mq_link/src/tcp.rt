@@ -3,9 +3,11 @@ ghost use Rattle.std.specs.Prelude.{◌≡◌, ◌≢◌, ℕ, List, [], ◌∷�
 ghost use Rattle.std.specs.Prelude.{OnOk, option_map, suc};
 ghost use Rattle.std.specs.Prelude.{OnErr, IfErr, MatchOption};
 ghost use Rattle.std.specs.Io.KnownBytes.{Appends};
-ghost use Rattle.mq_link.specs.Link.{Tells, outcome_of};
+ghost use Rattle.mq_lemmas.specs.Told.{Tells};
+ghost use Rattle.mq_link.specs.declared.link.ReportedExchange.{ReportedExchange};
+ghost use Rattle.mq_link.specs.Link.{outcome_of};
 ghost use Rattle.mq_link.specs.Body.{IsReceived, IsHeadOnly, IsEmptyHead};
-ghost use Rattle.mq_link.specs.Exchange.{Standing, IsSent, IsExchange, trouble_fault};
+ghost use Rattle.mq_link.specs.Exchange.{LinkState, IsSent, IsExchange, trouble_fault};
 
 use crate::body::read_body;
 use crate::connect::{Connect, Connector};
@@ -85,9 +87,9 @@ pub struct TcpLink<'a, K, C: Connect> {
 }
 
 impl<'a, K, C: Connect> Model for TcpLink<'a, K, C> {
-    ghost use Rattle.mq_link.specs.Exchange.{Standing};
+    ghost use Rattle.mq_link.specs.Exchange.{LinkState};
 
-    ghost Value = { Standing C C.Stream };
+    ghost Value = { LinkState C C.Stream };
 
     ghost view = { λ link. record { connector = link.connector; stream = link.stream } };
 }
@@ -206,7 +208,8 @@ impl<K: Clock, C: Connect> Link for TcpLink<'_, K, C> {
     /// Sends the frame over a new connection and reads one body of 1 to 65,535 bytes; no connection
     /// is left.
     fn exchange(&mut self, frame: &[u8], reply: &mut Vec<u8>) -> Result<(), LinkFault>
-        ensures told { Tells None None (record {
+        // (it reports none)
+        ensures told { Tells {X = ReportedExchange} None None (record {
           frame = frame.now;
           outcome = outcome_of result reply.new.items;
         }

@@ -9,14 +9,14 @@ use Rattle.mq_store.specs.Soundness.{HasKept, book_in}
 use Rattle.mq_connections.specs.Sessions.{EndsServing, Outside}
 use Rattle.mq_nights.specs.Nights.{HasRenewed}
 
--- it ended by the store's failure exactly where the serving did
-pub ends_as : {A B E : Type 0} (old new : Outside) (store : E) (r : Result A E) (q : Result B E) → (r ≡ Err store → q ≡ Err store) → (q ≡ Err store → r ≡ Err store)
-    → EndsServing old new store r → EndsServing old new store q
-ends_as old new store r q to from ends = record {
+-- a serving's end, where the store's failure may have another name
+pub ends_as : {A B E F : Type 0} (old new : Outside) (store : E) (r : Result A E) (failed : F) (q : Result B F)
+    → EndsServing old new store r → (r ≡ Err store → q ≡ Err failed) → (q ≡ Err failed → r ≡ Err store) → EndsServing old new failed q
+ends_as old new store r failed q ends to back = record {
   failed = ends.failed;
   served = ends.served;
   stops = λ some. to (ends.stops some);
-  only = λ is. ends.only (from is);
+  only = λ is. ends.only (back is);
   at = ends.at;
   offered = ends.offered;
 }

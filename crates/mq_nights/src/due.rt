@@ -1,13 +1,13 @@
 //! Which days are due to be forgotten.
-ghost use Rattle.std.specs.Prelude.{◌≡◌, ◌+◌, ◌<◌, ◌≤◌, ◌↔◌, ℕ, Some, IsTrue};
+ghost use Rattle.std.specs.Prelude.{◌≡◌, ◌+◌, ◌<◌, ◌≤◌, ℕ, Some};
 ghost use Rattle.mq_request.specs.Range.{IsMoment};
 ghost use Rattle.mq_store.specs.declared.days.ReservedDays.{ReservedDays as AnyDays};
-ghost use Rattle.mq_watch.specs.Hours.{AreFar};
 ghost use Rattle.mq_nights.specs.Due.{due_by, night_of, what_is_due};
 
 use mq_ledger::Zone;
 use mq_request::bounds::FIRST_MOMENT;
 use mq_store::ReservedDays;
+use mq_watch::are_far;
 
 /// The seconds of a night that belong to the day before: until 03:00.
 const SMALL_HOURS: u64 = 10_800;
@@ -34,13 +34,6 @@ pub fn night_of(zone: &Zone, moment: u64) -> u32
     ensures { result ≡ night_of zone.now moment }
 {
     zone.day_at(moment.saturating_sub(SMALL_HOURS).max(FIRST_MOMENT))
-}
-
-/// Whether there is a day or more between two days.
-fn are_far(day: u32, today: u32) -> bool
-    ensures { IsTrue result ↔ AreFar day today }
-{
-    day.abs_diff(today) > 1
 }
 
 /// What is due of a ledger on whose oldest day and newest one something was reserved.

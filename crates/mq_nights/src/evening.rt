@@ -16,10 +16,13 @@ use mq_ledger::{Ledger, LedgerFault, Zone};
 use mq_store::{OpenFault, OpenRefused, Renewal, SqlLedger, arrivals_leave_what_was_taken_over};
 use sqlite::Alter;
 use std::alloc::Global;
+use std::fmt::Display;
 use std::rt::Clock;
 use std::time::Instant;
 
-/// How many steps a piece has, so that one costs a request that comes meanwhile at most 10 ms.
+/// How many steps a piece has, beside one for each answer that the old ledger got since the last
+/// piece. Between few requests a piece costs one that comes meanwhile at most 10 ms; after many of
+/// them it takes about as long again as they did.
 const STEPS: u64 = 32;
 
 /// Begins to take over what a ledger of this zone and default remembers from a day on, into a new
@@ -42,7 +45,7 @@ fn begin_renewal<N: Alter + Drop, P: Parts<N>, G: Log>(
     let connection = match parts.part() {
         Ok(connection) => connection,
         Err(fault) => {
-            warn!(log; "days before {day} stay: {fault}; next attempt in an hour");
+            log_stay(log, day, &fault);
             return None;
         }
     };
@@ -66,11 +69,14 @@ fn fault_of<N: Alter + Drop>(refused: OpenRefused<N>) -> OpenFault
 /// Logs why a renewal can't begin: of a store that failed, the cause.
 fn log_refused<G: Log>(log: &G, fault: &OpenFault, day: u32) {
     match fault {
-        OpenFault::Store(cause) => {
-            warn!(log; "days before {day} stay: {cause}; next attempt in an hour")
-        }
-        fault => warn!(log; "days before {day} stay: {fault}; next attempt in an hour"),
+        OpenFault::Store(cause) => log_stay(log, day, cause),
+        fault => log_stay(log, day, fault),
     }
+}
+
+/// Logs why the days before one stay for another hour.
+fn log_stay<G: Log, T: Display>(log: &G, day: u32, why: &T) {
+    warn!(log; "days before {day} stay: {why}; next attempt in an hour");
 }
 
 /// Goes on with a renewal: whether it is through. Why it can't go on is logged.
@@ -125,8 +131,8 @@ fn renew<N: Alter, S: Alter, G: Log>(
 fn log_fault<N: Alter, G: Log>(log: &G, renewal: &Renewal<N>, fault: LedgerFault) {
     let day = renewal.day();
     match renewal.cause() {
-        Some(cause) => warn!(log; "days before {day} stay: {cause}; next attempt in an hour"),
-        None => warn!(log; "days before {day} stay: {fault}; next attempt in an hour"),
+        Some(cause) => log_stay(log, day, &cause),
+        None => log_stay(log, day, &fault),
     }
 }
 
@@ -144,7 +150,8 @@ pub struct Evening<'a, C, G, N: Alter, P> {
     began: Option<Instant>,
 }
 
-/// A new ledger, with exactly what the old one remembers from a day on.
+/// A new ledger, which takes over what the old one remembers from a day on: exactly that, once its
+/// chore is done.
 #[derive(Drop)]
 pub struct RenewedLedger<N: Alter> {
     pub ledger: SqlLedger<N>,
@@ -152,7 +159,7 @@ pub struct RenewedLedger<N: Alter> {
     pub day: u32,
     /// When its renewal began, where the clock could be read.
     pub began: Option<Instant>,
-    /// The night in which it was made, which has nothing left to do.
+    /// The night in which it was begun, which has nothing left to do.
     pub night: Option<u32>,
 }
 
@@ -181,7 +188,7 @@ impl<'a, C: Clock, G: Log, N: Alter + Drop, P: Parts<N> + Drop> Evening<'a, C, G
         }
     }
 
-    /// The new ledger, where a renewal has begun.
+    /// The new ledger, where a renewal has begun, whether it is through or not.
     pub fn into_renewed(self) -> Option<RenewedLedger<N>>
         ensures { MatchOption self.entry.renewal (result ≡ None)
             (λ r. IfSome result (λ n. (n.ledger ≡ r.made) × (n.day ≡ r.day))) }

@@ -11,7 +11,7 @@ use crate::due::{DueDays, night_of, what_is_due};
 use log::{Log, warn};
 use mq_ledger::{Ledger, LedgerFault};
 use mq_link::deadline_after;
-use mq_request::bounds::{FIRST_MOMENT, LAST_MOMENT};
+use mq_request::is_moment;
 use mq_store::SqlLedger;
 use sqlite::Alter;
 use std::rt::Clock;
@@ -20,7 +20,9 @@ use std::time::{Duration, Instant, SystemTime, UNIX_EPOCH};
 /// The seconds until another attempt, after a fault.
 const HOUR: u64 = 3_600;
 
-/// How often it is looked whether it is night: zones are quarters of an hour apart. In seconds.
+/// How often it is looked whether it is night, in seconds: at the quarters of an hour of UTC. Most
+/// zones are so many of them from it; by an offset of other minutes a night is seen up to a quarter
+/// of an hour late.
 const QUARTER: u64 = 900;
 
 /// What a lookout sees.
@@ -34,12 +36,12 @@ pub enum Sight {
 
 /// The moment that the clock shows, in seconds since 1970-01-01T00:00:00Z, where it can be read and
 /// shows one of those of a ledger.
-fn moment_of(clock: &impl Clock) -> Option<u64>
+fn moment_of_clock(clock: &impl Clock) -> Option<u64>
     ensures { IfSome result IsMoment }
 {
     let now = SystemTime::now(clock).ok()?;
     let moment = now.duration_since(UNIX_EPOCH).ok()?.as_secs();
-    if moment < FIRST_MOMENT || LAST_MOMENT < moment {
+    if !is_moment(moment) {
         return None;
     }
     Some(moment)
@@ -132,10 +134,11 @@ impl<'a, C: Clock, G: Log> Lookout<'a, C, G> {
         time
     }
 
-    /// There is nothing to do this night.
-    fn rest_a_night(&mut self, night: u32, moment: u64) -> Duration
+    /// There is nothing to do this night. It looks again at the next quarter of an hour.
+    fn rest_to_quarter(&mut self, night: u32, moment: u64) -> Duration
         ensures keep { self.new.keep ≡ self.old.keep }
         ensures done { self.new.done ≡ Some night }
+        ensures quarter { as_nanos result ≡ (900 - moment % 900) * 1_000_000_000 }
     {
         self.done = Some(night);
         let time = time_to_quarter(moment);
@@ -164,21 +167,21 @@ impl<'a, C: Clock, G: Log> Lookout<'a, C, G> {
     {
         let night = night_of(ledger.zone(), moment);
         if self.done == Some(night) {
-            return Sight::Nothing(self.rest_a_night(night, moment));
+            return Sight::Nothing(self.rest_to_quarter(night, moment));
         }
         match due_at(ledger, self.keep, moment) {
             Ok(DueDays::Before(day)) => {
                 self.done = Some(night);
                 Sight::Before(day)
             }
-            Ok(DueDays::Nothing) => Sight::Nothing(self.rest_a_night(night, moment)),
+            Ok(DueDays::Nothing) => Sight::Nothing(self.rest_to_quarter(night, moment)),
             Ok(DueDays::Differs { newest }) => {
                 let today = ledger.zone().day_at(moment);
                 warn!(
                     self.log;
                     "nothing is forgotten: it is day {today}, and something was reserved on day {newest} last"
                 );
-                Sight::Nothing(self.rest_a_night(night, moment))
+                Sight::Nothing(self.rest_to_quarter(night, moment))
             }
             Err(fault) => {
                 warn!(self.log; "days to be forgotten: {fault}; next attempt in an hour");
@@ -189,10 +192,10 @@ impl<'a, C: Clock, G: Log> Lookout<'a, C, G> {
 
     /// Looks whether days of a ledger are due, unless it is to rest still. Nothing is written.
     ///
-    /// Days are due at once, or as a night begins: at 03:00, which it looks for each quarter of an
-    /// hour. A night in which they were due is done, whatever comes to earlier days later in it,
-    /// from a host whose clock is slow. After a fault it rests for an hour. Where clock and newest
-    /// day differ that is logged, once a night.
+    /// Days are due at once, or as a night begins: at 03:00, or up to a quarter of an hour later. A
+    /// night in which they were due is done, whatever comes to earlier days later in it, from a
+    /// host whose clock is slow. After a fault it rests for an hour. Where clock and newest day
+    /// differ that is logged, once a night.
     pub fn look<S: Alter>(&mut self, ledger: &mut SqlLedger<S>) -> Sight
         ensures keep { self.new.keep ≡ self.old.keep }
         ensures lent { (ledger.new.zone ≡ ledger.old.zone)
@@ -213,7 +216,7 @@ impl<'a, C: Clock, G: Log> Lookout<'a, C, G> {
         if let Some(left) = self.time_left() {
             return Sight::Nothing(left);
         }
-        match moment_of(self.clock) {
+        match moment_of_clock(self.clock) {
             Some(moment) => self.look_at(ledger, moment),
             None => {
                 warn!(self.log; "days to be forgotten: no clock; next attempt in an hour");

@@ -15,7 +15,7 @@ use log::Log;
 use mq_connections::{Connections, RoomFault, ServingEnd, serve_connections};
 use mq_server::laws::more_deliveries;
 use mq_store::SqlLedger;
-use mq_watch::{WatchedLedger, Within};
+use mq_watch::{InnerChore, WatchedLedger};
 use sqlite::Alter;
 use std::alloc::Global;
 use std::net::{Net, TcpListener};
@@ -34,9 +34,10 @@ fn outcome_of<N: Alter + Drop>(
 {
     match ended {
         Ok(ServingEnd::Over) => Ok(None),
-        // (without a renewal the chore isn't done)
         Ok(ServingEnd::Chore) => match renewed {
             Some(renewed) => Ok(Some(renewed)),
+            // A chore is done only with a renewal, so this never comes. Of the faults this one says
+            // what would be so: connections may be left that nobody accepts.
             None => Err(RoomFault::Accept),
         },
         Err(fault) => Err(fault),
@@ -119,7 +120,7 @@ pub fn pass_night<R: Clock + Net, G: Log, S: Alter, N: Alter + Drop, P: Parts<N>
         → db ≡ (state N.Store n.ledger.connection).now.trees)) }
 {
     more_deliveries();
-    let mut chore = Within {
+    let mut chore = InnerChore {
         chore: Evening::new(rt, log, alloc, keep, done, parts),
     };
     let ended = serve_connections(
@@ -132,6 +133,6 @@ pub fn pass_night<R: Clock + Net, G: Log, S: Alter, N: Alter + Drop, P: Parts<N>
         &mut chore,
         connections,
     );
-    let Within { chore: evening } = chore;
+    let InnerChore { chore: evening } = chore;
     outcome_of(ended, evening.into_renewed())
 }

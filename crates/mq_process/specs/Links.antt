@@ -3,10 +3,10 @@ use Rattle.std.specs.Prelude.{◌≡◌, ◌*◌, ℕ, List, Option}
 use Rattle.std.specs.Duration.{as_nanos}
 use Rattle.std.specs.declared.net.SocketAddr.{SocketAddr}
 use Rattle.mq_link.specs.declared.link.ReportedExchange.{ReportedExchange}
-use Rattle.mq_link.specs.Exchange.{Route, Standing}
+use Rattle.mq_link.specs.Exchange.{Route, LinkState}
 
 -- a link over TCP leads to this address, and a connection may take so many milliseconds to be made
-pub record LeadsTo {S : Type 0} (link : Standing Route S) (address : SocketAddr) (timeout : ℕ) : Type 0 where
+pub record LeadsTo {S : Type 0} (link : LinkState Route S) (address : SocketAddr) (timeout : ℕ) : Type 0 where
   pub there : link.connector.address ≡ address
   pub in_time : as_nanos link.connector.timeout ≡ timeout * 1000000
 

@@ -1,4 +1,5 @@
 -- What a night leaves, by what its serving gave.
+use Rattle.mq_lemmas.proofs.Lists.{all_but_last}
 use Rattle.std.proofs.Common.{Result, Ok, Err, List, [], ◌∷◌, ◌++◌, Option, Some, None, sym, subst, subst₂}
 use Rattle.std.specs.Prelude.{◌≡◌, ℕ, IfOk, IfSome, IsSomeAnd}
 use Rattle.std.specs.List.{AllByRecursion}
@@ -21,14 +22,9 @@ next_one (Ok (Some d)) None R P Q next has by = absurd next
 next_one (Ok None) night R P Q next has by = tt
 next_one (Err e) night R P Q next has by = tt
 
--- all of a list that one more was added to, and that one
-all_before : {C : Type 0} (P : C → Type 0) (before : List C) (last : C) → AllByRecursion P (before ++ last ∷ []) → AllByRecursion P before × P last
-all_before P [] last all = (tt, all.0)
-all_before P (c ∷ before) last all = let (most, it) = all_before P before last all.1 in ((all.0, most), it)
-
 -- what was closed before had kept its premise, and so had the last, where all that is closed now had
 pub kept_before : {C : Type 0} (P : C → Type 0) (old : Option (List C)) (last : C) (new : Option (List C)) → Closes old last new → AreKept P new → AreKept P old × P last
-kept_before P (Some before) last new closes kept = all_before P before last (subst (AreKept P) closes kept)
+kept_before P (Some before) last new closes kept = all_but_last P before last (subst (AreKept P) closes kept)
 kept_before P None last new closes kept = absurd (subst (AreKept P) closes kept)
 
 -- nights after nights

@@ -1,4 +1,5 @@
 -- What a connection that was opened over files shows, and what a ledger in it begins with.
+use Rattle.mq_store.proofs.Sound.{sound_still}
 use Rattle.std.proofs.Common.{arith, ◌≡◌, ℕ, [], length, Result, sym, ap, subst, ◌∙◌, inl, inr}
 use Rattle.std.specs.Prelude.{false}
 use Rattle.sqlite_trees.specs.Objects.{catalog_tree}
@@ -86,17 +87,6 @@ module _ (zone : Zone) (default : ℕ) (old new : State) (outcome : Result ℕ P
 
   pub serves_from_nothing : (image : Image) → IsMadeIn zone default image old → ServesFromNothing zone default image new outcome
   serves_from_nothing image made none = served_anew (made.empty none)
-
--- a store whose tables stay is as sound as before
-sound_still : (zone : Zone) (default : ℕ) (old new : State) → IsSound zone default old → HasKept new → new.now ≡ old.now → IsSound zone default new
-sound_still zone default old new sound kept now = record {
-  kept = kept;
-  legal = subst (λ (db : Database). IsLegalBook (book_in zone default db)) (sym now) sound.legal;
-  tables = sound.tables;
-  holds = subst (λ (db : Database). HasLedger db sound.tables) (sym now) sound.holds;
-  rows = subst (λ (db : Database). AreRows (book_in zone default db) sound.tables) (sym now) sound.rows;
-  current = sound.current;
-}
 
 -- an audit leaves the ledger as it was
 pub means_still : (zone : Zone) (default : ℕ) (image : Image) (old new : State) → HasKept new → new.now ≡ old.now → MeansFile zone default image old → MeansFile zone default image new

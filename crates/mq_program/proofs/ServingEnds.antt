@@ -1,4 +1,5 @@
 -- The end of a serving, as the program reports it.
+use Rattle.mq_nights.proofs.Ends.{ends_as}
 use Rattle.std.proofs.Common.{◌≡◌, ◌∙◌, ℕ, Result, Ok, Err, sym}
 use Rattle.mq_lemmas.proofs.Options.{ok_not}
 use Rattle.mq_connections.specs.declared.fault.RoomFault.{RoomFault}
@@ -7,17 +8,6 @@ use Rattle.mq_connections.specs.Sessions.{EndsServing, Outside}
 use Rattle.mq_program.specs.declared.fault.ProgramFault.{ProgramFault}
 use Rattle.mq_ledger.specs.declared.ledger.LedgerFault.{LedgerFault}
 use Rattle.mq_program.specs.declared.fault.ProgramFault.TheVariants.{Audit, Listen, Serve}
-
--- a failed store under another name
-ends_as : {A B E F : Type 0} (old new : Outside) (store : E) (r : Result A E) (failed : F) (q : Result B F) → EndsServing old new store r → (r ≡ Err store → q ≡ Err failed) → (q ≡ Err failed → r ≡ Err store) → EndsServing old new failed q
-ends_as old new store r failed q e to back = record {
-  failed = e.failed;
-  served = e.served;
-  stops = λ some. to (e.stops some);
-  only = λ is. e.only (back is);
-  at = e.at;
-  offered = e.offered;
-}
 
 listen_not : {A : Type 0} (q : Result A ProgramFault) → q ≡ Err Listen → q ≡ Err (Serve Store) → ⊥
 listen_not q listen is = cc

@@ -4,9 +4,8 @@ use Rattle.std.specs.List.{AllByRecursion}
 use Rattle.sqlite.specs.State.{State}
 use Rattle.mq_request.specs.declared.message.Request.{Request}
 use Rattle.mq_ledger.specs.declared.zone.Zone.{Zone}
-use Rattle.mq_ledger.specs.Day.{day_of}
 use Rattle.mq_ledger.specs.Legal.{Book}
-use Rattle.mq_forget.specs.Remembered.{remembered}
+use Rattle.mq_forget.specs.Remembered.{remembered_book}
 use Rattle.mq_connections.specs.Sessions.{HaveServed, Outside}
 use Rattle.mq_connections.specs.Wires.{unknown}
 use Rattle.mq_store.specs.Soundness.{book_in, IsSound}
@@ -30,15 +29,11 @@ around b = record { book = b; told = None; wires = unknown }
 abbrev pub AreServed : Book → Book → Type 0
 AreServed old new = (failed : Option Request) × HaveServed (around old) (around new) failed
 
--- what is remembered of it from a day on
-abbrev pub remembering : ℕ → Book → Book
-remembering day b = record { zone = b.zone; default = b.default; history = remembered (day_of b.zone) day b.history }
-
 -- From the first book on, night after night: connections were served, and then what isn't remembered from a day on was
 -- forgotten.
 pub data AfterNights (start : Book) : Book → Type 0 where
   Begun : AfterNights start start
-  Night : (b grown : Book) (day : ℕ) → AfterNights start b → AreServed b grown → AfterNights start (remembering day grown)
+  Night : (b grown : Book) (day : ℕ) → AfterNights start b → AreServed b grown → AfterNights start (remembered_book day grown)
 
 -- the same, and then connections were served
 pub record ServesNights (start now : Book) : Type 0 where

@@ -108,7 +108,8 @@ pub fn audit_ledger<S: Alter, W: Write>(
     print(output, line.as_bytes())
 }
 
-/// Writes all bytes, or a prefix of them before a write fails.
+/// Writes all bytes, or a prefix of them before a write fails, and flushes the output. A write or a
+/// flush that fails is `ProgramFault::Write`.
 pub(crate) fn print<W: Write>(output: &mut W, bytes: &[u8]) -> Result<(), ProgramFault>
     ensures whole { OnOk result (Appends (W.contents output.old)
         (W.contents output.new) bytes.now) }

@@ -31,18 +31,19 @@ pub enum ProgramFault {
     /// It isn't done before a ledger is opened.
     #[error("{0}")]
     Process(ProcessFault),
-    /// The database file, for another cause than memory.
+    /// A file of the ledger can't be opened, made, looked at, locked, removed, renamed or closed. For
+    /// the last four want of memory counts as this too; for the others it is `Memory`.
     #[error("store can't be opened")]
     Store,
     #[error("{0}")]
     Open(OpenFault),
-    /// There is no file to audit, or to forget days of.
+    /// The settings keep the ledger in memory, and the subcommand needs its file.
     #[error("store is memory")]
     MemoryStore,
     /// The file of the ledger that is to be made is there.
     #[error("file exists")]
     Exists,
-    /// The day up to which is forgotten is after today.
+    /// The first day that is to be kept is after today.
     #[error("day is after today")]
     Later,
     /// The rows of an open ledger weren't read to their end.

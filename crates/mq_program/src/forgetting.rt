@@ -260,7 +260,7 @@ where
             Ok(()) => Ok(old),
             Err(fault) => {
                 // (nobody else knows of the new file)
-                log_left(log, name);
+                log_files_to_remove(log, name);
                 Err(fault)
             }
         },
@@ -268,14 +268,14 @@ where
             if let ProgramFault::Open(OpenFault::Store(cause)) = &fault {
                 error!(log; "{name}, made of {path}: {cause}");
             }
-            log_left(log, name);
+            log_files_to_remove(log, name);
             Err(fault)
         }
     }
 }
 
 /// Logs which files of a `forget` that failed have to be removed.
-fn log_left<G: Log>(log: &G, name: &str) {
+fn log_files_to_remove<G: Log>(log: &G, name: &str) {
     error!(log; "remove {name} and {name}-wal");
 }
 

@@ -14,7 +14,8 @@ pub trait ProgressListener {
     fn begin(&self, answers: u64);
 }
 
-/// Standard error, where it is a terminal; else nobody.
+/// Standard error, where it is a terminal; else nobody. A line that can't be written is left out,
+/// since the command does its work all the same.
 #[derive(Drop)]
 pub struct Terminal<'a, R> {
     rt: &'a R,

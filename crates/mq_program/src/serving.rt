@@ -363,6 +363,7 @@ where
     info!(log; "listening on {address} for {crowd}");
     let timeout = Duration::from_millis(u64::from(settings.timeout));
     let mut left = connections;
+    // (it is `ServingEnd::Over`: there is no chore that could be done)
     let _ended = serve_connections(
         rt,
         log,

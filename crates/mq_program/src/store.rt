@@ -51,7 +51,8 @@ pub fn memory_ledger(
     Ok(SqlLedger::in_memory(alloc, zone, default)?)
 }
 
-/// Logs why a database file can't be had.
+/// Logs why a file of the ledger can't be opened, made, renamed or closed; the fault is
+/// `ProgramFault::Store`.
 pub fn unopened<G: Log, C: std::fmt::Display + Drop>(log: &G, path: &str, cause: C) -> ProgramFault
     ensures { result ≡ ProgramFault.Store }
 {
@@ -69,6 +70,7 @@ fn make_empty<R: Files<File = File> + AllocGlobal>(rt: &R, path: &str) -> io::Re
     match give_to_owner(rt, &file, path) {
         Ok(()) => Ok(()),
         Err(cause) => {
+            // (what is told is why it isn't made, also where it stays)
             let _ = fs::remove_file(rt, path);
             Err(cause)
         }

@@ -3,9 +3,10 @@
 //! A renewal fills `LEDGER.part`, and then that file takes the place of `LEDGER`:
 //!
 //! 1. `LEDGER` gets the name `LEDGER.old`, while it is open still, and is closed then. A
-//! `LEDGER.old-wal` is removed before. 2. `LEDGER.part` gets the name `LEDGER.next`: from then on
-//! the new ledger is whole by its name. 3. `LEDGER.part-wal` becomes `LEDGER-wal`. 4. `LEDGER.next`
-//! becomes `LEDGER`.
+//!    `LEDGER.old-wal` is removed before.
+//! 2. `LEDGER.part` gets the name `LEDGER.next`: from then on the new ledger is whole by its name.
+//! 3. `LEDGER.part-wal` becomes `LEDGER-wal`.
+//! 4. `LEDGER.next` becomes `LEDGER`.
 //!
 //! The folder is synced after each step. So what a kill or a power cut leaves says how far it came,
 //! and there is no file `LEDGER` that could be opened beside the log of another one. Whoever opens
@@ -43,15 +44,15 @@ pub type PartStore = FileStore<FileFrom<Unknown>>;
 #[derive(Drop)]
 pub struct Names {
     pub ledger: String,
-    /// The log of the ledger.
-    pub log: String,
-    /// The ledger that was served before the last switch, and a log that was left beside it by
-    /// hand.
+    /// The ledger's write-ahead log.
+    pub wal: String,
+    /// The ledger that was served before the last switch, and a write-ahead log that was left
+    /// beside it by hand.
     pub old: String,
-    pub old_log: String,
-    /// The ledger that a renewal fills, and its log.
+    pub old_wal: String,
+    /// The ledger that a renewal fills, and its write-ahead log.
     pub part: String,
-    pub part_log: String,
+    pub part_wal: String,
     /// The new ledger, which is whole.
     pub next: String,
 }
@@ -61,11 +62,11 @@ impl Names {
     pub fn new(alloc: Global, ledger: &str) -> Result<Names, AllocError> {
         Ok(Names {
             ledger: String::from_str(alloc, ledger)?,
-            log: format!(in alloc; "{ledger}-wal")?,
+            wal: format!(in alloc; "{ledger}-wal")?,
             old: format!(in alloc; "{ledger}.old")?,
-            old_log: format!(in alloc; "{ledger}.old-wal")?,
+            old_wal: format!(in alloc; "{ledger}.old-wal")?,
             part: format!(in alloc; "{ledger}.part")?,
-            part_log: format!(in alloc; "{ledger}.part-wal")?,
+            part_wal: format!(in alloc; "{ledger}.part-wal")?,
             next: format!(in alloc; "{ledger}.next")?,
         })
     }
@@ -96,7 +97,8 @@ fn rename<R: Files + AllocGlobal>(rt: &R, from: &str, to: &str) -> io::Result<()
     sync_folder(rt, to)
 }
 
-/// The same; why it can't be renamed is logged.
+/// Gives a file another name in its folder, and syncs that. The cause of `ProgramFault::Store` is
+/// logged.
 fn move_file<R: Files + AllocGlobal, G: Log>(
     rt: &R,
     log: &G,
@@ -170,8 +172,8 @@ fn finish<R: Files + AllocGlobal, G: Log>(
     names: &Names,
 ) -> Result<(), ProgramFault> {
     // (a log that can't be looked at is never left behind: its answers would be lost)
-    if !is_missing(rt, names.part_log.as_str()) {
-        move_file(rt, log, names.part_log.as_str(), names.log.as_str())?;
+    if !is_missing(rt, names.part_wal.as_str()) {
+        move_file(rt, log, names.part_wal.as_str(), names.wal.as_str())?;
     }
     move_file(rt, log, names.next.as_str(), names.ledger.as_str())
 }
@@ -244,7 +246,7 @@ pub fn repair_switch<R: Files<File = File> + AllocGlobal, G: Log>(
 /// Removes what a renewal has left of its file, the log first, and a name that no switch came to
 /// use.
 fn remove_part<R: Files + AllocGlobal>(rt: &R, names: &Names) -> io::Result<()> {
-    remove(rt, names.part_log.as_str())?;
+    remove(rt, names.part_wal.as_str())?;
     remove(rt, names.part.as_str())?;
     remove(rt, names.next.as_str())
 }
@@ -321,19 +323,19 @@ pub fn clear_part<R: Files<File = File> + AllocGlobal, G: Log>(rt: &R, log: &G, 
     }
 }
 
-/// Removes a log that a `forget` by hand has left: it is of an earlier file than the one that gets
-/// the name beside it. One that can't be removed is logged.
-fn remove_old_log<R: Files + AllocGlobal, G: Log>(rt: &R, log: &G, names: &Names) {
-    let old_log = names.old_log.as_str();
-    if let Err(cause) = remove(rt, old_log) {
-        warn!(log; "{old_log}: {cause}");
+/// Removes a write-ahead log that a `forget` by hand has left: it is of an earlier file than the one
+/// that gets the name beside it. One that can't be removed is logged.
+fn remove_old_wal<R: Files + AllocGlobal, G: Log>(rt: &R, log: &G, names: &Names) {
+    let old_wal = names.old_wal.as_str();
+    if let Err(cause) = remove(rt, old_wal) {
+        warn!(log; "{old_wal}: {cause}");
     }
 }
 
 /// Looks whether the new ledger and its log still have their names, before the former one loses its
 /// own.
 fn check_part<R: Files, G: Log>(rt: &R, log: &G, names: &Names) -> Result<(), ProgramFault> {
-    for name in [names.part.as_str(), names.part_log.as_str()] {
+    for name in [names.part.as_str(), names.part_wal.as_str()] {
         if !is_there(rt, name) {
             return Err(unopened(log, name, "it was removed"));
         }
@@ -342,7 +344,8 @@ fn check_part<R: Files, G: Log>(rt: &R, log: &G, names: &Names) -> Result<(), Pr
 }
 
 /// Lets the new ledger, which this process has open, take the place of the one that this connection
-/// is to. The cause of `ProgramFault::Store` is logged; the next start then does the rest.
+/// is to. The cause of `ProgramFault::Store` is logged; what was begun by then, the next start
+/// undoes or finishes.
 pub fn switch<R: Files + AllocGlobal, G: Log, S: Start>(
     rt: &R,
     log: &G,
@@ -350,7 +353,7 @@ pub fn switch<R: Files + AllocGlobal, G: Log, S: Start>(
     old: Connection<FileStore<FileFrom<S>>>,
 ) -> Result<(), ProgramFault> {
     check_part(rt, log, names)?;
-    remove_old_log(rt, log, names);
+    remove_old_wal(rt, log, names);
     move_file(rt, log, names.ledger.as_str(), names.old.as_str())?;
     close_file(log, names.old.as_str(), old)?;
     move_file(rt, log, names.part.as_str(), names.next.as_str())?;

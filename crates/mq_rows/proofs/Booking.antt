@@ -6,6 +6,7 @@ use Rattle.std.proofs.lemmas.List.Folds.{find-append, list_all-append, list_any-
 use Rattle.std.proofs.Math.Bool.{and-true}
 use Rattle.std.proofs.lemmas.List.Elements.{filter-append}
 use Rattle.mq_rows.proofs.Lists.{or_none}
+use Rattle.mq_ledger.proofs.Basics.{any_in as passes_in}
 
 -- Pairs.
 
@@ -126,11 +127,6 @@ any_in : (test : Pair → Bool) (p : Pair) → ((q : Pair) → test q ≡ true �
 any_in test p one [] h = absurd (cc h)
 any_in test p one (q ∷ ps) h = elim (either (test q)) [ inl t ↦ inl (one q t) | inr f ↦ inr (any_in test p one ps (rw f at h)) ]
 
-in_any : (test : Pair → Bool) (p : Pair) → test p ≡ true → (ps : List Pair) → In p ps → list_any test ps ≡ true
-in_any test p t [] i = absurd i
-in_any test p t (q ∷ ps) (inl e) = (let u : test q ≡ true = ap test e ∙ t in rw u refl)
-in_any test p t (q ∷ ps) (inr i) = elim (either (test q)) [ inl u ↦ rw u refl | inr f ↦ rw f (in_any test p t ps i) ]
-
 -- the test of the keys
 abbrev at : Pair → Pair → Bool
 at p q = is_eq (pair_cmp p q)
@@ -141,7 +137,7 @@ kept_is p (e ∷ es) = elim (either (at p e.0)) [ inl t ↦ rw t refl | inr f �
 
 module _ (ps : List Pair) (m : BTreeMap Pair Day) (has : HasPairs ps m) where
   pub keys_in_rows : (p : Pair) → In p (keys m) → In p ps
-  keys_in_rows p i = any_in (same_pair p) p (λ q t. sym (pair_is p q t)) ps (sym (has p) ∙ kept_is p m.entries ∙ in_any (at p) p (pair_tied p p ∙ pair_itself p) (keys m) i)
+  keys_in_rows p i = any_in (same_pair p) p (λ q t. sym (pair_is p q t)) ps (sym (has p) ∙ kept_is p m.entries ∙ passes_in (at p) (keys m) p i (pair_tied p p ∙ pair_itself p))
 
   pub rows_in_keys : (p : Pair) → In p ps → In p (keys m)
-  rows_in_keys p i = any_in (at p) p (λ q t. pair_is q p (sym (pair_tied q p) ∙ t)) (keys m) (sym (kept_is p m.entries) ∙ has p ∙ in_any (same_pair p) p (pair_itself p) ps i)
+  rows_in_keys p i = any_in (at p) p (λ q t. pair_is q p (sym (pair_tied q p) ∙ t)) (keys m) (sym (kept_is p m.entries) ∙ has p ∙ passes_in (same_pair p) ps p i (pair_itself p))

@@ -1,11 +1,11 @@
 -- A retire closes transactions, one after another.
 use Rattle.std.proofs.Common.{◌≡◌, ℕ, ◌+◌, ◌-◌, ◌≤◌, List, [], ◌∷◌, ◌++◌, Bool, true, false, refl, ◌∙◌, ap, sym, subst, inl, inr, arith, filter, find, not, ◌&&◌, ◌||◌, ◌==◌, ◌⊎◌, nat_lt, nat_le, if◌then◌else◌, Option, Some, None, option_map}
-use Rattle.mq_rows.proofs.Words.{AllByRecursion, AreTransactions, AreUsage, Entry, Has, Id, Leads, Retire, Transaction, TransactionRecord, Update, UsageRecord, abandoned_row, closed, either, first_so, fits, freed, has_reserve, held, if_zero, is_not, is_transaction, is_usage, key_of, named, nat_tests, number_is, number_itself, option_cases, or_false, or_true, reserved, retire_entry, retires, same_day, same_key, same_text, second_so, set_transaction, set_usage, settled_in, sum_by-cons, sum_by_pushed, those, transaction_of, transaction_row, used}
+use Rattle.mq_rows.proofs.Words.{AllByRecursion, AreTransactions, AreUsage, Entry, Id, In, Leads, Retire, Transaction, TransactionRecord, Update, UsageRecord, abandoned_row, all_at, closed, either, first_so, fits, freed, has_reserve, held, if_zero, is_not, is_transaction, is_usage, key_of, named, nat_tests, number_is, number_itself, option_cases, or_false, or_true, reserved, retire_entry, retires, same_day, same_key, same_text, second_so, set_transaction, set_usage, settled_in, sum_by-cons, sum_by_pushed, those, transaction_of, transaction_row, used}
 use Rattle.std.proofs.lemmas.Option.{cond_some}
 use Rattle.mq_ledger.specs.History.{granted_in}
 use Rattle.mq_ledger.proofs.Transactions.{transaction_is}
 use Rattle.mq_rows.proofs.Lists.{find_of_those, updated, parted, Parted, update, or_none, place_itself, usages}
-use Rattle.mq_rows.proofs.RowSums.{is_on, total, summed_row, IsRowOf, row_of, agreed, day_is, all_at, Laws, held_total, settled_total, summed_is, key_row}
+use Rattle.mq_rows.proofs.RowSums.{is_on, total, summed_row, IsRowOf, row_of, agreed, day_is, Laws, held_total, settled_total, summed_is, key_row}
 use Rattle.mq_rows.proofs.Trans.{Ledger, rows_same, standing_same, still}
 
 -- the transaction is open, and the retire retires its run
@@ -67,7 +67,7 @@ module _ (day : ℕ → ℕ) (default : ℕ) (L : Ledger day default) (H : List 
       let c : closed H' (key_of was) ≡ true = L.closed_more H (retire_entry id) (key_of was) ∙ ap (λ b. b || (closed H (key_of was) || false)) gone in
       let clash : true ≡ false = sym c ∙ ap (λ (x : TransactionRecord). x.closed) is.row ∙ still in cc
 
-  module _ (R : Laws day H) (rows : List TransactionRecord) (usage : List UsageRecord) (b : AreRetiring day H id rows usage) (was : TransactionRecord) (there : Has rows was) (open_so : is_to_close id was ≡ true) where
+  module _ (R : Laws day H) (rows : List TransactionRecord) (usage : List UsageRecord) (b : AreRetiring day H id rows usage) (was : TransactionRecord) (there : In was rows) (open_so : is_to_close id was ≡ true) where
     abbrev k : Transaction
     k = key_of was
 
@@ -243,7 +243,7 @@ module _ (day : ℕ → ℕ) (default : ℕ) (L : Ledger day default) (H : List 
             rows_same day H H' t n h s c)
       ]
 
-  has_head : {X : Type 0} (p : X → Bool) (xs : List X) (x : X) → filter p xs ≡ x ∷ [] → Has xs x
+  has_head : {X : Type 0} (p : X → Bool) (xs : List X) (x : X) → filter p xs ≡ x ∷ [] → In x xs
   has_head p [] x h = absurd (cc h)
   has_head p (y ∷ xs) x h = elim (either (p y)) [
     | inl t ↦ (let h' : y ∷ filter p xs ≡ x ∷ [] = rw t at h in let e : y ≡ x = cc h' in inl e)

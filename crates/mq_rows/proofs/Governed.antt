@@ -6,7 +6,8 @@ use Rattle.std.specs.declared.ops.Bound.TheVariants.{Included, Unbounded}
 use Rattle.mq_rows.specs.Audit.{is_due}
 use Rattle.mq_rows.proofs.Booking.{pair_is, pair_itself, texts_tied}
 use Rattle.mq_rows.proofs.Choosing.{Chooses, IsBest, IsNew, best_of}
-use Rattle.mq_rows.proofs.Lists.{found, mapped_from}
+use Rattle.mq_rows.proofs.Lists.{mapped_from}
+use Rattle.mq_ledger.proofs.Basics.{found}
 
 -- Tests of whole numbers.
 
@@ -164,15 +165,15 @@ module _ (p : Pair) (limits : List LimitFigures) (m : BTreeMap Pair ℤ) (has : 
     own : (default : ℕ) → e.0.login ≡ p.login → (c : LimitFigures) → find (λ x. same_pair e.0 x.pair) limits ≡ Some c → c.cap ≡ e.1 → (g : Option LimitFigures) → IsLatest p limits g → e.1 ≡ cap_or default g
     own default same c there cap_is None best =
         let f = found (λ x. same_pair e.0 x.pair) limits c there in
-        let due : is_due p c ≡ true = due_at c same (pair_is e.0 c.pair f.passes) in
-        let not_due : is_due p c ≡ false = all_at (λ x. is_due p x ≡ false) limits c best.1 f.among in
+        let due : is_due p c ≡ true = due_at c same (pair_is e.0 c.pair f.1) in
+        let not_due : is_due p c ≡ false = all_at (λ x. is_due p x ≡ false) limits c best.1 f.0 in
         absurd (cc (due, not_due))
     own default same c there cap_is (Some g) best = elim best.0 [
       | inl x ↦ absurd (cc x)
       | inr n ↦ (let f = found (λ x. same_pair e.0 x.pair) limits c there in
-          let at : e.0 ≡ c.pair = pair_is e.0 c.pair f.passes in
+          let at : e.0 ≡ c.pair = pair_is e.0 c.pair f.1 in
           let d = due_parts g n.passing in
-          let below : c.pair.day ≤ℤ g.pair.day = lt_not g.pair.day c.pair.day (all_at (λ o. is_due p o ≡ true → is_above o g ≡ false) limits c best.1 f.among (due_at c same at)) in
+          let below : c.pair.day ≤ℤ g.pair.day = lt_not g.pair.day c.pair.day (all_at (λ o. is_due p o ≡ true → is_above o g ≡ false) limits c best.1 f.0 (due_at c same at)) in
           let not_less : is_lt (pair_cmp e.0 g.pair) ≡ false = range.4 e t last g.pair (tt, due_in_range g n.passing) (some_is_some _ g.cap (new_is_there g n)) in
           let above : g.pair.day ≤ℤ e.0.day = not_before e.0.day g.pair.day (ap is_lt (sym (by_day e.0 g.pair (same ∙ d.0))) ∙ not_less) in
           let day : e.0.day ≡ c.pair.day = ap (λ (q : Pair). q.day) at in

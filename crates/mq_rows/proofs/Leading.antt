@@ -1,6 +1,6 @@
 -- Closing one after another all that a retire gives up.
 use Rattle.std.proofs.Common.{◌≡◌, ℕ, ◌≤◌, List, [], ◌∷◌, ◌++◌, Bool, true, false, refl, ◌∙◌, ap, sym, subst, inl, inr, filter, find, not, Option, Some, None, IsPermutation}
-use Rattle.mq_rows.proofs.Words.{AllByRecursion, Entry, Has, Id, Insert, IsOneIn, IsPermutation-filter, IsPermutation-sym, IsPermutation-trans, Keep, Leads, LeadsAll, TransactionRecord, Update, UsageRecord, abandoned_row, all-permutation, all_weaker, either, filter_all, fits, freed, is_transaction, is_usage, key_of, same_day, same_key, set_transaction, set_usage, those, used}
+use Rattle.mq_rows.proofs.Words.{AllByRecursion, Entry, Id, In, Insert, IsOneIn, IsPermutation-filter, IsPermutation-sym, IsPermutation-trans, Keep, Leads, LeadsAll, TransactionRecord, Update, UsageRecord, abandoned_row, all-permutation, all_filter, all_weaker, either, filter_all, filter_none, fits, freed, is_transaction, is_usage, key_of, same_day, same_key, set_transaction, set_usage, those, used}
 use Rattle.mq_rows.specs.declared.plan.Write.{Write}
 use Rattle.mq_ledger.proofs.Transactions.{transaction_itself}
 use Rattle.mq_rows.proofs.Closing.{is_to_close, AreRetiring, one_closed, closing_fits}
@@ -16,26 +16,17 @@ leads_on same set (Update new) rows P Q more h = record { was = h.was; rest = h.
 
 -- those of a filter were there, and pass
 module _ {R : Type 0} (p : R → Bool) where
-  every : (rows : List R) → AllByRecursion (λ x. Has rows x × (p x ≡ true)) (filter p rows)
+  every : (rows : List R) → AllByRecursion (λ x. In x rows × (p x ≡ true)) (filter p rows)
   every [] = tt
   every (y ∷ rows) =
-      let later = all_weaker (λ x. Has rows x × (p x ≡ true)) (λ x. Has (y ∷ rows) x × (p x ≡ true)) (λ x h. (inr h.0, h.1)) (filter p rows) (every rows) in
+      let later = all_weaker (λ x. In x rows × (p x ≡ true)) (λ x. In x (y ∷ rows) × (p x ≡ true)) (λ x h. (inr h.0, h.1)) (filter p rows) (every rows) in
       elim (either (p y)) [ inl t ↦ rw t ((inl refl, t), later) | inr f ↦ rw f later ]
-
-  -- what fails another test all along fails it in a filter
-  kept_all : (q : R → Bool) (rows : List R) → AllByRecursion (λ x. q x ≡ false) rows → AllByRecursion (λ x. q x ≡ false) (filter p rows)
-  kept_all q [] h = tt
-  kept_all q (y ∷ rows) h = elim (either (p y)) [ inl t ↦ rw t (h.0, kept_all q rows h.1) | inr f ↦ rw f (kept_all q rows h.1) ]
 
   filter_head : (x : R) (xs : List R) → p x ≡ true → filter p (x ∷ xs) ≡ x ∷ filter p xs
   filter_head x xs t = rw t refl
 
   filter_past : (x : R) (xs : List R) → p x ≡ false → filter p (x ∷ xs) ≡ filter p xs
   filter_past x xs f = rw f refl
-
-  none_kept : (xs : List R) → AllByRecursion (λ x. p x ≡ false) xs → filter p xs ≡ []
-  none_kept [] h = refl
-  none_kept (x ∷ xs) h = rw (h.0, none_kept xs h.1)
 
 none_left : {R : Type 0} (ys : List R) → filter (λ _. true) ys ≡ [] → ys ≡ []
 none_left [] h = refl
@@ -51,14 +42,14 @@ module _ {R : Type 0} (q : R → Bool) (x : R) (is : q x ≡ true) where
 
   pub tails : (xs ys : List R) → AllByRecursion (λ r. q r ≡ false) ys → IsPermutation (x ∷ xs) (x ∷ ys) → IsPermutation xs ys
   tails xs ys apart same =
-      let one : filter q (x ∷ ys) ≡ those (Some x) = filter_head q x ys is ∙ ap (λ l. x ∷ l) (none_kept q ys apart) in
+      let one : filter q (x ∷ ys) ≡ those (Some x) = filter_head q x ys is ∙ ap (λ l. x ∷ l) (filter_none q ys apart) in
       let back : filter q (x ∷ xs) ≡ those (Some x) = in_any_order q (x ∷ ys) (x ∷ xs) (IsPermutation-sym _ _ same) (Some x) one in
       let none : filter q xs ≡ [] = (let e : x ∷ filter q xs ≡ x ∷ [] = sym (filter_head q x xs is) ∙ back in cc e) in
       let left : filter others (x ∷ xs) ≡ xs = filter_past others x xs (ap not is) ∙ filter_all others xs (not_so q xs (none_pass q xs none)) in
       let right : filter others (x ∷ ys) ≡ ys = filter_past others x ys (ap not is) ∙ filter_all others ys (not_so q ys apart) in
       subst (λ l. IsPermutation l ys) left (subst (λ l. IsPermutation (filter others (x ∷ xs)) l) right (IsPermutation-filter others (x ∷ xs) (x ∷ ys) same))
 
-none_found : {R : Type 0} (p : R → Bool) (rows : List R) → AllByRecursion (λ r. p r ≡ false) rows → find p rows ≡ None
+pub none_found : {R : Type 0} (p : R → Bool) (rows : List R) → AllByRecursion (λ r. p r ≡ false) rows → find p rows ≡ None
 none_found p [] h = refl
 none_found p (r ∷ rows) h = rw h.0 (none_found p rows h.1)
 
@@ -82,24 +73,24 @@ module _ (day : ℕ → ℕ) (default : ℕ) (L : Ledger day default) (H : List 
   close = is_to_close id
 
   -- what is left to close
-  left_over : (rest rows : List TransactionRecord) (was w : TransactionRecord) (others : List TransactionRecord) → IsPermutation (was ∷ rest) (filter close rows) → Has rows was → close was ≡ true
+  left_over : (rest rows : List TransactionRecord) (was w : TransactionRecord) (others : List TransactionRecord) → IsPermutation (was ∷ rest) (filter close rows) → In was rows → close was ≡ true
       → IsPermutation (w ∷ others) rows → is_transaction (key_of was) w ≡ true → AllByRecursion (λ r. is_transaction (key_of was) r ≡ false) others
       → IsPermutation rest (filter close (set_transaction (abandoned_row was) w ∷ others))
   left_over rest rows was w others same there so order own alone =
       let q = is_transaction (key_of was) in
-      let one : filter q (w ∷ others) ≡ those (Some w) = filter_head q w others own ∙ ap (λ l. w ∷ l) (none_kept q others alone) in
+      let one : filter q (w ∷ others) ≡ those (Some w) = filter_head q w others own ∙ ap (λ l. w ∷ l) (filter_none q others alone) in
       let all : filter q rows ≡ those (Some w) = in_any_order q (w ∷ others) rows order (Some w) one in
       let is : was ≡ w = (let e = key_row rows was (Some w) all there in cc e) in
       let so' : close w ≡ true = ap close (sym is) ∙ so in
       let kept : filter close (w ∷ others) ≡ was ∷ filter close others = filter_head close w others so' ∙ ap (λ x. x ∷ filter close others) (sym is) in
       let both : IsPermutation (was ∷ rest) (was ∷ filter close others) =
       subst (IsPermutation (was ∷ rest)) kept (IsPermutation-trans _ _ _ same (IsPermutation-sym _ _ (IsPermutation-filter close (w ∷ others) rows order))) in
-      let left : IsPermutation rest (filter close others) = tails q was (transaction_itself (key_of was)) rest (filter close others) (kept_all close q others alone) both in
+      let left : IsPermutation rest (filter close others) = tails q was (transaction_itself (key_of was)) rest (filter close others) (all_filter (λ r. q r ≡ false) close others alone) both in
       subst (IsPermutation rest) (sym (filter_past close (set_transaction (abandoned_row was) w) others refl)) left
 
   -- the first of those that are left is there
-  first_is : (was : TransactionRecord) (rest rows : List TransactionRecord) → IsPermutation (was ∷ rest) (filter close rows) → Has rows was × (close was ≡ true)
-  first_is was rest rows same = (all-permutation (λ x. Has rows x × (close x ≡ true)) (filter close rows) (was ∷ rest) (IsPermutation-sym _ _ same) (every close rows)).0
+  first_is : (was : TransactionRecord) (rest rows : List TransactionRecord) → IsPermutation (was ∷ rest) (filter close rows) → In was rows × (close was ≡ true)
+  first_is was rest rows same = (all-permutation (λ x. In x rows × (close x ≡ true)) (filter close rows) (was ∷ rest) (IsPermutation-sym _ _ same) (every close rows)).0
 
   own_found : (was : TransactionRecord) (rows : List TransactionRecord) (usage : List UsageRecord) → AreRetiring day H id rows usage → (u : Option UsageRecord) → IsOneIn (is_usage was.login was.day) usage u → u ≡ find (is_usage was.login was.day) usage
   own_found was rows usage b u one = one_found (is_usage was.login was.day) usage u (summed_row day H rows was.login was.day) (b.days was.login was.day) one

@@ -1,7 +1,8 @@
 -- Rows that stand under a key at most once.
 use Rattle.std.proofs.Common.{ap, subst, swap, ◌≡◌, ℕ, zero, suc, ◌<◌, List, [], ◌∷◌, Bool, true, false, refl, ◌∙◌, sym, inl, inr, arith, length, get_or, find, filter, Option, Some, None, IsPermutation, ◌&&◌, ◌==◌, map, option_map, Contains, slice_index_or, All}
-use Rattle.mq_rows.proofs.Words.{all_at, recursion_from_All, AllByRecursion, Has, In, Inserts, IsPermutation-append_comm, IsPermutation-append_left, IsPermutation-cons, IsPermutation-keeps, IsPermutation-refl, IsPermutation-sym, IsPermutation-trans, LimitRecord, RetiredRecord, Transaction, TransactionRecord, Updates, UsageRecord, either, first_so, key_of, number_is, number_itself, option_or, same_text, same_transaction, second_so, set, set_limit, set_run, set_transaction, set_usage, text_is, text_itself, those}
+use Rattle.mq_rows.proofs.Words.{AllByRecursion, In, Inserts, IsPermutation-append_comm, IsPermutation-append_left, IsPermutation-cons, IsPermutation-keeps, IsPermutation-refl, IsPermutation-sym, IsPermutation-trans, LimitRecord, RetiredRecord, Transaction, TransactionRecord, Updates, UsageRecord, all_at, all_filter, either, first_so, key_of, number_is, number_itself, option_or, recursion_from_All, same_text, same_transaction, second_so, set, set_limit, set_run, set_transaction, set_usage, text_is, text_itself, those, weaker}
 use Rattle.mq_ledger.proofs.Transactions.{transaction_is, transaction_itself}
+use Rattle.mq_ledger.proofs.Basics.{found}
 
 -- The rows of a key.
 
@@ -21,11 +22,12 @@ pub one_of_those : {R : Type 0} (x : R) (rest : List R) (o : Option R) → x ∷
 one_of_those x rest None h = cc
 one_of_those x rest (Some r) h = (cc, cc)
 
-none_passes : {R : Type 0} (p : R → Bool) (P : R → Type 0) (rows : List R) → filter p rows ≡ [] → AllByRecursion (λ r. p r ≡ true → P r) rows
-none_passes p P [] h = tt
-none_passes p P (x ∷ rows) h = elim (either (p x)) [
+-- no row passes where none is kept
+pub none_pass : {R : Type 0} (p : R → Bool) (rows : List R) → filter p rows ≡ [] → AllByRecursion (λ r. p r ≡ false) rows
+none_pass p [] h = tt
+none_pass p (x ∷ rows) h = elim (either (p x)) [
   | inl t ↦ (let h' : x ∷ filter p rows ≡ [] = rw t at h in absurd (cc h'))
-  | inr f ↦ (let h' : filter p rows ≡ [] = rw f at h in ((λ t. absurd (cc (f, t))), none_passes p P rows h'))
+  | inr f ↦ (f, none_pass p rows (rw f at h))
 ]
 
 -- a row that passes is the one that is found
@@ -33,8 +35,11 @@ pub those_are_found : {R : Type 0} (p : R → Bool) (rows : List R) (o : Option 
 those_are_found p [] o h = tt
 those_are_found {R} p (x ∷ rows) o h = elim (either (p x)) [
   | inl t ↦ (let h' : x ∷ filter p rows ≡ those o = rw t at h in
-      let hit : Some x ≡ find p (x ∷ rows) = rw t refl in
-      ((λ _. hit), none_passes p (λ r. Some r ≡ find p (x ∷ rows)) rows (one_of_those x (filter p rows) o h').1))
+      let hit : Some x ≡ find p (x ∷ rows) = rw t refl in (
+        (λ _. hit),
+        weaker (λ r. p r ≡ false) (λ r. p r ≡ true → Some r ≡ find p (x ∷ rows)) (λ r f t'. absurd (cc (f, t'))) rows
+            (none_pass p rows (one_of_those x (filter p rows) o h').1),
+      ))
   | inr f ↦ (let h' : filter p rows ≡ those o = rw f at h in
       let passed : find p rows ≡ find p (x ∷ rows) = rw f refl in
       ((λ t. absurd (cc (f, t))), subst (λ (q : Option R). AllByRecursion (λ r. p r ≡ true → Some r ≡ q) rows) passed (those_are_found p rows o h')))
@@ -87,14 +92,6 @@ module _ {R : Type 0} (p : R → Bool) where
   pub in_any_order : (xs ys : List R) → IsPermutation xs ys → (o : Option R) → filter p xs ≡ those o → filter p ys ≡ those o
   in_any_order xs = IsPermutation-keeps xs (Follows xs) (λ o e. e) (λ l i j h k follows. λ o e. swapped l i j h k o (follows o e))
 
-  -- no row passes where none is kept
-  pub none_pass : (rows : List R) → filter p rows ≡ [] → AllByRecursion (λ r. p r ≡ false) rows
-  none_pass [] h = tt
-  none_pass (x ∷ rows) h = elim (either (p x)) [
-    | inl t ↦ (let h' : x ∷ filter p rows ≡ [] = rw t at h in absurd (cc h'))
-    | inr f ↦ (f, none_pass rows (rw f at h))
-  ]
-
   -- the one row that passes, and the others
   pub record Parted (rows : List R) (was : R) : Type 0 where
     pub rest : List R
@@ -115,7 +112,7 @@ module _ {R : Type 0} (p : R → Bool) where
           rest = rows;
           order = rw same (IsPermutation-refl (was ∷ rows));
           there = rw (← same) t;
-          alone = none_pass rows none;
+          alone = none_pass p rows none;
         })
     | inr f ↦ (let h' : filter p rows ≡ was ∷ [] = rw f at h in
         let d = parted rows was h' in
@@ -205,31 +202,10 @@ member_is p (y ∷ rows) (suc k) x h at t o f = elim (either (p y)) [
 ]
 
 pub one_has : {R : Type 0} (p : R → Bool) (P : R → Type 0) (rows : List R) (w : R) → filter p rows ≡ w ∷ [] → AllByRecursion P rows → P w
-one_has p P [] w h all = absurd (cc h)
-one_has p P (y ∷ rows) w h all = elim (either (p y)) [
-  | inl t ↦ (let g : y ∷ filter p rows ≡ w ∷ [] = rw t at h in let same : y ≡ w = cc g in rw (← same) all.0)
-  | inr f ↦ one_has p P rows w (rw f at h) all.1
-]
-
-pub in_contains : {X : Type 0} (xs : List X) (x : X) → In x xs → Contains xs x
-in_contains [] x i = absurd i
-in_contains (y ∷ xs) x (inl e) = (0, omega arith, e)
-in_contains (y ∷ xs) x (inr i) = (let r = in_contains xs x i in (suc r.0, omega (arith, r.1), r.2))
-
--- what is found is there and passes
-pub record Found {X : Type 0} (p : X → Bool) (xs : List X) (x : X) : Type 0 where
-  pub among : In x xs
-  pub passes : p x ≡ true
-
-pub found : {X : Type 0} (p : X → Bool) (xs : List X) (x : X) → find p xs ≡ Some x → Found p xs x
-found p [] x h = absurd (cc h)
-found p (y ∷ xs) x h = elim (either (p y)) [
-  | inl t ↦ (let h' : Some y ≡ Some x = rw t at h in let e : y ≡ x = cc h' in record { among = inl e; passes = ap p (sym e) ∙ t })
-  | inr f ↦ (let r = found p xs x (rw f at h) in record { among = inr r.among; passes = r.passes })
-]
+one_has p P rows w h all = (subst (AllByRecursion P) h (all_filter P p rows all)).0
 
 pub found_has : {X : Type 0} (P : X → Type 0) (p : X → Bool) (xs : List X) (x : X) → All P xs → find p xs ≡ Some x → P x
-found_has P p xs x all h = all_at P xs x (recursion_from_All P xs all) (found p xs x h).among
+found_has P p xs x all h = all_at P xs x (recursion_from_All P xs all) (found p xs x h).0
 
 pub find_mapped : {X Y : Type 0} (f : X → Y) (p : Y → Bool) (q : X → Bool) → ((x : X) → p (f x) ≡ q x) → (xs : List X) → find p (map f xs) ≡ option_map f (find q xs)
 find_mapped f p q same [] = refl
@@ -239,7 +215,7 @@ find_mapped f p q same (x ∷ xs) = elim (either (q x)) [
 ]
 
 -- the row of a test that at most one passes, where it is there
-pub has_is : {R : Type 0} (p : R → Bool) (rows : List R) (x : R) (o : Option R) → filter p rows ≡ those o → Has rows x → p x ≡ true → o ≡ Some x
+pub has_is : {R : Type 0} (p : R → Bool) (rows : List R) (x : R) (o : Option R) → filter p rows ≡ those o → In x rows → p x ≡ true → o ≡ Some x
 has_is p [] x o are i t = absurd i
 has_is p (y ∷ rows) x o are (inl e) t =
     let u : p y ≡ true = ap p e ∙ t in

@@ -1,18 +1,8 @@
 -- The pages of a day, login by login.
-use Rattle.std.proofs.Common.{◌≡◌, ℕ, zero, suc, ◌<◌, ◌≤◌, List, [], ◌∷◌, ◌++◌, true, false, refl, inl, inr, arith, length, map, All, Contains, Option, ◌⊎◌, ◌==◌, Some, None, slice_index_or, sym, subst}
-use Rattle.mq_rows.proofs.Words.{AllByRecursion, AreNext, AreUsage, Entry, IsAscending, IsLoginPage, IsNext, IsNextLogin, UsageRecord, behind, below, both_parts, either, has_reserve, is_above, is_usage, length-map, number_is, number_itself, same_text, text_is, text_itself, weaker}
+use Rattle.std.proofs.Common.{◌≡◌, ℕ, suc, ◌≤◌, List, [], ◌∷◌, ◌++◌, true, false, refl, inl, inr, arith, length, map, All, Contains, Option, ◌⊎◌, ◌==◌, Some, None, sym, subst}
+use Rattle.mq_rows.proofs.Words.{All-from_recursion, AllByRecursion, AreNext, AreUsage, Entry, IsAscending, IsLoginPage, IsNext, IsNextLogin, UsageRecord, all_both, behind, below, both_parts, either, has_reserve, is_above, is_usage, length-map, number_is, number_itself, same_text, text_is, text_itself, weaker}
 use Rattle.mq_ledger.proofs.Pages.{Before, Same, After, below_trans, ordered}
 use Rattle.mq_rows.proofs.Days.{has_row, reserved_there, row_of}
-
--- Lists.
-
-at_index : {X : Type 0} (P : X → Type 0) (x : X) (xs : List X) → P x → All P xs → (k : ℕ) (d : X) → k < length (x ∷ xs) → P (slice_index_or (x ∷ xs) k d)
-at_index P x xs here all zero d h = here
-at_index P x xs here all (suc k) d h = all k d (omega arith)
-
-all_by_index : {X : Type 0} (P : X → Type 0) (xs : List X) → AllByRecursion P xs → All P xs
-all_by_index P [] all = λ k d h. absurd (omega arith)
-all_by_index P (x ∷ xs) all = at_index P x xs all.0 (all_by_index P xs all.1)
 
 abbrev logins : List UsageRecord → List (List ℕ)
 logins us = map (λ u. u.login) us
@@ -61,7 +51,7 @@ module _ (day : ℕ → ℕ) (H : List Entry) (rows : List UsageRecord) (are : A
 
   finish : (after l : List ℕ) (us : List UsageRecord) → has_reserve day H d l ≡ true → (length us ≡ 100) ⊎ IsNext d (behind after us) rows None → Place after l us → Contains (logins us) l ⊎ ((length (logins us) ≡ 100) × All (λ m. below m l ≡ true) (logins us))
   finish after l us here end (Among c) = inl c
-  finish after l us here (inl full) (Behind all b) = inr (simp length-map full, all_by_index (λ m. below m l ≡ true) (logins us) all)
+  finish after l us here (inl full) (Behind all b) = inr (simp length-map full, All-from_recursion (λ m. below m l ≡ true) (logins us) all)
   finish after l us here (inr none) (Behind all b) =
       (let f : is_above d (behind after us) (row_of day H l d) ≡ false = has_row day H rows are l d here (λ u. is_above d (behind after us) u ≡ false) none in absurd (cc (f, is_above_row (behind after us) l b)))
 
@@ -70,8 +60,8 @@ module _ (day : ℕ → ℕ) (H : List Entry) (rows : List UsageRecord) (are : A
       let r = rising after us next in
       record {
         ascending = r.ascending;
-        above = all_by_index (λ l. below after l ≡ true) (logins us) r.above;
-        there = all_by_index (λ l. has_reserve day H d l ≡ true) (logins us) r.there;
+        above = All-from_recursion (λ l. below after l ≡ true) (logins us) r.above;
+        there = All-from_recursion (λ l. has_reserve day H d l ≡ true) (logins us) r.there;
         few = simp length-map few;
         first = λ l up here. finish after l us here end (place after us next l up here);
       }
@@ -81,10 +71,6 @@ next_more d rows after [] u next more = (more, tt)
 next_more d rows after (v ∷ us) u next more = (next.0, next_more d rows v.login us u next.1 more)
 
 -- From login to login.
-
-implies_both : {X : Type 0} (P Q R : X → Type 0) → ((x : X) → P x → Q x → R x) → (xs : List X) → AllByRecursion P xs → AllByRecursion Q xs → AllByRecursion R xs
-implies_both P Q R f [] p q = tt
-implies_both P Q R f (x ∷ xs) p q = (f x p.0 q.0, implies_both P Q R f xs p.1 q.1)
 
 module _ (d : ℕ) (after login : List ℕ) where
   -- the login is the least above, and has no row of the day
@@ -118,14 +104,14 @@ module _ (d : ℕ) (after login : List ℕ) where
 
   pub passed_over : (rows : List UsageRecord) (next : Option UsageRecord) → IsNextLogin after rows (Some login) → AllByRecursion IsBare rows → IsNext d login rows next → IsNext d after rows next
   passed_over rows None it bare none =
-      implies_both Least (λ u. IsBare u × (is_above d login u ≡ false)) (λ u. is_above d after u ≡ false) (λ u least h. not_above u least h.0 h.1) rows it.2
-      (implies_both IsBare (λ u. is_above d login u ≡ false) (λ u. IsBare u × (is_above d login u ≡ false)) (λ u b n. (b, n)) rows bare none)
+      all_both Least (λ u. IsBare u × (is_above d login u ≡ false)) (λ u. is_above d after u ≡ false) (λ u least h. not_above u least h.0 h.1) rows it.2
+      (all_both IsBare (λ u. is_above d login u ≡ false) (λ u. IsBare u × (is_above d login u ≡ false)) (λ u b n. (b, n)) rows bare none)
   passed_over rows (Some v) it bare next = (
     next.0,
     is_above_before v it.1 next.1,
-    implies_both Least (λ u. IsBare u × (is_above d login u ≡ true → below u.login v.login ≡ false)) (λ u. is_above d after u ≡ true → below u.login v.login ≡ false)
+    all_both Least (λ u. IsBare u × (is_above d login u ≡ true → below u.login v.login ≡ false)) (λ u. is_above d after u ≡ true → below u.login v.login ≡ false)
         (λ u least h hit. h.1 (still_above u least h.0 hit)) rows it.2
-        (implies_both IsBare (λ u. is_above d login u ≡ true → below u.login v.login ≡ false) (λ u. IsBare u × (is_above d login u ≡ true → below u.login v.login ≡ false)) (λ u b n. (b, n)) rows bare next.2),
+        (all_both IsBare (λ u. is_above d login u ≡ true → below u.login v.login ≡ false) (λ u. IsBare u × (is_above d login u ≡ true → below u.login v.login ≡ false)) (λ u b n. (b, n)) rows bare next.2),
   )
 
   pub found_there : (rows : List UsageRecord) (u : UsageRecord) → IsNextLogin after rows (Some login) → Contains rows u → is_usage login d u ≡ true → IsNext d after rows (Some u)

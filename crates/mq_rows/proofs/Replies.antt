@@ -1,5 +1,5 @@
 -- The reply that is decided from the rows is the answer over the history.
-use Rattle.std.proofs.Common.{◌≡◌, ℕ, ◌+◌, ◌<◌, ◌≤◌, List, true, false, refl, ◌∙◌, ap, sym, inl, inr, arith, not, ◌&&◌, nat_lt, nat_le, if◌then◌else◌, Option, Some, None, option_map, is_some, find}
+use Rattle.std.proofs.Common.{◌≡◌, ℕ, ◌+◌, ◌<◌, ◌≤◌, List, true, false, refl, ◌∙◌, ap, sym, inl, inr, arith, not, ◌&&◌, nat_lt, nat_le, if◌then◌else◌, Option, Some, None, option_map, is_some, find, lt-ltb, ltb-true}
 use Rattle.mq_rows.proofs.Words.{AllByRecursion, AreLimits, AreTransactions, AreUsage, Closed, Entry, FoundRows, Id, IsFirstOver, IsFound, IsGoverning, IsReply, Limit, LimitRecord, Mismatch, Over, Release, Released, Request, Reserve, Retire, Settle, Tables, TransactionRecord, UsageRecord, agrees_with, answer, both_parts, cap, cap_by, decided, either, fits, fits_if_open, granted_or_full, has_reserve, held, held_by, id_of, is_closed, is_day_over, is_due, is_limit, is_of, is_over, is_transaction, is_usage, le_is, le_of, le_or_lt, limit_row, may_be_found, number_itself, option_cases, reserved_by, same_text, same_transaction, set_cap, set_or_over, set_or_over_by, settled_or_too_many, text_is, text_itself, those, transaction, used, used_by}
 use Rattle.mq_ledger.specs.Over.{over, IsLeastOver}
 use Rattle.mq_ledger.proofs.Transactions.{transaction_itself}
@@ -7,17 +7,11 @@ use Rattle.mq_rows.proofs.Trans.{IsHeard, Stands, stands}
 use Rattle.mq_rows.proofs.Days.{Uses, Tells, has_row, member_row, row_of, tells, usage_at}
 use Rattle.mq_rows.proofs.Lists.{mapped_from, member_is, one_has}
 
-lt_true : (m n : ℕ) → m < n → nat_lt m n ≡ true
-lt_true m n h = grind arith
-
-true_lt : (m n : ℕ) → nat_lt m n ≡ true → m < n
-true_lt m n h = grind arith
-
 module _ (day : ℕ → ℕ) (default : ℕ) (H : List Entry) (us : Uses day default H) where
   -- The first row with more used is that of the first day with more used.
   row_over : (login : List ℕ) (from c d : ℕ) → from ≤ d → c < used day H login d → (has_reserve day H d login ≡ true) × (is_over login from c (row_of day H login d) ≡ true)
   row_over login from c d h more = elim (either (has_reserve day H d login)) [
-    | inl t ↦ (t, rw (text_itself login, le_is from d h, lt_true c (used day H login d) more) refl)
+    | inl t ↦ (t, rw (text_itself login, le_is from d h, lt-ltb c (used day H login d) more) refl)
     | inr f ↦ (let z = us.none login d f in absurd (omega (arith, z.0, z.1)))
   ]
 
@@ -25,7 +19,7 @@ module _ (day : ℕ → ℕ) (default : ℕ) (H : List Entry) (us : Uses day def
   over_parts login from c u h =
       let b = both_parts (same_text login u.login) (nat_le from u.day && nat_lt c (u.reserved + u.settled)) h in
       let b' = both_parts (nat_le from u.day) (nat_lt c (u.reserved + u.settled)) b.1 in
-      (text_is login u.login b.0, le_of from u.day b'.0, true_lt c (u.reserved + u.settled) b'.1)
+      (text_is login u.login b.0, le_of from u.day b'.0, ltb-true c (u.reserved + u.settled) b'.1)
 
   module _ (rows : List UsageRecord) (are : AreUsage day H rows) (login : List ℕ) (from c : ℕ) where
     over_uses : (u : UsageRecord) → IsFirstOver login from c rows (Some u) → u.reserved + u.settled ≡ used day H login u.day

@@ -1,12 +1,14 @@
 -- The pairs of the rows of a legal history are right.
 use Rattle.std.proofs.Common.{◌<◌, ◌≡◌, ℕ, pos, ◌+◌, ◌≤◌, List, [], ◌∷◌, ◌++◌, map, length, Bool, true, false, refl, ◌∙◌, ap, sym, subst, inl, inr, arith, ℤ, ◌+ℤ◌, find, sum_by, ◌&&◌, ◌==◌, int_le, if◌then◌else◌, Option, Some, None, option_map, All, int_eq, IsPermutation, get_or, int_lt, ◌≤ℤ◌}
-use Rattle.mq_rows.proofs.Words.{AllByRecursion, AreLimits, AreTransactions, AreUsage, Entry, Figures, IsGoverning, IsMoment, IsPermutation-keeps, IsPermutation-refl, IsPermutation-swap, IsPermutation-trans, IsRequest, LimitFigures, LimitRecord, Pair, Release, Request, Reserve, Settle, Tables, Transaction, TransactionFigures, TransactionRecord, UsageRecord, are_dated, cap, cap_by, either, get_or-map, has_reserve, is_due, is_limit, is_moment_of, is_of, is_right, is_transaction, is_usage, key_of, le_is, length-map, limit_row, map-set, moment_of, number_is, number_itself, pairs, reserved, same_pair, same_text, set, settled, signed_Decides, sum_by-cons, swap, total, transaction_row, transactions_of, usage_row, used, weaker, ints}
+use Rattle.mq_rows.proofs.Words.{AllByRecursion, AreLimits, AreTransactions, AreUsage, Entry, Figures, IsGoverning, IsMoment, IsPermutation-keeps, IsPermutation-refl, IsPermutation-swap, IsPermutation-trans, IsRequest, LimitFigures, LimitRecord, Pair, Release, Request, Reserve, Settle, Tables, Transaction, TransactionFigures, TransactionRecord, UsageRecord, all_from_map, all_of, are_dated, cap, cap_by, either, get_or-map, has_reserve, ints, is_due, is_limit, is_moment_of, is_of, is_right, is_transaction, is_usage, key_of, le_is, length-map, limit_row, map-set, moment_of, number_is, number_itself, pairs, reserved, same_pair, same_text, set, settled, signed_Decides, sum_by-cons, swap, total, transaction_row, transactions_of, usage_row, used, weaker}
 use Rattle.mq_rows.specs.Figured.{usage_figures, transaction_figures, limit_figures, figures}
 use Rattle.mq_rows.proofs.Replies.{Governs, governs}
-use Rattle.mq_rows.proofs.Lists.{find_of_those, in_any_order, find_mapped, found, found_has, in_contains, mapped_from}
-use Rattle.mq_rows.proofs.RowSums.{all_of, IsRowOf, is_on, Laws, each_row, held_total, settled_total}
+use Rattle.mq_lemmas.proofs.Lists.{in_contains}
+use Rattle.mq_rows.proofs.Lists.{find_of_those, in_any_order, find_mapped, found_has, mapped_from}
+use Rattle.mq_rows.proofs.RowSums.{IsRowOf, is_on, Laws, each_row, held_total, settled_total}
 use Rattle.mq_rows.proofs.Governed.{lt_not, IsLatest, governing_is}
 use Rattle.mq_rows.specs.Audit as audit
+use Rattle.mq_ledger.proofs.Basics.{found}
 
 -- Numbers.
 
@@ -34,7 +36,7 @@ module _ (day : ℕ → ℕ) (H : List Entry) where
   dated_here : All (λ e. IsRequest e.request) H → (r : TransactionRecord) → IsRowOf day H r → is_moment_of day (pos r.day) (pos r.moment) ≡ true
   dated_here range r is =
       let it = found (λ e. is_of (key_of r) e.request) H is.first is.names in
-      let m : IsMoment (moment_of is.first.request) = moment_in (key_of r) is.first.request it.passes (found_has (λ e. IsRequest e.request) (λ e. is_of (key_of r) e.request) H is.first range is.names) in
+      let m : IsMoment (moment_of is.first.request) = moment_in (key_of r) is.first.request it.1 (found_has (λ e. IsRequest e.request) (λ e. is_of (key_of r) e.request) H is.first range is.names) in
       let n : moment_of is.first.request ≡ r.moment = ap (λ (x : TransactionRecord). x.moment) is.row in
       let m' : IsMoment r.moment = subst IsMoment n m in
       let d : day (moment_of is.first.request) ≡ r.day = ap (λ (x : TransactionRecord). x.day) is.row in
@@ -71,16 +73,12 @@ dated_on day p (r ∷ rows) all = elim (either (same_pair p (transaction_figures
 
 -- The limit that governs.
 
-all_mapped : {X Y : Type 0} (f : X → Y) (P : Y → Type 0) (xs : List X) → AllByRecursion P (map f xs) → AllByRecursion (λ x. P (f x)) xs
-all_mapped f P [] all = tt
-all_mapped f P (x ∷ xs) all = (all.0, all_mapped f P xs all.1)
-
 not_later : (a b : ℕ) (z : ℤ) → z ≡ pos a → int_lt z (pos b) ≡ false → b ≤ a
 not_later a b z e h = (let k : pos b ≤ℤ z = lt_not z (pos b) h in omega (arith, ints, k, e))
 
 -- the latest of the figures is the figures of the latest row
 latest_row : (l : List ℕ) (d : ℕ) (rows : List LimitRecord) (g : Option LimitFigures) → IsLatest (record { login = l; day = pos d }) (map limit_figures rows) g → (o : Option LimitRecord) × (g ≡ option_map limit_figures o) × IsGoverning l d rows o
-latest_row l d rows None h = (None, refl, all_mapped limit_figures (λ c. audit.is_due (record { login = l; day = pos d }) c ≡ false) rows h.1)
+latest_row l d rows None h = (None, refl, all_from_map (λ c. audit.is_due (record { login = l; day = pos d }) c ≡ false) limit_figures rows h.1)
 latest_row l d rows (Some g) h = elim h.0 [
   | inl e ↦ absurd (cc e)
   | inr n ↦ (let p = mapped_from limit_figures (find (λ c. same_pair g.pair (limit_figures c).pair) rows) g (sym (find_mapped limit_figures (λ x. same_pair g.pair x.pair) (λ c. same_pair g.pair (limit_figures c).pair) (λ c. refl) rows) ∙ n.first) in
@@ -89,10 +87,10 @@ latest_row l d rows (Some g) h = elim h.0 [
         Some p.0,
         ap Some (sym p.2),
         (
-          in_contains rows p.0 it.among,
+          in_contains rows p.0 it.0,
           ap (audit.is_due (record { login = l; day = pos d })) p.2 ∙ n.passing,
           weaker (λ c. is_due l d c ≡ true → int_lt g.pair.day (pos c.day) ≡ false) (λ c. is_due l d c ≡ true → c.day ≤ p.0.day) (λ c no due. not_later p.0.day c.day g.pair.day day_is (no due)) rows
-              (all_mapped limit_figures (λ c. audit.is_due (record { login = l; day = pos d }) c ≡ true → int_lt g.pair.day c.pair.day ≡ false) rows h.1),
+              (all_from_map (λ c. audit.is_due (record { login = l; day = pos d }) c ≡ true → int_lt g.pair.day c.pair.day ≡ false) limit_figures rows h.1),
         ),
       ))
 ]

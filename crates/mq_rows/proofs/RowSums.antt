@@ -1,6 +1,6 @@
 -- The rows of a history's transactions have together what its logins have reserved and settled.
 use Rattle.std.proofs.Common.{◌≡◌, ℕ, ◌≤◌, List, [], ◌∷◌, map, length, Bool, true, false, refl, ◌∙◌, ap, sym, subst, inl, inr, arith, filter, sum_by, ◌&&◌, ◌==◌, if◌then◌else◌, Option, Some, None, is_some}
-use Rattle.mq_rows.proofs.Words.{AllByRecursion, AreDistinct, AreTransactions, Entry, Has, HasAllNamed, Release, Request, Reserve, Settle, Transaction, TransactionRecord, UsageRecord, agrees, either, empty, found_passes, has_reserve, held, held_on, is_for, is_of, is_transaction, key_of, list_any, login_of, moment_of, named, names_for, number_itself, option_cases, reserved, same_text, same_transaction, settled, settled_in, settled_on, sum_by-cons, text_itself, those, transaction_of, transaction_row, usage_row}
+use Rattle.mq_rows.proofs.Words.{AllByRecursion, AreDistinct, AreTransactions, Entry, HasAllNamed, In, Release, Request, Reserve, Settle, Transaction, TransactionRecord, UsageRecord, agrees, all_of, either, empty, found_passes, has_reserve, held, held_on, is_for, is_of, is_transaction, key_of, list_any, login_of, moment_of, named, names_for, number_itself, option_cases, reserved, same_text, same_transaction, settled, settled_in, settled_on, sum_by-cons, text_itself, those, transaction_of, transaction_row, usage_row}
 use Rattle.mq_ledger.proofs.Transactions.{transaction_itself}
 use Rattle.mq_rows.proofs.Lists.{none_pass, has_is, mapped_from}
 use Rattle.mq_rows.proofs.Trans.{at_is}
@@ -24,15 +24,6 @@ summed_row day H rows l d =
       reserved = total (λ r. r.held) l d rows;
     })
     else None
-
-pub all_of : {X : Type 0} (P : X → Type 0) (xs : List X) → ((x : X) → Has xs x → P x) → AllByRecursion P xs
-all_of P [] h = tt
-all_of P (x ∷ xs) h = (h x (inl refl), all_of P xs (λ y i. h y (inr i)))
-
-pub all_at : {X : Type 0} (P : X → Type 0) (xs : List X) (x : X) → AllByRecursion P xs → Has xs x → P x
-all_at P [] x all i = absurd i
-all_at P (y ∷ xs) x all (inl e) = subst P e all.0
-all_at P (y ∷ xs) x all (inr i) = all_at P xs x all.1 i
 
 abbrev pub keys : List TransactionRecord → List Transaction
 keys rows = map key_of rows
@@ -75,10 +66,10 @@ pub row_of : (day : ℕ → ℕ) (H : List Entry) (r : TransactionRecord) → tr
 row_of day H r h = (let p = mapped_from (transaction_of day H (key_of r)) (named H (key_of r)) r h in record { first = p.0; names = p.1; row = p.2 })
 
 -- a row that is there is its transaction's
-pub key_row : (rows : List TransactionRecord) (r : TransactionRecord) (o : Option TransactionRecord) → filter (is_transaction (key_of r)) rows ≡ those o → Has rows r → o ≡ Some r
+pub key_row : (rows : List TransactionRecord) (r : TransactionRecord) (o : Option TransactionRecord) → filter (is_transaction (key_of r)) rows ≡ those o → In r rows → o ≡ Some r
 key_row rows r o are i = has_is (is_transaction (key_of r)) rows r o are i (transaction_itself (key_of r))
 
-pub each_row : (day : ℕ → ℕ) (H : List Entry) (rows : List TransactionRecord) → AreTransactions day H rows → (r : TransactionRecord) → Has rows r → IsRowOf day H r
+pub each_row : (day : ℕ → ℕ) (H : List Entry) (rows : List TransactionRecord) → AreTransactions day H rows → (r : TransactionRecord) → In r rows → IsRowOf day H r
 each_row day H rows are r i = row_of day H r (key_row rows r (transaction_row day H (key_of r)) (are (key_of r)) i)
 
 pub is_mine : (day : ℕ → ℕ) (H : List Entry) (r : TransactionRecord) (is : IsRowOf day H r) → is_of (key_of r) is.first.request ≡ true

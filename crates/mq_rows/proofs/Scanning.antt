@@ -3,8 +3,9 @@ use Rattle.std.proofs.Common.{◌≡◌, List, Bool, true, false, refl, ◌∙�
 use Rattle.mq_rows.proofs.Words.{AllByRecursion, Equal, Greater, In, Less, Ordering, Pair, all_at, all_of, is_before, least_wrong, less_wrong, ordering_reverse, pair_cmp, pair_cmp_total, same_pair, tied_itself, upto}
 use Rattle.mq_lemmas.proofs.Booleans.{is_not, not_false}
 use Rattle.mq_rows.proofs.Choosing.{Chooses, IsBest, best_of}
-use Rattle.mq_rows.proofs.Lists.{found, in_contains}
+use Rattle.mq_lemmas.proofs.Lists.{in_contains}
 use Rattle.mq_rows.proofs.Booking.{pair_is, pair_itself}
+use Rattle.mq_ledger.proofs.Basics.{found}
 
 -- The order of pairs.
 
@@ -71,7 +72,7 @@ module _ (right : Pair → Bool) where
         elim it.0 [
           | inl e ↦ absurd (cc e)
           | inr n ↦ (
-            in_contains qs p (into p (found (same_pair p) ps p n.first).among),
+            in_contains qs p (into p (found (same_pair p) ps p n.first).0),
             is_not (right p) n.passing,
             all_of (λ q. right q ≡ false → is_before q p ≡ false) qs (λ q j f. all_at (λ q. is_wrong q ≡ true → is_before q p ≡ false) ps q it.1 (back q j) (ap not f)),
           )

@@ -14,9 +14,9 @@ pub use Rattle.std.specs.Option.{option_or}
 pub use Rattle.std.specs.Ordering.{ordering_reverse, ordering_then}
 pub use Rattle.std.specs.declared.cmp.Ordering.{Ordering}
 pub use Rattle.std.specs.declared.cmp.Ordering.TheVariants.{Equal, Greater, Less}
-pub use Rattle.sqlite_trees.proofs.ListLemmas.{IsPermutation-filter, all-permutation, all_weaker, filter_all, filter_same}
+pub use Rattle.sqlite_trees.proofs.ListLemmas.{IsPermutation-filter, all-permutation, all_weaker, filter_all, filter_same, all_both, all_from_map, filter_none}
 pub use Rattle.mq_lemmas.proofs.Booleans.{and_false, both_parts, either, first_so, is_not, neither_first, neither_so, or_false, or_second, or_true, second_so}
-pub use Rattle.mq_lemmas.proofs.Lists.{In, all_at, all_of, empty, found_passes, weaker}
+pub use Rattle.mq_lemmas.proofs.Lists.{In, all_at, all_of, empty, found_passes, weaker, all_filter}
 pub use Rattle.mq_lemmas.proofs.Numbers.{if_zero, le_is, le_of, le_or_lt, number_is, number_itself}
 pub use Rattle.mq_lemmas.proofs.Options.{option_cases}
 pub use Rattle.mq_request.proofs.Alike.{id_is, text_is, text_itself}
@@ -34,7 +34,7 @@ pub use Rattle.mq_ledger.proofs.Transactions.{entry}
 pub use Rattle.mq_ledger.specs.Answer.{answer, appended, build, granted_or_full, if_open, reply, set_or_over, settled_or_too_many, stored, with_arrival}
 pub use Rattle.mq_ledger.specs.Arrivals.{floor, floor as floor_of, greater, has_id, id_of, is_below, is_id, kept_with, raised}
 pub use Rattle.mq_ledger.specs.Day.{day_of, minutes_in, rule_in}
-pub use Rattle.mq_ledger.specs.History.{Transaction, agrees, closed, closes, concerns, counted, ended, gained, granted, held, is_at, is_of, named, requests, reserved, retires, same_transaction, settled, settled_in, settles, transaction, used}
+pub use Rattle.mq_ledger.specs.History.{Transaction, agrees, closed, closes, concerns, counted, ended, gained, granted, held, is_at, is_of, named, requests, reserved, retires, same_transaction, settled, settled_in, settles, transaction, used, moment_of}
 pub use Rattle.mq_ledger.specs.Legal.{Book, IsLegal, IsLegalBook}
 pub use Rattle.mq_ledger.specs.Limits.{cap, cap_of, set_cap, sets_from}
 pub use Rattle.mq_ledger.specs.Page.{IsAscending, IsLoginPage, below, has_reserve, is_login, login_on}
@@ -47,9 +47,9 @@ pub use Rattle.mq_rows.specs.Books.{AreBooksOf, HasCaps, HasPairs, amounts_of, d
 pub use Rattle.mq_rows.specs.Found.{IsFirstOver, IsFound, IsGoverning, is_due, is_over}
 pub use Rattle.mq_rows.specs.Listing.{AreNext, IsNext, IsNextLogin, behind, is_above, settled_by}
 pub use Rattle.mq_rows.specs.Pair.{is_before, pair_cmp, pair_cmp_total, same_pair}
-pub use Rattle.mq_rows.specs.Plan.{AreToClose, Has, Inserts, IsOneIn, Leads, LeadsAll, Updates, abandoned_row, agrees_with, cap_by, cleared, cleared_in, decided, fits, fits_if_open, floor_by, freed, given_up_by, held_by, is_among, is_closed, is_day_over, is_open_in, key_of, limit_write, may_be_found, moved, moved_or_made, moves, raised_to, reserved_by, reserved_more, retired_write, same_day, same_from, same_host, same_key, set_limit, set_limit_to, set_or_over_by, set_run, set_transaction, set_usage, transaction_write, usage_write, used_by, written}
+pub use Rattle.mq_rows.specs.Plan.{AreToClose, Inserts, IsOneIn, Leads, LeadsAll, Updates, abandoned_row, agrees_with, cap_by, cleared, cleared_in, decided, fits, fits_if_open, floor_by, freed, given_up_by, held_by, is_among, is_closed, is_day_over, is_open_in, key_of, limit_write, may_be_found, moved, moved_or_made, moves, raised_to, reserved_by, reserved_more, retired_write, same_day, same_from, same_host, same_key, set_limit, set_limit_to, set_or_over_by, set_run, set_transaction, set_usage, transaction_write, usage_write, used_by, written}
 pub use Rattle.mq_rows.specs.Retiring.{AreMovesOf, CanBeClosed, IsUnretired, is_retire, retire_entry, runs_below}
-pub use Rattle.mq_rows.specs.Rows.{IsSetting, answer_of, answer_row, answer_rows, is_host, is_limit, is_transaction, is_usage, limit_row, login_of, moment_of, number_of, retired_row, transaction_of, transaction_row, usage_row}
+pub use Rattle.mq_rows.specs.Rows.{IsSetting, answer_of, answer_row, answer_rows, is_host, is_limit, is_transaction, is_usage, limit_row, login_of, number_of, retired_row, transaction_of, transaction_row, usage_row}
 pub use Rattle.mq_rows.specs.Tables.{AreLimits, AreRetired, AreRows, AreTransactions, AreUsage, Tables, those}
 pub use Rattle.mq_rows.specs.declared.audited.LimitFigures.{LimitFigures}
 pub use Rattle.mq_rows.specs.declared.audited.Pair.{Pair}

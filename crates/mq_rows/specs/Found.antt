@@ -12,6 +12,7 @@ use Rattle.mq_rows.specs.declared.record.LimitRecord.{LimitRecord}
 use Rattle.mq_rows.specs.declared.plan.FoundRows.{FoundRows}
 use Rattle.mq_rows.specs.Rows.{is_transaction, is_usage, is_limit, is_host}
 use Rattle.mq_rows.specs.Tables.{Tables}
+use Rattle.mq_request.specs.declared.message.Id.{Id}
 
 -- the limit is the login's, and holds from that day or an earlier one on
 abbrev pub is_due : List ℕ → ℕ → LimitRecord → Bool
@@ -35,21 +36,30 @@ IsFirstOver login from cap rows (Some u) =
     Contains rows u × (is_over login from cap u ≡ true)
     × AllByRecursion (λ other. is_over login from cap other ≡ true → u.day ≤ other.day) rows
 
+-- the rows of the transaction, and of the login and day
+abbrev pub IsTransactionFound : Id → ℕ → List ℕ → ℕ → Tables → FoundRows → Type 0
+IsTransactionFound id txn login day t f =
+    (f.transaction ≡ find (is_transaction (transaction id txn)) t.transactions)
+    × (f.usage ≡ find (is_usage login day) t.usage)
+
+-- the same, and the limit that governs
+abbrev pub IsReserveFound : Id → ℕ → List ℕ → ℕ → Tables → FoundRows → Type 0
+IsReserveFound id txn login day t f =
+    (f.transaction ≡ find (is_transaction (transaction id txn)) t.transactions)
+    × (f.usage ≡ find (is_usage login day) t.usage)
+    × IsGoverning login day t.limits f.governing
+
+-- the first day past the cap, and the limit from that day on
+abbrev pub IsLimitFound : List ℕ → ℕ → ℕ → Tables → FoundRows → Type 0
+IsLimitFound login from cap t f =
+    IsFirstOver login from cap t.usage f.over × (f.limit ≡ find (is_limit login from) t.limits)
+
 -- what was found is what the tables have about the request
 abbrev pub IsFound : (ℕ → ℕ) → Tables → Request → FoundRows → Type 0
-IsFound day t (Reserve id txn moment login count) f =
-    (f.transaction ≡ find (is_transaction (transaction id txn)) t.transactions)
-    × (f.usage ≡ find (is_usage login (day moment)) t.usage)
-    × IsGoverning login (day moment) t.limits f.governing
-IsFound day t (Settle id txn moment login count) f =
-    (f.transaction ≡ find (is_transaction (transaction id txn)) t.transactions)
-    × (f.usage ≡ find (is_usage login (day moment)) t.usage)
-IsFound day t (Release id txn moment login) f =
-    (f.transaction ≡ find (is_transaction (transaction id txn)) t.transactions)
-    × (f.usage ≡ find (is_usage login (day moment)) t.usage)
-IsFound day t (Limit id from_day asked login) f =
-    IsFirstOver login from_day asked t.usage f.over
-    × (f.limit ≡ find (is_limit login from_day) t.limits)
+IsFound day t (Reserve id txn moment login count) f = IsReserveFound id txn login (day moment) t f
+IsFound day t (Settle id txn moment login count) f = IsTransactionFound id txn login (day moment) t f
+IsFound day t (Release id txn moment login) f = IsTransactionFound id txn login (day moment) t f
+IsFound day t (Limit id from_day asked login) f = IsLimitFound login from_day asked t f
 IsFound day t (Usage login d) f = Unit {0}
 IsFound day t (ListRequest d after) f = Unit {0}
 IsFound day t (Retire id) f = f.floor ≡ find (is_host id.host) t.retired

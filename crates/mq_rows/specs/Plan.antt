@@ -1,6 +1,6 @@
 -- The reply to a numbered request whose number is new, and what is written with it, by what was
 -- found in the tables.
-use Rattle.std.specs.Prelude.{◌≡◌, ℕ, ◌+◌, ◌-◌, List, [], ◌∷◌, map, filter, ◌⊎◌, Bool, true, false, not, ◌==◌, ◌&&◌, nat_le, if◌then◌else◌}
+use Rattle.std.specs.Prelude.{◌≡◌, ℕ, ◌+◌, ◌-◌, List, [], ◌∷◌, map, filter, Bool, true, false, not, ◌==◌, ◌&&◌, nat_le, if◌then◌else◌}
 use Rattle.std.specs.Prelude.{Option, Some, None}
 use Rattle.std.specs.List.{AllByRecursion}
 use Rattle.std.specs.List.Sorted.{IsPermutation}
@@ -25,6 +25,7 @@ use Rattle.mq_rows.specs.declared.plan.Write.{Write}
 use Rattle.mq_rows.specs.declared.plan.Write.TheVariants.{Keep, Insert, Update}
 use Rattle.mq_ledger.specs.History.{Transaction}
 use Rattle.mq_rows.specs.Rows.{answer_of, is_transaction, is_usage, is_limit, is_host}
+use Rattle.mq_lemmas.proofs.Lists.{In}
 
 -- What was found, as numbers: nothing where there is no row.
 
@@ -300,15 +301,10 @@ abbrev pub AreToClose : Option Runs → List TransactionRecord → List Transact
 AreToClose None rows these = these ≡ []
 AreToClose (Some runs) rows these = IsPermutation these (filter (is_open_in runs) rows)
 
--- the row is among them
-abbrev pub Has : {R : Type 0} → List R → R → Type 0
-Has [] r = ⊥
-Has (x ∷ rows) r = (x ≡ r) ⊎ Has rows r
-
 -- no row passes, or this is one that does
 abbrev pub IsOneIn : {R : Type 0} → (R → Bool) → List R → Option R → Type 0
 IsOneIn passes rows None = AllByRecursion (λ r. passes r ≡ false) rows
-IsOneIn passes rows (Some r) = Has rows r × (passes r ≡ true)
+IsOneIn passes rows (Some r) = In r rows × (passes r ≡ true)
 
 -- Each of these can be closed after the one before, with what it held settled on its login's day, whatever row is found
 -- there; P holds of the rows then.

@@ -14,7 +14,7 @@ use Rattle.mq_ledger.specs.declared.entry.Entry.{Entry}
 use Rattle.mq_ledger.specs.declared.zone.Zone.{Zone}
 use Rattle.mq_ledger.specs.Arrivals.{id_of, floor, is_below}
 use Rattle.mq_ledger.specs.Day.{ByOffset, ByRule, minutes_in, rule_in}
-use Rattle.mq_ledger.specs.History.{requests, Transaction, same_transaction, named, closed, held, settled_in, settled}
+use Rattle.mq_ledger.specs.History.{requests, Transaction, same_transaction, named, closed, held, settled_in, settled, moment_of}
 use Rattle.mq_ledger.specs.History.{reserved}
 use Rattle.mq_ledger.specs.Legal.{Book}
 use Rattle.mq_ledger.specs.Limits.{set_cap}
@@ -79,13 +79,6 @@ login_of (Reserve id txn moment login count) = login
 login_of (Settle id txn moment login count) = login
 login_of (Release id txn moment login) = login
 login_of _ = []
-
--- the moment of a reserve, settle or release
-abbrev pub moment_of : Request → ℕ
-moment_of (Reserve id txn moment login count) = moment
-moment_of (Settle id txn moment login count) = moment
-moment_of (Release id txn moment login) = moment
-moment_of _ = 0
 
 -- the row of a transaction that the entry is the first of
 abbrev pub transaction_of : (ℕ → ℕ) → List Entry → Transaction → Entry → TransactionRecord

@@ -12,9 +12,9 @@ abbrev pub IsStorable : TransactionRecord → Type 0
 IsStorable t = (t.run < 2 ^ 63) × (t.moment < 2 ^ 63)
 
 -- so there is where there is a row
-abbrev pub AreStorableIf : Option TransactionRecord → Type 0
-AreStorableIf None = Unit {0}
-AreStorableIf (Some t) = IsStorable t
+abbrev pub IsStorableIf : Option TransactionRecord → Type 0
+IsStorableIf None = Unit {0}
+IsStorableIf (Some t) = IsStorable t
 
 -- there is a place for the run of a floor, where there is one
 abbrev pub IsStorableFloor : Option RetiredRecord → Type 0
@@ -27,22 +27,22 @@ AreStorableRuns None = Unit {0}
 AreStorableRuns (Some runs) = (runs.from < 2 ^ 63) × (runs.to < 2 ^ 63)
 
 -- so there is in what is written of a floor
-abbrev pub IsStorableRun : Write RetiredRecord → Type 0
-IsStorableRun Keep = Unit {0}
-IsStorableRun (Insert r) = r.run < 2 ^ 63
-IsStorableRun (Update r) = r.run < 2 ^ 63
+abbrev pub IsStorableFloorWrite : Write RetiredRecord → Type 0
+IsStorableFloorWrite Keep = Unit {0}
+IsStorableFloorWrite (Insert r) = r.run < 2 ^ 63
+IsStorableFloorWrite (Update r) = r.run < 2 ^ 63
 
 -- so there is in what is written
-abbrev pub AreStorable : Write TransactionRecord → Type 0
-AreStorable Keep = Unit {0}
-AreStorable (Insert t) = IsStorable t
-AreStorable (Update t) = IsStorable t
+abbrev pub IsStorableWrite : Write TransactionRecord → Type 0
+IsStorableWrite Keep = Unit {0}
+IsStorableWrite (Insert t) = IsStorable t
+IsStorableWrite (Update t) = IsStorable t
 
 -- each number of the plan has a place
 pub record IsStorablePlan (p : Plan) : Type 0 where
   pub place : p.answer.n < 2 ^ 63
   pub run : p.answer.id.run < 2 ^ 63
   pub arrivals : p.arrivals < 2 ^ 63
-  pub transaction : AreStorable p.transaction
+  pub transaction : IsStorableWrite p.transaction
   pub given_up : AreStorableRuns p.given_up
-  pub retired : IsStorableRun p.retired
+  pub retired : IsStorableFloorWrite p.retired

@@ -138,6 +138,11 @@ impl FoundRows {
         }
     }
 
+    /// What a reserve comes to: what it adds up to, or that it is past the limit that governs.
+    ///
+    /// Here and in the next three: a reply that changes sums comes only of rows that a legal
+    /// history may have (`fits`; `still`: none changes them). Other rows alone are
+    /// `LedgerFault::Store`.
     fn reserve_outcome(
         &self,
         default: u32,
@@ -172,6 +177,7 @@ impl FoundRows {
         }
     }
 
+    /// What a settle comes to: its count, or that the transaction holds fewer.
     fn settle_outcome(&self, moment: u64, login: &Login, count: u32) -> Result<Outcome, LedgerFault>
         requires { IsCount count }
         ensures outcome { IfOk result (λ o. (id : AnyId)
@@ -197,6 +203,7 @@ impl FoundRows {
         }
     }
 
+    /// What a release comes to: what the transaction held.
     fn release_outcome(&self, moment: u64, login: &Login) -> Result<Outcome, LedgerFault>
         ensures outcome { IfOk result (λ o. (id : AnyId)
             → reply_of id o ≡ if_row_open id moment login.now
@@ -215,6 +222,7 @@ impl FoundRows {
         Ok(Outcome::Released { held: self.held() })
     }
 
+    /// What a limit comes to: that it is set, or the first day that is past it.
     fn limit_outcome(&self) -> Result<Outcome, LedgerFault>
         ensures outcome { IfOk result (λ o. (id : AnyId)
             → reply_of id o ≡ set_or_over_by id self.now.over) }

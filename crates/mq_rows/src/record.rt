@@ -3,7 +3,7 @@
 use mq_request::{Bytes, Host, Id, Login};
 
 /// The one row of `setting`, and with it that of `rule`: what the ledger goes by, and how many
-/// requests it has answered.
+/// entries its history has.
 #[derive(Drop)]
 pub struct SettingRecord {
     /// The version of the tables: [`VERSION`](crate::VERSION), or `older_version` of the ledger's
@@ -13,7 +13,7 @@ pub struct SettingRecord {
     pub minutes: i32,
     /// The limit of a login that has none for a day: recipients, 0 to 1,000,000.
     pub cap: u32,
-    /// The numbered requests that were answered: the rows of `answer`.
+    /// How many entries the history has: the rows of `answer`.
     pub arrivals: u64,
     /// The text of the zone's rule, where there is one: the row of `rule`, a table of versions 2
     /// and 3.

@@ -11,7 +11,7 @@ ghost use Rattle.mq_rows.specs.Plan.{reserved_more, freed, usage_write, limit_wr
 ghost use Rattle.mq_rows.specs.Plan.{floor_by, given_up_by, retired_write};
 ghost use Rattle.mq_rows.specs.Plan.{held_by, reserved_by, used_by, fits, written, planned};
 ghost use Rattle.mq_rows.specs.Plan.{may_be_found};
-ghost use Rattle.mq_rows.specs.Storable.{AreStorableIf, IsStorableFloor, IsStorablePlan};
+ghost use Rattle.mq_rows.specs.Storable.{IsStorableIf, IsStorableFloor, IsStorablePlan};
 
 use crate::plan::{FoundRows, Plan, Runs, Write};
 use crate::record::{AnswerRecord, LimitRecord, RetiredRecord, TransactionRecord, UsageRecord};
@@ -289,7 +289,7 @@ fn reply_body(alloc: Global, reply: &Reply) -> Result<Bytes, AllocError>
 }
 
 /// The row of the n-th answer.
-fn answer_row(
+fn new_answer(
     alloc: Global,
     n: u64,
     id: &Id,
@@ -408,7 +408,7 @@ pub fn decide(
         found) }
     ensures in_range { IfOk result (λ plan. IsReply plan.reply) }
     ensures room { IfOk result (λ _. arrivals < 4611686018427387904) }
-    ensures storable { IfOk result (λ plan. AreStorableIf found.transaction
+    ensures storable { IfOk result (λ plan. IsStorableIf found.transaction
         → IsStorableFloor found.floor
         → IsStorablePlan plan) }
     ensures store { IfErr result (λ fault. fault ≡ LedgerFault.Store
@@ -418,6 +418,6 @@ pub fn decide(
         return Err(LedgerFault::Store);
     }
     let reply = found.outcome(default, request)?.to_reply(id)?;
-    let answer = answer_row(alloc, arrivals + 1, id, request, &reply)?;
+    let answer = new_answer(alloc, arrivals + 1, id, request, &reply)?;
     Ok(plan(zone, request, reply, answer, &mut found)?)
 }

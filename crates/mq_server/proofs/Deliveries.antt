@@ -1,6 +1,6 @@
 -- What a legal ledger answers to deliveries, one after another.
 use Rattle.std.proofs.Common.{Bool, List, [], ap, append-nil, append_assoc, false, fold, if◌then◌else◌, refl, sym, true, ℕ, ◌++◌, ◌∙◌, ◌∷◌, ◌≡◌}
-use Rattle.mq_server.proofs.Words.{Book, Delivery, Entry, IsLegalBook, Reply, Request, Retry, answer, answer_to, answers, answers_after, arrivals, asked, build, day_of, filter-append, first, fold-append, history_after, history_of, map-append, replies_after, reply, requests, requests_steps, taken_answers, taken_answers_after}
+use Rattle.mq_server.proofs.Words.{Book, Delivery, Entry, IsLegalBook, Reply, Request, Retry, answer, answer_to, answers, arrivals, asked, build, day_of, each_after, filter-append, first, fold-append, history_after, history_of, map-append, replies_after, reply, requests, requests_steps, taken_answers, taken_answers_after}
 
 abbrev pub taken : Request → Delivery
 taken r = record { request = r; taken = true }
@@ -65,10 +65,6 @@ same_answers b k seen f = λ i ds d. answer_more b k seen ds d f i
 
 -- ---- what each delivery comes to by those before it, as its answer or its call
 
-abbrev pub each_after : {A : Type 0} → (List Delivery → Delivery → A) → List Delivery → List Delivery → List A
-each_after f earlier [] = []
-each_after f earlier (d ∷ ds) = f earlier d ∷ each_after f (earlier ++ d ∷ []) ds
-
 each_split : {A : Type 0} (f : List Delivery → Delivery → A) (earlier xs ys : List Delivery) → each_after f earlier (xs ++ ys) ≡ each_after f earlier xs ++ each_after f (earlier ++ xs) ys
 each_split f earlier [] ys = ap (λ (q : List Delivery). each_after f q ys) (sym (append-nil earlier))
 each_split {A} f earlier (x ∷ xs) ys =
@@ -83,13 +79,8 @@ pub each_more : {A : Type 0} (f : List Delivery → Delivery → A) (seen came :
 each_more {A} f seen came =
     each_split f [] seen came ∙ ap (λ (q : List A). each_after f [] seen ++ q) (ap (λ (q : List Delivery). each_after f q came) (sym (append-nil seen)) ∙ each_behind f seen [] came)
 
-answers_each : (answer : List Delivery → Delivery → Reply) (earlier ds : List Delivery) → answers_after answer earlier ds ≡ each_after answer earlier ds
-answers_each answer earlier [] = refl
-answers_each answer earlier (d ∷ ds) = ap (λ (q : List Reply). answer earlier d ∷ q) (answers_each answer (earlier ++ d ∷ []) ds)
-
 pub answers_more : (answer : List Delivery → Delivery → Reply) (seen came : List Delivery) → answers answer (seen ++ came) ≡ answers answer seen ++ answers (behind answer seen) came
-answers_more answer seen came =
-    answers_each answer [] (seen ++ came) ∙ each_more answer seen came ∙ (λ i. sym (answers_each answer [] seen) i ++ sym (answers_each (behind answer seen) [] came) i)
+answers_more answer seen came = each_more answer seen came
 
 -- ---- the answers to arrivals
 

@@ -1,6 +1,6 @@
 -- What stands at the front of the bytes that a feed holds.
-use Rattle.std.proofs.Common.{List, Ok, Option, Result, Some, [], ap, arith, length, length-drop, refl, sym, ℕ, ◌*◌, ◌++◌, ◌+◌, ◌<◌, ◌∙◌, ◌∷◌, ◌≡◌, ◌≤◌}
-use Rattle.mq_server.proofs.Words.{BeginsWith, Feed, FrameFault, Front, IsPartial, Nothing, Takes, Whole, front, front_behind, left_by_next, nat_tests, next, next_answer}
+use Rattle.std.proofs.Common.{List, Ok, Option, Result, Some, [], ap, arith, length, length-drop, sym, ℕ, ◌*◌, ◌+◌, ◌<◌, ◌∙◌, ◌∷◌, ◌≡◌, ◌≤◌}
+use Rattle.mq_server.proofs.Words.{Feed, FrameFault, IsPartial, Nothing, Takes, Whole, front, front_behind, gives_whole, left_by_next, nat_tests, next, next_answer}
 
 -- something stands at the front of a byte
 some_behind_head : (limit n : ℕ) (bytes : List ℕ) → front_behind limit n bytes ≡ Nothing → ⊥
@@ -28,23 +28,12 @@ pub left_short : (limit : ℕ) (bytes body after : List ℕ) → front limit byt
 left_short limit (a ∷ b ∷ bytes) body after e = omega (arith, left_behind limit (256 * a + b) bytes body after e)
 left_short limit bytes body after e = cc
 
--- one frame more
-pub frames_push : (limit : ℕ) (bytes held body after : List ℕ) (bodies : List (List ℕ)) → BeginsWith limit bytes bodies held → front limit held ≡ Whole body after → BeginsWith limit bytes (bodies ++ body ∷ []) after
-frames_push limit bytes held body after [] h e = (after, ap (front limit) h ∙ e, refl)
-frames_push limit bytes held body after (x ∷ bodies) h e = (h.0, h.1, frames_push limit h.0 held body after bodies h.2 e)
-
 -- ---- what a call for the next body says of the front
-
-gave_some : (bytes body : List ℕ) (g : Front) → Ok (Some body) ≡ next_answer g → g ≡ Whole body (left_by_next g bytes)
-gave_some bytes body (Whole a b) e = cc
-gave_some bytes body g e = cc
-
--- ---- the same of a feed of requests
 
 abbrev pub Answers : Feed → Result (Option (List ℕ)) FrameFault → Type 0
 Answers feed r = r ≡ next_answer (front feed.limit feed.rest)
 
 pub a_frame : (old new : Feed) (body : List ℕ) → old.limit ≡ 512 → Answers old (Ok (Some body)) → Takes old new → next old.rest ≡ Whole body new.rest
 a_frame old new body e a left =
-    gave_some old.rest body (next old.rest) (a ∙ ap (λ (n : ℕ). next_answer (front n old.rest)) e)
+    gives_whole old.rest body (next old.rest) (sym (a ∙ ap (λ (n : ℕ). next_answer (front n old.rest)) e))
     ∙ ap (Whole body) (sym (left.rest ∙ ap (λ (n : ℕ). left_by_next (front n old.rest) old.rest) e))

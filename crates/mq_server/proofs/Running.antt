@@ -1,8 +1,7 @@
 -- How far a connection has come between two steps.
 use Rattle.std.proofs.Common.{List, Option, [], ap, append-nil, arith, length, length-append, subst, sym, ℕ, ◌++◌, ◌+◌, ◌∙◌, ◌∷◌, ◌≡◌}
-use Rattle.mq_server.proofs.Words.{Appends, Appends-nil, Appends-trans, Asks, Book, Consumes, Consumes-nil, Delivery, Entry, IsLegalBook, Reply, ReportedCall, Request, SpellsRequest, Tells, Tells-none, Whole, Wire, all_zipped_more, answer_to, answers, asked, call, calls, flat_map-append, frame, frames_of, history_after, map-append, more_begins, next, reply_body}
+use Rattle.mq_server.proofs.Words.{Appends, Appends-nil, Appends-trans, Asks, Book, Consumes, Consumes-nil, Delivery, Entry, IsLegalBook, Reply, ReportedCall, Request, SpellsRequest, Tells, Tells-none, Whole, Wire, all_zipped_more, answer_to, answers, asked, call, calls, flat_map-append, frame, frames_of, history_after, map-append, more_begins, next, one_more, reply_body}
 use Rattle.mq_server.proofs.Deliveries.{Follows, answer_more, answers_more, history_more, history_none}
-use Rattle.mq_server.proofs.Heads.{frames_push}
 use Rattle.mq_server.proofs.Telling.{told_push}
 
 -- Of the bytes read these deliveries came, and the ledger's history is the one after them.
@@ -44,7 +43,7 @@ pub asks_push : (bytes held body after : List ℕ) (ds : List Delivery) (d : Del
 asks_push bytes held body after ds d a e s =
     let same : asked ds ++ d.request ∷ [] ≡ asked (ds ++ d ∷ []) = sym (map-append (λ (x : Delivery). x.request) ds (d ∷ [])) in
     subst (λ (rs : List Request). Asks bytes rs after) same
-    (record { bodies = a.bodies ++ body ∷ []; frames = frames_push 512 bytes held body after a.bodies a.frames e; each = all_zipped_more SpellsRequest a.bodies (asked ds) body d.request a.each s })
+    (record { bodies = a.bodies ++ body ∷ []; frames = one_more 512 bytes a.bodies held body after a.frames e; each = all_zipped_more SpellsRequest a.bodies (asked ds) body d.request a.each s })
 
 -- ---- a piece more
 

@@ -1,6 +1,7 @@
 -- One connection more is served.
 use Rattle.std.proofs.Common.{Bool, Err, List, Ok, Option, Result, [], ap, append-nil, arith, drop, false, get_or, length, length-append, length-drop, map, refl, set, subst, suc, sym, take, true, zero, ℕ, ◌++◌, ◌+◌, ◌<◌, ◌∙◌, ◌∷◌, ◌≡◌, ◌≢◌, ◌≤◌}
-use Rattle.mq_server.proofs.Words.{All, All-get_or, AllZip, AreServed, AreStopped, Book, ConnectionEnd, Delivery, DevicesAgree, EndCause, IsFlushed, Read, Reply, ReportedCall, ServeFault, Serves, Store, Tells, Tells-trans, Wire, Write, all_zipped_more, answer_to, calls, calls_of, calls_until, drop-drop, drop-set-lt, get_or-drop, length-take-le, result_of, served, set-get_or, set_split, take_more_set, wires}
+use lib.Seq.{split_at}
+use Rattle.mq_server.proofs.Words.{All, All-get_or, AllZip, AreServed, AreStopped, Book, ConnectionEnd, Delivery, DevicesAgree, EndCause, IsFlushed, Read, Reply, ReportedCall, ServeFault, Serves, Store, Tells, Tells-trans, Wire, Write, all_zipped_more, answer_to, calls, calls_of, calls_until, drop-drop, drop-set-lt, get_or-drop, length-take-le, result_of, served, set_split, take_more_set, wires}
 use Rattle.mq_server.specs.declared.connections.ConnectionEnd.TheVariants as ends
 use Rattle.mq_server.proofs.Deliveries.{Follows, behind, same_answers}
 use Rattle.mq_server.proofs.Telling.{calls_more}
@@ -30,10 +31,6 @@ module _ {S W : Type 0} (left : S → Option (List ℕ)) (held : W → Option (L
   wire_at (x ∷ inputs) (y ∷ outputs) zero input output e h p q = λ j. wire (p j) (q j)
   wire_at (x ∷ inputs) (y ∷ outputs) (suc i) input output e h p q = wire_at inputs outputs i input output (omega arith) (omega arith) p q
   wire_at inputs outputs i input output e h p q = absurd (omega (arith, e, h))
-
--- a list around one of its elements
-split_at : {X : Type 0} (xs : List X) (i : ℕ) (x : X) → i < length xs → x ≡ get_or xs i x → xs ≡ take i xs ++ x ∷ drop (suc i) xs
-split_at xs i x here at = sym (ap (set xs i) at ∙ set-get_or xs i x) ∙ set_split xs i x here
 
 -- ---- the relation
 
@@ -93,7 +90,7 @@ module _ {S W : Type 0} (left : S → Option (List ℕ)) (held : W → Option (L
       old = old;
       new = new;
       stands = length-take-le i news (omega (arith, within)) ∙ sym counted;
-      others = subst (λ (ws : List Wire). AreServed b [] olds ws (map result_of ends) seen) (split_at news i old within at) others;
+      others = subst (λ (ws : List Wire). AreServed b [] olds ws (map result_of ends) seen) (split_at news i old within ∙ ap (λ (w : Wire). take i news ++ w ∷ drop (suc i) news) (sym at)) others;
       left = sym after ∙ set_split news i new within;
       found = k;
       zone = f.zone;

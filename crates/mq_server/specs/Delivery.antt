@@ -37,10 +37,14 @@ HasGrown old new = (came : List Delivery) × (new.history ≡ history_after old 
 abbrev pub answer_to : Book → List Delivery → Delivery → Reply
 answer_to b earlier d = if d.taken then reply (day_of b.zone) b.default (history_after b earlier) d.request else Retry
 
+-- what each delivery comes to by those before it, all after earlier ones
+abbrev pub each_after : {A : Type 0} → (List Delivery → Delivery → A) → List Delivery → List Delivery → List A
+each_after f earlier [] = []
+each_after f earlier (d ∷ ds) = f earlier d ∷ each_after f (earlier ++ d ∷ []) ds
+
 -- the answers to deliveries, each after the ones before it, all after earlier ones
 abbrev pub answers_after : (List Delivery → Delivery → Reply) → List Delivery → List Delivery → List Reply
-answers_after answer earlier [] = []
-answers_after answer earlier (d ∷ ds) = answer earlier d ∷ answers_after answer (earlier ++ d ∷ []) ds
+answers_after answer earlier ds = each_after answer earlier ds
 
 -- the same where none came earlier
 abbrev pub answers : (List Delivery → Delivery → Reply) → List Delivery → List Reply
@@ -65,11 +69,6 @@ call d answer = record { request = d.request; answer = if d.taken then Ok answer
 abbrev pub failed_call : Request → ReportedCall
 failed_call request = record { request = request; answer = Err Store }
 
--- the calls of deliveries, each after the ones before it, all after earlier ones
-abbrev pub calls_after : (List Delivery → Delivery → Reply) → List Delivery → List Delivery → List ReportedCall
-calls_after answer earlier [] = []
-calls_after answer earlier (d ∷ ds) = call d (answer earlier d) ∷ calls_after answer (earlier ++ d ∷ []) ds
-
--- the same where none came earlier
+-- the calls of deliveries, each after the ones before it
 abbrev pub calls : (List Delivery → Delivery → Reply) → List Delivery → List ReportedCall
-calls answer ds = calls_after answer [] ds
+calls answer ds = each_after (λ earlier d. call d (answer earlier d)) [] ds

@@ -7,7 +7,7 @@ use Rattle.mq_frame.specs.Spelling.{frame, reply_body}
 use Rattle.mq_ledger.specs.declared.entry.Entry.{Entry}
 use Rattle.mq_ledger.specs.declared.ledger.ReportedCall.{ReportedCall}
 use Rattle.mq_ledger.specs.Legal.{Book}
-use Rattle.mq_ledger.specs.Told.{Tells}
+use Rattle.mq_lemmas.specs.Told.{Tells}
 use Rattle.mq_server.specs.declared.connection.Progress.{Progress}
 use Rattle.mq_server.specs.declared.connection.Progress.TheVariants.{Answered, Waits, Ended}
 use Rattle.mq_server.specs.declared.connection.EndCause.{EndCause}

@@ -9,7 +9,7 @@ use Rattle.mq_frame.specs.Feed.{Front, Nothing}
 use Rattle.mq_ledger.specs.declared.entry.Entry.{Entry}
 use Rattle.mq_ledger.specs.declared.ledger.ReportedCall.{ReportedCall}
 use Rattle.mq_ledger.specs.Legal.{Book}
-use Rattle.mq_ledger.specs.Told.{Tells}
+use Rattle.mq_lemmas.specs.Told.{Tells}
 use Rattle.mq_server.specs.declared.connection.EndCause.{EndCause}
 use Rattle.mq_server.specs.declared.connection.EndCause.TheVariants.{InputEnd, CutFrame}
 use Rattle.mq_server.specs.declared.fault.ServeFault.{ServeFault}

@@ -5,7 +5,7 @@ ghost use Rattle.std.specs.Prelude.{IfErr};
 ghost use Rattle.std.specs.List.{AllZip};
 ghost use Rattle.mq_stream.specs.Flow.{IsFlushed};
 ghost use Rattle.mq_ledger.specs.Leaving.{LeavesLedger};
-ghost use Rattle.mq_ledger.specs.Told.{Tells};
+ghost use Rattle.mq_lemmas.specs.Told.{Tells};
 ghost use Rattle.mq_server.specs.declared.connections.ConnectionEnd.{ConnectionEnd as AnyConnectionEnd};
 ghost use Rattle.mq_server.specs.Connections.{wires, result_of, AreServed, AreStopped, calls_until};
 ghost use Rattle.mq_server.specs.Connections.{DevicesAgree};

@@ -1,7 +1,7 @@
 //! Reading from a source.
 ghost use Rattle.std.specs.Prelude.{◌≡◌, ◌≢◌, ◌≤◌, ◌∷◌, [], true, false, ℕ, List, length, Err};
 ghost use Rattle.std.specs.Io.KnownBytes.{Consumes};
-ghost use Rattle.mq_stream.specs.Flow.{TellsReads};
+ghost use Rattle.mq_lemmas.specs.Told.{Tells};
 ghost use Rattle.mq_server.specs.Steps.{Refills};
 
 use crate::connection::Connection;
@@ -20,7 +20,7 @@ pub fn refill<S: Source>(input: &mut S, connection: &mut Connection) -> Result<(
         × Consumes (S.remaining input.old) (S.remaining input.new) piece
         × Refills connection.old connection.new piece (S.remaining input.new) result }
     // What came is answered before more is read.
-    ensures once { (piece : List ℕ) × TellsReads (S.reads input.old) (S.reads input.new)
+    ensures once { (piece : List ℕ) × Tells (S.reads input.old) (S.reads input.new)
         (piece ∷ []) }
     ensures failed { result ≡ Err ServeFault.Read → S.has_failed input.new ≡ true }
     ensures works { result ≢ Err ServeFault.Read → S.has_failed input.new ≡ false }

@@ -1,7 +1,7 @@
 //! Serving one connection over a source and a sink.
 ghost use Rattle.std.specs.Prelude.{◌≡◌, ◌≢◌, true, false, List, Err};
 ghost use Rattle.mq_ledger.specs.Leaving.{LeavesLedger};
-ghost use Rattle.mq_ledger.specs.Told.{Tells};
+ghost use Rattle.mq_lemmas.specs.Told.{Tells};
 ghost use Rattle.mq_server.specs.Connection.{Serves, calls_of};
 ghost use Rattle.mq_server.specs.Delivery.{Delivery, history_after, answer_to};
 ghost use Rattle.mq_stream.specs.Flow.{IsFlushed};

@@ -1,8 +1,8 @@
 -- One closing, and one more after those before.
 use Rattle.std.proofs.Common.{Bool, List, None, Option, Some, [], inl, inr, subst, sym, ◌∷◌, ◌≡◌}
-use Rattle.mq_store.proofs.Words.{Book, Database, Has, HasLedger, Insert, IsOneIn, IsOneOf, Keep, Leads, LeadsAll, Leaves, MovesLead, Plan, State, Tables, TransactionRecord, Update, UsageRecord, Write, WritesTransaction, WritesUsage, abandoned_row, freed, is_usage, same_day, same_key, set_transaction, set_usage}
-use Rattle.mq_rows.specs.Plan.{Has as HasRow}
+use Rattle.mq_store.proofs.Words.{Book, Database, Has, HasLedger, Insert, IsOneIn, IsOneOf, Keep, Leads, LeadsAll, LeadsWhereKeyed, MovesLead, Plan, State, Tables, TransactionRecord, Update, UsageRecord, Write, WritesTransaction, WritesUsage, abandoned_row, freed, is_usage, same_day, same_key, set_transaction, set_usage}
 use Rattle.mq_store.specs.GivingUp.{with_rows, ClosesOne, HasMoved}
+use Rattle.mq_lemmas.proofs.Lists.{In}
 
 pub closes : (was : TransactionRecord) (u : Option UsageRecord) (s0 s1 s2 s3 : State) → ((t : Tables) → HasLedger s0.now t → IsOneOf (is_usage was.login was.day) t.usage u) → s1.now ≡ s0.now
     → WritesTransaction (Update (abandoned_row was)) s1 s2 → WritesUsage (freed was.held was.held u) s2 s3 → ClosesOne was s0.now s3.now
@@ -11,12 +11,12 @@ closes was u s0 s1 s2 s3 found same one two = λ t l.
 
 -- the rows that a write leads to are those that it leaves
 pub both : {R : Type 0} (same : R → R → Bool) (set : R → R → R) (w : Write R) (rows : List R) (P Q : List R → Type 0)
-    → Leads same set w rows P → Leaves same set w rows Q → (after : List R) × P after × Q after
+    → Leads same set w rows P → LeadsWhereKeyed same set w rows Q → (after : List R) × P after × Q after
 both same set Keep rows P Q p q = (rows, p, q)
 both same set (Insert new) rows P Q p q = (new ∷ rows, p.after, q)
 both same set (Update new) rows P Q p q = (set new p.was ∷ p.rest, p.after, q p.was p.rest p.order p.there p.alone)
 
-has_row : {R : Type 0} (rows : List R) (r : R) → Has rows r → HasRow rows r
+has_row : {R : Type 0} (rows : List R) (r : R) → Has rows r → In r rows
 has_row [] r h = h
 has_row (x ∷ rows) r (inl e) = inl (sym e)
 has_row (x ∷ rows) r (inr h) = inr (has_row rows r h)
@@ -39,7 +39,7 @@ one_more t b p was rest old new left closes =
     let u = it.0 in
     let ts = both same_key set_transaction (Update (abandoned_row was)) left.rows
     (λ a. Leads same_day set_usage (freed was.held was.held u) left.used (λ c. LeadsAll rest a c (MovesLead b p)))
-    (λ a. Leaves same_day set_usage (freed was.held was.held u) left.used (λ c. HasLedger new (with_rows t a c))) (left.leads u (one_in (is_usage was.login was.day) left.used u it.1)) it.2 in
+    (λ a. LeadsWhereKeyed same_day set_usage (freed was.held was.held u) left.used (λ c. HasLedger new (with_rows t a c))) (left.leads u (one_in (is_usage was.login was.day) left.used u it.1)) it.2 in
     let us = both same_day set_usage (freed was.held was.held u) left.used (λ c. LeadsAll rest ts.0 c (MovesLead b p)) (λ c. HasLedger new (with_rows t ts.0 c)) ts.1 ts.2 in
     record { rows = ts.0; used = us.0; holds = us.2; leads = us.1 }
 

@@ -1,15 +1,15 @@
 -- The rows of answers and of transactions, read one by one, and the entries of a history one after another.
-use Rattle.std.proofs.Common.{All, Bool, List, None, Option, Some, [], add-one, ap, arith, drop, drop-cons, false, get_or, if◌then◌else◌, inl, inr, length, map, refl, subst, suc, sym, take, take-append-drop, true, ℕ, ◌++◌, ◌+◌, ◌<◌, ◌∙◌, ◌∷◌, ◌≡◌}
-use Rattle.mq_store.proofs.Words.{AnswerRecord, AreTransactions, Entry, Has, Id, IsLegal, IsOneOf, IsReply, IsRequest, Limit, Release, Reply, Request, Reserve, Retire, Retry, Settle, Transaction, TransactionRecord, Usage, answer, answer_row, answer_rows, day_named, enumerate_from, filter_none, get_or_default, history_of, id_of, is_below, is_transaction, known_by, map-append, moment_of, named, number_of, reply, reply_by, reply_to, requests, take_more, those, transaction_of, transaction_row}
+use Rattle.std.proofs.Common.{All, Bool, List, None, Option, Some, [], ap, arith, drop, false, get_or, if◌then◌else◌, inl, inr, length, map, refl, subst, suc, sym, take, take-append-drop, true, ℕ, ◌++◌, ◌+◌, ◌<◌, ◌∙◌, ◌∷◌, ◌≡◌}
+use Rattle.mq_store.proofs.Words.{AnswerRecord, AreTransactions, Entry, Has, IsLegal, IsOneOf, IsReply, IsRequest, Limit, Release, Reply, Request, Reserve, Retire, Retry, Settle, Transaction, TransactionRecord, Usage, answer, answer_row, answer_rows, day_named, enumerate_from, filter_none, get_or_default, history_of, id_of, is_below, is_transaction, known_by, map-append, moment_of, named, number_of, reply, requests, those, transaction_of, transaction_row}
 use Rattle.mq_frame.specs.Spelling.{SpellsRequest, SpellsReply, reply_body}
 use Rattle.mq_forget.specs.Carried.{IsAt}
 use Rattle.mq_tables.specs.declared.entry.Bodies.{Bodies}
 use Rattle.mq_tables.specs.Entries.{AreBodiesAt}
 use Rattle.mq_request.specs.declared.message.Request.TheVariants.{List as ListRequest}
-use Rattle.mq_forget.specs.Remembered.{moment_of as moment_in}
 use Rattle.mq_store.specs.Carrying.{day_by, SpellsWhereKnown, IsWhereKnown, IsAnswered}
-use Rattle.mq_store.proofs.KnownNumbers.{not_known}
-use Rattle.mq_store.proofs.KeyedRows.{has_filtered}
+use Rattle.sqlite_rules.proofs.ListLemmas.{has_kept}
+use Rattle.mq_ledger.proofs.Books.{fresh_reply}
+use Rattle.mq_forget.proofs.Carrying.{more_of, next_of}
 
 -- Answers.
 
@@ -55,15 +55,6 @@ entry_is one_request one_reply H answers place b r o requests_in replies_in rows
 
 -- Transactions.
 
-same_moment : (r : Request) → moment_of r ≡ moment_in r
-same_moment (Reserve id txn moment login count) = refl
-same_moment (Settle id txn moment login count) = refl
-same_moment (Release id txn moment login) = refl
-same_moment (Limit id from c login) = refl
-same_moment (Usage login d) = refl
-same_moment (ListRequest d after) = refl
-same_moment (Retire id) = refl
-
 unnamed_day : (day : ℕ → ℕ) (H : List Entry) (t : Transaction) (moment : ℕ) (o : Option Entry) → named H t ≡ o → those (transaction_row day H t) ≡ [] → day moment ≡ day_named day moment o
 unnamed_day day H t moment None h empty = refl
 unnamed_day day H t moment (Some e) h empty = absurd (let b : transaction_of day H t e ∷ [] ≡ [] = rw h at empty in cc b)
@@ -73,35 +64,24 @@ named_day day H t moment row None h there = absurd (let b : ⊥ = rw h at there 
 named_day day H t moment row (Some e) h there =
     let k : Has (transaction_of day H t e ∷ []) row = rw h at there in
     elim k [
-      | inl is ↦ ap (λ (r : TransactionRecord). r.day) is ∙ ap day (same_moment e.request)
+      | inl is ↦ ap (λ (r : TransactionRecord). r.day) is
       | inr none ↦ absurd none
     ]
 
 pub day_is : (day : ℕ → ℕ) (H : List Entry) (rows : List TransactionRecord) (t : Transaction) (moment : ℕ) (found : Option TransactionRecord) → AreTransactions day H rows → IsOneOf (is_transaction t) rows found → day_by day moment found ≡ day_named day moment (named H t)
 day_is day H rows t moment None are none = unnamed_day day H t moment (named H t) refl (sym (are t) ∙ filter_none (is_transaction t) rows none)
-day_is day H rows t moment (Some row) are found = named_day day H t moment row (named H t) refl (subst (λ all. Has all row) (are t) (has_filtered (is_transaction t) rows row found.0 found.1))
+day_is day H rows t moment (Some row) are found = named_day day H t moment row (named H t) refl (subst (λ all. Has all row) (are t) (has_kept (is_transaction t) rows row found.0 found.1))
 
 -- The next entry.
 
--- a new number's reply is its answer
-new_reply : (day : ℕ → ℕ) (default : ℕ) (H : List Entry) (r : Request) (o : Option Id) → known_by H o ≡ false → reply_to day default H r o ≡ answer day default H r
-new_reply day default H r None new = refl
-new_reply day default H r (Some id) new = (let unknown = not_known H id new in rw unknown.0 (ap (reply_by day default H r id) unknown.1))
-
 module _ (day : ℕ → ℕ) (default : ℕ) (H : List Entry) (place : ℕ) (e : Entry) (at : IsAt H place e) (legal : IsLegal day default H)
     (fronts : (F S : List Entry) → IsLegal day default (F ++ S) → IsLegal day default F) where
-  more : take (place + 1) H ≡ take place H ++ e ∷ []
-  more = take_more H place e at.within ∙ ap (λ x. take place H ++ x ∷ []) (sym at.is)
-
-  split : take place H ++ e ∷ drop (place + 1) H ≡ H
-  split = let less : place < length H = at.within in ap (λ x. take place H ++ x ∷ drop (place + 1) H) at.is ∙ ap (λ xs. take place H ++ xs) (sym (rw (add-one, drop-cons H place e) refl)) ∙ take-append-drop place H
-
   pub followed : ((K : List Entry) → IsLegal day default K → history_of day default (requests K) ≡ K) → history_of day default (requests (take place H) ++ e.request ∷ []) ≡ take (place + 1) H
   followed again =
       let front : IsLegal day default (take (place + 1) H) = fronts (take (place + 1) H) (drop (place + 1) H) (subst (IsLegal day default) (sym (take-append-drop (place + 1) H)) legal) in
-      ap (history_of day default) (sym (ap requests more ∙ map-append (λ (x : Entry). x.request) (take place H) (e ∷ []))) ∙ again (take (place + 1) H) front
+      ap (history_of day default) (sym (ap requests (more_of H place e at.within at.is) ∙ map-append (λ (x : Entry). x.request) (take place H) (e ∷ []))) ∙ again (take (place + 1) H) front
 
   pub replied : ((F S : List Entry) (x : Entry) → IsLegal day default (F ++ x ∷ S) → (known_by F (id_of x.request) ≡ false) × (x.reply ≡ answer day default F x.request)) → reply day default (take place H) e.request ≡ e.reply
   replied next =
-      let n = next (take place H) (drop (place + 1) H) e (subst (IsLegal day default) (sym split) legal) in
-      new_reply day default (take place H) e.request (id_of e.request) n.0 ∙ sym n.1
+      let n = next (take place H) (drop (place + 1) H) e (subst (IsLegal day default) (sym (next_of H place e at.within at.is)) legal) in
+      fresh_reply day default (take place H) e.request (id_of e.request) n.0 ∙ sym n.1

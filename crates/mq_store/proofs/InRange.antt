@@ -1,9 +1,10 @@
 -- What the rows of a legal history show is in range.
 use Rattle.std.proofs.Common.{List, None, Option, Some, [], false, find, inl, inr, refl, subst, sym, true, ℕ, ◌==◌, ◌∷◌, ◌≡◌}
-use Rattle.mq_store.proofs.Words.{AllByRecursion, Decides-eqb, Entry, Granted, IsAmount, IsLogin, IsNext, IsRequest, Reply, Request, Reserve, UsageRecord, are_amounts, below, cases_Bool, first_so, has_reserve, is_above, is_login, is_usage, le_is, login_on, same_text, usage_row}
+use Rattle.mq_store.proofs.Words.{AllByRecursion, Decides-eqb, Entry, Granted, IsAmount, IsLogin, IsNext, IsRequest, Reply, Request, Reserve, UsageRecord, are_amounts, cases_Bool, has_reserve, is_login, is_usage, le_is, login_on, same_text, usage_row}
 use Rattle.std.specs.Cmp.Lexicographic.{bytes_decides}
 use Rattle.mq_request.specs.declared.message.Reply.TheVariants.{Usage as UsageReply}
 use Rattle.mq_store.proofs.KeyedRows.{contained}
+use Rattle.mq_tables.proofs.usages.Following.{of_day}
 
 -- ---- amounts
 
@@ -42,10 +43,6 @@ has_row day H l d u is = elim (cases_Bool (has_reserve day H d l)) [
 
 -- ---- the next row of a page is the one under its key
 
--- a row above is of that day
-day_is : (d : ℕ) (after : List ℕ) (u : UsageRecord) → is_above d after u ≡ true → d ≡ u.day
-day_is d after u h = (Decides-eqb d u.day).0 (first_so (d == u.day) (below after u.login) h)
-
 its_own : (d : ℕ) (u : UsageRecord) → d ≡ u.day → is_usage u.login d u ≡ true
 its_own d u same =
     let text : same_text u.login u.login ≡ true = (bytes_decides u.login u.login).1 refl in
@@ -53,4 +50,4 @@ its_own d u same =
     rw (text, day) refl
 
 pub row_found : (d : ℕ) (after : List ℕ) (rows : List UsageRecord) (u : UsageRecord) → AllByRecursion (λ (x : UsageRecord). is_usage u.login d x ≡ true → Some x ≡ find (is_usage u.login d) rows) rows → IsNext d after rows (Some u) → Some u ≡ find (is_usage u.login d) rows
-row_found d after rows u only next = contained (λ (x : UsageRecord). is_usage u.login d x ≡ true → Some x ≡ find (is_usage u.login d) rows) rows u only next.0 (its_own d u (day_is d after u next.1))
+row_found d after rows u only next = contained (λ (x : UsageRecord). is_usage u.login d x ≡ true → Some x ≡ find (is_usage u.login d) rows) rows u only next.0 (its_own d u (of_day d after u next.1))

@@ -1,11 +1,8 @@
 -- Rows that are there once under their key.
-use Rattle.std.proofs.Common.{Bool, Contains, List, None, Option, Some, [], ap, arith, false, filter, find, inl, inr, length, refl, subst, sym, true, ◌∙◌, ◌∷◌, ◌≡◌, ◌≤◌}
-use Rattle.mq_store.proofs.Words.{All-from_recursion, AllByRecursion, AreRows, Book, Has, IsOneOf, Tables, all_has, cases_Bool, day_of, filter_none, limit_row, retired_row, those, transaction_row, usage_row}
+use Rattle.std.proofs.Common.{Bool, Contains, List, None, Option, Some, ap, arith, filter, find, inl, inr, length, refl, subst, sym, true, ◌∙◌, ◌≡◌, ◌≤◌}
+use Rattle.mq_store.proofs.Words.{All-from_recursion, AllByRecursion, AreRows, Book, Has, IsOneOf, Tables, all_has, day_of, filter_none, limit_row, retired_row, those, transaction_row, usage_row}
 use Rattle.mq_tables.specs.Finding.{AreKeyed}
-
-pub none_found : {X : Type 0} (test : X → Bool) (xs : List X) → AllByRecursion (λ x. test x ≡ false) xs → find test xs ≡ None
-none_found test [] h = refl
-none_found test (x ∷ xs) h = rw h.0 (none_found test xs h.1)
+use Rattle.sqlite_rules.proofs.ListLemmas.{has_kept}
 
 one_at_most : {X : Type 0} (rows : List X) (o : Option X) → rows ≡ those o → length rows ≤ 1
 one_at_most rows None h = rw h (omega arith)
@@ -22,14 +19,6 @@ keyed b t rows = record {
 
 -- ---- a row that is there once is the one that is found
 
-pub has_filtered : {X : Type 0} (test : X → Bool) (xs : List X) (x : X) → Has xs x → test x ≡ true → Has (filter test xs) x
-has_filtered test [] x there passes = absurd there
-has_filtered test (y ∷ ys) x (inl same) passes = rw (ap test (sym same) ∙ passes) (inl same)
-has_filtered test (y ∷ ys) x (inr more) passes = elim (cases_Bool (test y)) [
-  | inl hit ↦ rw hit (inr (has_filtered test ys x more passes))
-  | inr miss ↦ rw miss (has_filtered test ys x more passes)
-]
-
 has_those : {X : Type 0} (o : Option X) (x : X) → Has (those o) x → Some x ≡ o
 has_those None x there = absurd there
 has_those (Some y) x (inl same) = ap Some same
@@ -38,7 +27,7 @@ has_those (Some y) x (inr more) = absurd more
 pub found_once : {X : Type 0} (test : X → Bool) (rows : List X) (o found : Option X) → filter test rows ≡ those o → IsOneOf test rows found → found ≡ o
 found_once test rows None None once is = refl
 found_once test rows (Some x) None once is = absurd (let e = sym (filter_none test rows is) ∙ once in cc)
-found_once test rows o (Some x) once is = has_those o x (subst (λ (xs : List _). Has xs x) once (has_filtered test rows x is.0 is.1))
+found_once test rows o (Some x) once is = has_those o x (subst (λ (xs : List _). Has xs x) once (has_kept test rows x is.0 is.1))
 
 -- where each that passes is the one that is found among all, so is the one that a table of all has
 pub found_of : {X : Type 0} (test : X → Bool) (rows all : List X) (x : X) → rows ≡ all → AllByRecursion (λ y. test y ≡ true → find test all ≡ Some y) all → IsOneOf test rows (Some x) → find test all ≡ Some x

@@ -1,17 +1,11 @@
 -- The first request of its number, whose run isn't below the floor, is one that the history doesn't know.
-use Rattle.std.proofs.Common.{Bool, List, None, Some, [], ap, ap₂, false, inl, inr, is_some, not, refl, ◌||◌, ◌∙◌, ◌∷◌, ◌≡◌}
-use Rattle.mq_store.proofs.Words.{Entry, Id, Request, cases_Bool, first, has_id, id_of, is_below, is_first, is_first_by, known_by, list_any, neither, not_some, requests, stored}
-
-any_stored : (id : Id) (H : List Entry) → list_any (has_id id) (requests H) ≡ is_some (stored H id)
-any_stored id [] = refl
-any_stored id (e ∷ H) = elim (cases_Bool (has_id id e.request)) [
-  | inl here ↦ rw here refl
-  | inr there ↦ rw there (any_stored id H)
-]
+use Rattle.std.proofs.Common.{Bool, List, None, Some, ap, ap₂, false, is_some, not, ◌||◌, ◌∙◌, ◌≡◌}
+use Rattle.mq_store.proofs.Words.{Entry, Id, Request, first, id_of, is_below, is_first, is_first_by, known_by, neither, not_some, requests, stored}
+use Rattle.mq_ledger.proofs.Numbers.{stored_any}
 
 pub first_if_unknown : (H : List Entry) (r : Request) (id : Id) → first (requests H) ≡ requests H → id_of r ≡ Some id → is_first (requests H) r ≡ not (known_by H (Some id))
 first_if_unknown H r id distinct numbered =
-    ap (is_first_by (requests H)) numbered ∙ ap not (ap₂ (λ (a b : Bool). a || b) (ap (λ (rs : List Request). is_below rs id) distinct) (any_stored id H))
+    ap (is_first_by (requests H)) numbered ∙ ap not (ap₂ (λ (a b : Bool). a || b) (ap (λ (rs : List Request). is_below rs id) distinct) (stored_any H id))
 
 pub unnumbered_is_not_first : (H : List Entry) (r : Request) → id_of r ≡ None → is_first (requests H) r ≡ false
 unnumbered_is_not_first H r unnumbered = ap (is_first_by (requests H)) unnumbered

@@ -15,13 +15,9 @@ use Rattle.mq_store.specs.Soundness.{book_in, HasKept, HasStored, IsSound, Means
 use Rattle.mq_store.specs.declared.fault.Refusal.TheVariants as stop
 use Rattle.mq_store.proofs.Recovery.{AreOne, book_again, finds_book}
 use Rattle.mq_store.proofs.Sound.{Means, means_book, sound_book}
+use Rattle.mq_tables.proofs.making.Adding.{was_before}
 
 -- ---- the version
-
--- what held before some version
-not_since : (Now Before : Type 0) (b : Bool) → b ≡ false → Since b Now Before → Before
-not_since Now Before true e h = absurd cc
-not_since Now Before false e h = h
 
 versions : (z : Zone) (v : ℕ) → is_version z v ≡ true → (v ≡ 3) ⊎ (v ≡ older_version z)
 versions z v h = elim (or_cases (v == 3) (v == older_version z) h) [
@@ -119,7 +115,7 @@ module _ (b : Book) (db : Database) (has : HasStored b db) where
   free : has_later_table v db.schema ≡ false
   free = elim (versions b.zone v has.rows.setting.version) [
     | inl current ↦ subst (λ k. has_later_table k db.schema ≡ false) (sym current) refl
-    | inr older ↦ (not_since _ _ (nat_le 3 v) (ap (nat_le 3) older ∙ older_is b.zone) has.room).free
+    | inr older ↦ (was_before _ _ (nat_le 3 v) (ap (nat_le 3) older ∙ older_is b.zone) has.room).free
   ]
 
   judged_is : (zone : Zone) (default : ℕ) → judged_as (known_version (pos v)) zone default db.schema (shown_of (setting_in t.setting)) (rule_in b.zone) ≡ if_none v (fault_of_book zone default b)
@@ -144,7 +140,7 @@ module _ (b : Book) (db : Database) (has : HasStored b db) where
 
   migrated_book : (new : Database) → nat_le 3 v ≡ false → IsMigrated (nat_le 2 v) db new → HasBook b new
   migrated_book new older it =
-      let made = it.made (not_since _ _ (nat_le 3 v) older has.room).counters t has.holds refl older in
+      let made = it.made (was_before _ _ (nat_le 3 v) older has.room).counters t has.holds refl older in
       record { legal = has.legal; has = record { tables = migrated t; holds = made.ledger; rows = rows_again; current = refl } }
 
   indexed_book : (new : Database) → v ≡ 3 → IsIndexed db new → HasBook b new
@@ -159,7 +155,7 @@ module _ (one : AreOne) (b : Book) (old db : Database) (has : HasStored b old) (
   written_book up = elim (versions b.zone has.tables.setting.version has.rows.setting.version) [
     | inl current ↦ (let made = is_since _ _ (nat_le 3 has.tables.setting.version) (ap (nat_le 3) current) up in book_again one b made.new db sound made.trees_are (indexed_book b old has made.new current made.made))
     | inr older ↦ (let below = ap (nat_le 3) older ∙ older_is b.zone in
-        let made = not_since _ _ (nat_le 3 has.tables.setting.version) below up in
+        let made = was_before _ _ (nat_le 3 has.tables.setting.version) below up in
         book_again one b made.new db sound made.trees_are (migrated_book b old has made.new below made.made))
   ]
 
@@ -173,7 +169,7 @@ module _ (b : Book) (old new : State) (has : HasStored b old.now) where
       | inl left ↦ kept_book b old.now has new.now current (left.0.now is_open)
       | inr made ↦ indexed_book b old.now has new.now current made.1
     ]
-    | inr older ↦ (let below = ap (nat_le 3) older ∙ older_is b.zone in migrated_book b old.now has new.now below (not_since _ _ (nat_le 3 v') below up).0)
+    | inr older ↦ (let below = ap (nat_le 3) older ∙ older_is b.zone in migrated_book b old.now has new.now below (was_before _ _ (nat_le 3 v') below up).0)
   ]
 
 module _ (zone : Zone) (default : ℕ) (old new : State) (exact : (s : SettingRow) (rule : Option (List ℕ)) → HasSettings old.now s rule → Opens (IsFoundOf zone default old.now s rule) old new) where

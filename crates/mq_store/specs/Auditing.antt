@@ -1,25 +1,18 @@
 -- What an audit answers of a store.
 use Rattle.std.specs.Prelude.{ℕ}
-use Rattle.std.specs.List.Sorted.{IsPermutation}
 use Rattle.sqlite.specs.Effect.{Database}
 use Rattle.mq_ledger.specs.declared.zone.Zone.{Zone}
 use Rattle.mq_ledger.specs.Day.{day_of}
 use Rattle.mq_rows.specs.declared.audited.Audit.{Audit}
 use Rattle.mq_rows.specs.declared.audited.Audit.TheVariants.{Sound, Wrong}
 use Rattle.mq_rows.specs.Audit.{Figures, IsAudited}
-use Rattle.mq_tables.specs.Figures.{HasAuditTables, HasFigures}
+use Rattle.mq_tables.specs.Figures.{HasAuditTables, HasFigures, HaveSameRows}
 use Rattle.mq_store.specs.declared.auditing.RowCounts.{RowCounts}
-
--- the same rows, each table's in any order
-pub record AreReordered (f g : Figures) : Type 0 where
-  pub usage : IsPermutation f.usage g.usage
-  pub transactions : IsPermutation f.transactions g.transactions
-  pub limits : IsPermutation f.limits g.limits
 
 -- The answer is that of the figures, in some order of the rows.
 pub record IsAuditOf (zone : Zone) (default : ℕ) (f : Figures) (a : Audit) : Type 0 where
   pub read : Figures
-  pub same : AreReordered f read
+  pub same : HaveSameRows f read
   pub audited : IsAudited (day_of zone) default read a
 
 -- so it is of the figures of all rows that the store has

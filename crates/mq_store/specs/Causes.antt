@@ -42,15 +42,15 @@ IsCauseOver H None = ⊤
 IsCauseOver H (Some (cause.Refused e)) = ⊤
 IsCauseOver H (Some cause.Content) = 4611686018427387904 ≤ length H
 
--- so it is, whatever the history is of which the tables are the rows
+-- the cause is such a one over each history of which the tables are the rows
 abbrev pub StopsOver : Zone → ℕ → Database → Refusal → Type 0
 StopsOver zone default db refused = (H : List Entry) → HasBook (book_of zone default H) db → IsCauseOver H (cause_in refused)
 
--- so it is where the number is new
+-- the same over those of them to which the number is new
 abbrev pub StopsNew : Zone → ℕ → Id → Database → Refusal → Type 0
 StopsNew zone default id db refused =
     (H : List Entry) → HasBook (book_of zone default H) db → known_by H (Some id) ≡ false → IsCauseOver H (cause_in refused)
 
--- so it is whatever the zone is
+-- the same whatever the zone is
 abbrev pub StopsReading : ℕ → Database → Refusal → Type 0
 StopsReading default db refused = (zone : Zone) → StopsOver zone default db refused

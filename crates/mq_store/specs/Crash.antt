@@ -1,4 +1,5 @@
 -- What an open may find where a crash comes after a request, or after another open.
+-- `may_leave db`, of a store: a crash now may leave these trees.
 use Rattle.std.specs.Prelude.{◌≡◌, ◌⊎◌, ℕ, nat_le, List, true, false, Option, Some, None}
 use Rattle.sqlite.specs.Effect.{Database, IsDatabase}
 use Rattle.sqlite.specs.State.{State}
@@ -15,8 +16,8 @@ use Rattle.mq_store.specs.Opening.{AreBroughtUp}
 use Rattle.mq_store.specs.Soundness.{HasStored}
 use Rattle.mq_store.specs.Taking.{HasBook, book_of, book_after, Applies}
 
--- These trees are what the whole call leaves that gives this reply: where the rows were those of a legal
--- history, the reply is the ledger's, and they are those of the history with this arrival. So it is of
+-- These trees are what the call leaves once it is done, where it replies so: where the rows were those of a
+-- legal history, the reply is the ledger's, and they are those of the history with this arrival. So it is of
 -- each sound database that has these trees.
 pub record AreAppliedBy (zone : Zone) (default : ℕ) (r : Request) (a : Reply) (old : Database) (trees : Trees)
     : Type 0 where

@@ -20,7 +20,7 @@ use Rattle.mq_rows.specs.Written.{MovesLead}
 use Rattle.mq_tables.specs.Ledger.{HasLedger}
 use Rattle.mq_tables.specs.Records.{IsOneOf}
 use Rattle.mq_tables.specs.Retiring.{cleared_where}
-use Rattle.mq_tables.specs.Updates.{Leaves}
+use Rattle.mq_tables.specs.Updates.{LeadsWhereKeyed}
 
 -- the tables with other rows of transactions and of what logins have used
 abbrev pub with_rows : Tables → List TransactionRecord → List UsageRecord → Tables
@@ -30,8 +30,8 @@ with_rows t rows used = record t { transactions = rows; usage = used }
 abbrev pub ClosesOne : TransactionRecord → Database → Database → Type 0
 ClosesOne was old new =
     (t : Tables) → HasLedger old t → (u : Option UsageRecord) × IsOneOf (is_usage was.login was.day) t.usage u
-    × Leaves same_key set_transaction (Update (abandoned_row was)) t.transactions (λ rows.
-    Leaves same_day set_usage (freed was.held was.held u) t.usage (λ used. HasLedger new (with_rows t rows used)))
+    × LeadsWhereKeyed same_key set_transaction (Update (abandoned_row was)) t.transactions (λ rows.
+    LeadsWhereKeyed same_day set_usage (freed was.held was.held u) t.usage (λ used. HasLedger new (with_rows t rows used)))
 
 -- the tables are these, but for rows of transactions and of what logins have used from which the plan leads to the book
 pub record HasMoved (t : Tables) (b : Book) (p : Plan) (db : Database) : Type 0 where
@@ -63,7 +63,7 @@ is_at rows n = list_any (λ row. n == place_in row) rows
 abbrev pub cleared_at : List Row → List AnswerRecord → List AnswerRecord
 cleared_at rows answers = cleared_where (λ a. is_at rows a.n) answers
 
--- so it is
+-- the answers at these places have no reply any more, and all else stays
 abbrev pub ClearsPlaces : List Row → Database → Database → Type 0
 ClearsPlaces rows old new =
     (t : Tables) → HasLedger old t → HasLedger new (record t { answers = cleared_at rows t.answers })

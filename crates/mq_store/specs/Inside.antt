@@ -1,6 +1,6 @@
--- What a step inside a transaction answers, and what becomes of the store by it, whatever error refuses it. All of it
--- holds where the disk is clean after the step. specs/Inside.antt of mq_tables says the same of a statement.
-use Rattle.std.specs.Prelude.{IsTrue, Result, OnOk, IfOk, IfErr}
+-- What a step inside a transaction answers, besides what specs/Inside.antt of mq_tables has. All of it holds where the
+-- disk is clean after the step.
+use Rattle.std.specs.Prelude.{Result, OnOk, IfOk, IfErr}
 use Rattle.sqlite_trees.specs.declared.store.Store.{Ghosts}
 use Rattle.sqlite.specs.Effect.{Database}
 use Rattle.sqlite.specs.declared.transaction.Transaction.{Transaction}
@@ -9,11 +9,7 @@ use Rattle.sqlite.specs.State.{HasCleanDisk}
 use Rattle.mq_store.specs.Taking.{Stays}
 
 module _ {S A E : Type 0} (store : Ghosts S) (old new : Transaction S) (answer : Result A E) where
-  -- an answer is as said of what the store held before
-  abbrev pub Finds : (Database → A → Type 0) → Type 0
-  Finds Found = HasCleanDisk (state store new.conn.now) → IfOk answer (Found (state store old.conn.now).now)
-
-  -- a refusal is as said of that
+  -- a refusal is as said of what the store held before
   abbrev pub Stops : (Database → E → Type 0) → Type 0
   Stops Stopped = HasCleanDisk (state store new.conn.now) → IfErr answer (Stopped (state store old.conn.now).now)
 
@@ -21,14 +17,6 @@ module _ {S A E : Type 0} (store : Ghosts S) (old new : Transaction S) (answer :
   abbrev pub ChangesNothing : Type 0
   ChangesNothing = HasCleanDisk (state store new.conn.now) → OnOk answer (Stays (state store old.conn.now) (state store new.conn.now))
 
-  -- with an answer what it holds became so
-  abbrev pub Turns : (Database → Database → Type 0) → Type 0
-  Turns Became = HasCleanDisk (state store new.conn.now) → OnOk answer (Became (state store old.conn.now).now (state store new.conn.now).now)
-
   -- an answer is as said of what it held before and after
   abbrev pub Answers : (A → Database → Database → Type 0) → Type 0
   Answers Said = HasCleanDisk (state store new.conn.now) → IfOk answer (λ a. Said a (state store old.conn.now).now (state store new.conn.now).now)
-
-  -- with an answer it is inside the transaction still
-  abbrev pub StaysInside : Type 0
-  StaysInside = HasCleanDisk (state store new.conn.now) → OnOk answer (IsTrue (state store new.conn.now).in_transaction)

@@ -151,28 +151,28 @@ IsJudgedRuled g zone default s old new fault =
 abbrev pub IsJudgedPlain : {S : Type 0} → Zone → ℕ → Setting → Held S → Held S → Option OpenFault → Type 0
 IsJudgedPlain zone default s old new fault = (new ≡ old) × (fault ≡ fault_in zone default s None)
 
--- so it is by the version of the tables
+-- the rows are judged as those of this version are: 3, 2 or 1
 abbrev pub IsJudgedBy : {S : Type 0} (g : Ghosts S) → ℕ → Zone → ℕ → Setting → Held S → Held S → Option OpenFault
     → Type 0
 IsJudgedBy g version zone default s old new fault =
     Since (nat_le 3 version) (IsJudgedCurrent g zone default s old new fault)
     (Since (nat_le 2 version) (IsJudgedRuled g zone default s old new fault) (IsJudgedPlain zone default s old new fault))
 
--- so it is, unless a table has a name of a later version
+-- they are judged by this version, unless a table has a name of a later one: then they aren't ours
 abbrev pub IsJudgedUnless : {S : Type 0} (g : Ghosts S) → Bool → ℕ → Zone → ℕ → Setting → Held S → Held S
     → Result ℕ OpenFault → Type 0
 IsJudgedUnless g true version zone default s old new r = (new ≡ old) × (r ≡ Err NotOurs)
 IsJudgedUnless g false version zone default s old new r =
     (fault : Option OpenFault) × IsJudgedBy g version zone default s old new fault × (r ≡ if_none version fault)
 
--- so it is of a version that is known
+-- the same where the version is known; else they aren't ours
 abbrev pub IsJudgedAs : {S : Type 0} (g : Ghosts S) → Option ℕ → Zone → ℕ → Setting → Held S → Held S
     → Result ℕ OpenFault → Type 0
 IsJudgedAs g None zone default s old new r = (new ≡ old) × (r ≡ Err NotOurs)
 IsJudgedAs g (Some version) zone default s old new r =
     IsJudgedUnless g (has_later_table version (state g old).now.schema) version zone default s old new r
 
--- so it is by what was read of the settings
+-- the same by the version in the settings; without settings the tables aren't ours, and a reading that failed is its fault
 abbrev pub IsJudgedAfter : {S : Type 0} (g : Ghosts S) → Zone → ℕ → Result (Option Setting) Error → Held S → Held S
     → Result ℕ OpenFault → Type 0
 IsJudgedAfter g zone default (Ok (Some s)) old new r = IsJudgedAs g (known_version s.version) zone default s old new r

@@ -16,7 +16,7 @@ IsNextIn day default H d after rows None = IsNext d after rows None
 IsNextIn day default H d after rows (Some r) =
     (u : UsageRecord) × IsNext d after rows (Some u) × (r ≡ row day default H d u.login)
 
--- so it is, whatever the zone and the history are of which the tables are the rows
+-- that is the next row, whatever the zone and the history are of which the tables are the rows
 abbrev pub IsNextRow : ℕ → ℕ → List ℕ → Database → Option UsageRow → Type 0
 IsNextRow default d after db o =
     (zone : Zone) (H : List Entry) (b : HasBook (book_of zone default H) db)
@@ -37,7 +37,7 @@ pub record IsBegun (day : ℕ → ℕ) (default : ℕ) (H : List Entry) (d : ℕ
   pub are : shown ≡ map (row day default H d) (map (λ u. u.login) us)
   pub ends : last ≡ behind after us
 
--- so it is, whatever the zone and the history are of which the tables are the rows
+-- these are those rows, whatever the zone and the history are of which the tables are the rows
 abbrev pub IsBegunIn : ℕ → ℕ → List ℕ → Database → ℕ → List UsageRow → List ℕ → Type 0
 IsBegunIn default d after db n shown last =
     (zone : Zone) (H : List Entry) (b : HasBook (book_of zone default H) db)

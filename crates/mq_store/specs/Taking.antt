@@ -74,7 +74,7 @@ IsPlannedOver zone default H r t p =
     (p.reply ≡ reply (day_of zone) default H r)
     × LeadTo (book_of zone default (appended (day_of zone) default H r)) t p
 
--- so it is where the number is new
+-- the plan is so over each history of which the tables are the rows, and to which the number is new
 abbrev pub IsPlanned : Zone → ℕ → Request → Id → Database → Plan → Type 0
 IsPlanned zone default r id db p =
     (H : List Entry) (b : HasBook (book_of zone default H) db) → known_by H (Some id) ≡ false
@@ -89,13 +89,13 @@ abbrev pub AppliesOver : Zone → ℕ → List Entry → Request → Reply → D
 AppliesOver zone default H r a new =
     (a ≡ reply (day_of zone) default H r) × HasBook (book_after zone default H r) new
 
--- so it is where the number is new
+-- they are, over each history of which the tables were the rows, and to which the number is new
 abbrev pub AppliesNew : Zone → ℕ → Request → Id → Reply → Database → Database → Type 0
 AppliesNew zone default r id a old new =
     (H : List Entry) → HasBook (book_of zone default H) old → known_by H (Some id) ≡ false
     → AppliesOver zone default H r a new
 
--- so it is for any request
+-- they are, over each history of which the tables were the rows, whatever the request is
 abbrev pub Applies : Zone → ℕ → Request → Reply → Database → Database → Type 0
 Applies zone default r a old new =
     (H : List Entry) → HasBook (book_of zone default H) old → AppliesOver zone default H r a new
@@ -105,7 +105,8 @@ abbrev pub ArrivesAs : Bool → Zone → ℕ → Request → Database → Type 0
 ArrivesAs is zone default r old =
     (H : List Entry) → HasBook (book_of zone default H) old → is_first (requests H) r ≡ is
 
--- so it is; the first request of its number is written, and at any other the store is as it was
+-- the reply and the rows are as Applies says; a Written request is the first of its number, and a Read one isn't, and
+-- leaves the store as it was
 abbrev pub IsTaken : Zone → ℕ → Request → Database → Database → TakenRequest → Type 0
 IsTaken zone default r old new (Read a) =
     Applies zone default r a old new × (new ≡ old) × ArrivesAs false zone default r old

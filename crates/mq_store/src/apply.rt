@@ -28,17 +28,26 @@ pub(crate) fn apply<S: Alter>(
 ) -> Result<Reply, Refusal>
     requires in_range { IsRequest request.now }
     requires autocommit { connection.old.in_transaction ≡ false }
+
+    // It ends outside a transaction, and every reply is in range.
     ensures autocommit { connection.new.in_transaction ≡ false }
     ensures step_limit { connection.new.step_limit ≡ connection.old.step_limit }
     ensures in_range { IfOk result IsReply }
+
+    // Kept at the end, the store was kept at the entry. The reply and the rows are then those of
+    // one more arrival; after a fault the rows are as they were.
     ensures kept { HasKept (state S.Store connection.new) → HasKept (state S.Store connection.old) }
     ensures applied { HasKept (state S.Store connection.new)
         → IfOk result (λ a. Applies zone default request.now a
         (state S.Store connection.old).now (state S.Store connection.new).now) }
     ensures fault { HasKept (state S.Store connection.new)
         → OnErr result ((state S.Store connection.new).now ≡ (state S.Store connection.old).now) }
+
+    // Why it stopped. Here and below a clean disk is enough: the connection needn't be open still.
     ensures cause { HasCleanDisk (state S.Store connection.new)
         → IfErr result (StopsOver zone default (state S.Store connection.old).now) }
+
+    // What an open after a crash may find.
     ensures crash_new { HasCleanDisk (state S.Store connection.new) → IfOk result
         (λ a. LeavesNew zone default request.now a (state S.Store connection.old)
         (state S.Store connection.new)) }
@@ -49,6 +58,7 @@ pub(crate) fn apply<S: Alter>(
         → (state S.Store connection.new).may_leave db → (state S.Store connection.old).may_leave db
         ⊎ AreApplied zone default request.now (state S.Store connection.old).now db) }
 {
+    // (by its clause whoever opens trees that a crash left finds the database that had them)
     trees_have_one_schema();
     // (its clause says that outside a transaction the tables are those of the last commit)
     let _settled = connection.is_autocommit();

@@ -13,8 +13,8 @@ ghost use Rattle.sqlite.specs.Held.{state};
 ghost use Rattle.sqlite.specs.State.{HasCleanDisk};
 ghost use Rattle.sqlite.specs.Steps.{over_memory};
 ghost use Rattle.mq_request.specs.Range.{IsRequest};
-ghost use Rattle.mq_tables.specs.Inside.{IsInside, LeavesCommit};
-ghost use Rattle.mq_store.specs.Inside.{Answers, ChangesNothing, Finds, StaysInside, Turns};
+ghost use Rattle.mq_tables.specs.Inside.{IsInside, CommitsNothing, Finds, Turns, StaysInside};
+ghost use Rattle.mq_store.specs.Inside.{Answers, ChangesNothing};
 ghost use Rattle.mq_store.specs.Carrying.{IsJudgedAt, Follows, SetsAgain, CarriesOne};
 ghost use Rattle.mq_store.specs.Renewing.{Renews, RenewsBy};
 ghost use Rattle.mq_store.specs.Taking.{Applies};
@@ -60,7 +60,7 @@ fn judge<S: Alter>(
     ensures judged { Finds S.Store from.old from.new result
         (IsJudgedAt terms.now.zone terms.now.day place) }
     ensures in_range { IfOk result (λ judged. IsRequest judged.request) }
-    ensures leaves { LeavesCommit S.Store from.old from.new }
+    ensures leaves { CommitsNothing S.Store from.old from.new }
 {
     let answered = answered_at(alloc, from, place)?;
     let is_staying = stays(from, terms.zone, terms.day, &answered)?;
@@ -82,7 +82,7 @@ fn take_any<S: Alter>(
     ensures inside { StaysInside S.Store tx.old tx.new result }
     ensures taken { Answers S.Store tx.old tx.new result
         (Applies terms.now.zone terms.now.default request.now) }
-    ensures leaves { LeavesCommit S.Store tx.old tx.new }
+    ensures leaves { CommitsNothing S.Store tx.old tx.new }
 {
     match take(alloc, tx, terms.zone, terms.default, request)? {
         TakenRequest::Read(reply) => Ok(reply),
@@ -107,8 +107,8 @@ fn follow_one<S: Alter>(
         → OnOk result (Follows terms.now.zone terms.now.default place
         (state S.Store from.old.conn.now).now
         (state over_memory scratch.old.conn.now).now (state over_memory scratch.new.conn.now).now) }
-    ensures from_leaves { LeavesCommit S.Store from.old from.new }
-    ensures scratch_leaves { LeavesCommit over_memory scratch.old scratch.new }
+    ensures from_leaves { CommitsNothing S.Store from.old from.new }
+    ensures scratch_leaves { CommitsNothing over_memory scratch.old scratch.new }
 {
     entries_are_followed();
     let answered = answered_at(alloc, from, place)?;
@@ -131,7 +131,7 @@ fn set_again(
     ensures inside { OnOk result (IsTrue (state over_memory scratch.new.conn.now).in_transaction) }
     ensures set { IfOk result (SetsAgain terms.now.zone terms.now.default request.now
         (state over_memory scratch.old.conn.now).now (state over_memory scratch.new.conn.now).now) }
-    ensures leaves { LeavesCommit over_memory scratch.old scratch.new }
+    ensures leaves { CommitsNothing over_memory scratch.old scratch.new }
 {
     entries_are_followed();
     let reply = take_any(alloc, scratch, terms, request)?;
@@ -152,7 +152,7 @@ fn carry_one<T: Alter>(
     ensures inside { StaysInside T.Store into.old into.new result }
     ensures carried { Turns T.Store into.old into.new result
         (CarriesOne terms.now.zone terms.now.default terms.now.day request.now is_staying) }
-    ensures leaves { LeavesCommit T.Store into.old into.new }
+    ensures leaves { CommitsNothing T.Store into.old into.new }
 {
     entries_are_carried();
     if !is_staying {
@@ -190,9 +190,9 @@ fn step_apart<S: Alter, T: Alter>(
         (state S.Store from.old.conn.now).now
         (state T.Store into.old.conn.now).now (state T.Store into.new.conn.now).now
         (state over_memory scratch.old.conn.now).now (state over_memory scratch.new.conn.now).now) }
-    ensures from_leaves { LeavesCommit S.Store from.old from.new }
-    ensures into_leaves { LeavesCommit T.Store into.old into.new }
-    ensures scratch_leaves { LeavesCommit over_memory scratch.old scratch.new }
+    ensures from_leaves { CommitsNothing S.Store from.old from.new }
+    ensures into_leaves { CommitsNothing T.Store into.old into.new }
+    ensures scratch_leaves { CommitsNothing over_memory scratch.old scratch.new }
 {
     let RenewalPlace { place, followed } = at;
     if followed < place {
@@ -236,9 +236,9 @@ fn step_by<S: Alter, T: Alter>(
         (state S.Store from.old.conn.now).now
         (state T.Store into.old.conn.now).now (state T.Store into.new.conn.now).now
         (state over_memory scratch.old.conn.now).now (state over_memory scratch.new.conn.now).now) }
-    ensures from_leaves { LeavesCommit S.Store from.old from.new }
-    ensures into_leaves { LeavesCommit T.Store into.old into.new }
-    ensures scratch_leaves { LeavesCommit over_memory scratch.old scratch.new }
+    ensures from_leaves { CommitsNothing S.Store from.old from.new }
+    ensures into_leaves { CommitsNothing T.Store into.old into.new }
+    ensures scratch_leaves { CommitsNothing over_memory scratch.old scratch.new }
 {
     let request = &judged.request;
     match judged.is_staying {
@@ -277,9 +277,9 @@ pub(crate) fn step<S: Alter, T: Alter>(
         (state S.Store from.old.conn.now).now
         (state T.Store into.old.conn.now).now (state T.Store into.new.conn.now).now
         (state over_memory scratch.old.conn.now).now (state over_memory scratch.new.conn.now).now) }
-    ensures from_leaves { LeavesCommit S.Store from.old from.new }
-    ensures into_leaves { LeavesCommit T.Store into.old into.new }
-    ensures scratch_leaves { LeavesCommit over_memory scratch.old scratch.new }
+    ensures from_leaves { CommitsNothing S.Store from.old from.new }
+    ensures into_leaves { CommitsNothing T.Store into.old into.new }
+    ensures scratch_leaves { CommitsNothing over_memory scratch.old scratch.new }
 {
     let judged = judge(alloc, from, terms, at.place)?;
     step_by(alloc, from, into, scratch, terms, at, &judged)

@@ -6,10 +6,9 @@ ghost use Rattle.sqlite.specs.State.{HasCleanDisk};
 ghost use Rattle.sqlite.specs.Tree.{Trees};
 ghost use Rattle.mq_ledger.specs.Day.{day_of};
 ghost use Rattle.mq_rows.specs.Tables.{Tables};
-ghost use Rattle.mq_tables.specs.Inside.{LeavesCommit};
+ghost use Rattle.mq_tables.specs.Inside.{CommitsNothing, Finds};
 ghost use Rattle.mq_tables.specs.Ledger.{HasLedger};
 ghost use Rattle.mq_tables.specs.Reading.{Spares};
-ghost use Rattle.mq_store.specs.Inside.{Finds};
 ghost use Rattle.mq_store.specs.Days.{AreDaysOf, AreReservedDays};
 ghost use Rattle.mq_store.specs.Soundness.{book_in, HasKept, IsSound};
 
@@ -35,7 +34,7 @@ pub struct ReservedDays {
 fn days_in<S: Alter>(tx: &mut Transaction<'_, S>) -> Result<Option<ReservedDays>, Error>
     ensures found { Finds S.Store tx.old tx.new result (λ db days. (t : Tables) → HasLedger db t
         → AreDaysOf t.usage days) }
-    ensures leaves { LeavesCommit S.Store tx.old tx.new }
+    ensures leaves { CommitsNothing S.Store tx.old tx.new }
 {
     let Some(oldest) = oldest_day(tx)? else {
         return Ok(None);

@@ -5,8 +5,8 @@ ghost use Rattle.sqlite.specs.Held.{state};
 ghost use Rattle.sqlite.specs.State.{HasCleanDisk};
 ghost use Rattle.sqlite.specs.Tree.{Trees};
 ghost use Rattle.mq_request.specs.Range.{IsAmount};
-ghost use Rattle.mq_tables.specs.Inside.{IsInside, LeavesCommit};
-ghost use Rattle.mq_store.specs.Inside.{ChangesNothing, StaysInside, Turns};
+ghost use Rattle.mq_tables.specs.Inside.{IsInside, CommitsNothing, Turns, StaysInside};
+ghost use Rattle.mq_store.specs.Inside.{ChangesNothing};
 ghost use Rattle.mq_store.specs.Carrying.{Carries};
 ghost use Rattle.mq_store.specs.Forgetting.{MakesBlank, Fills, AreFilled};
 ghost use Rattle.mq_store.specs.Soundness.{HasKept};
@@ -27,7 +27,7 @@ fn make<S: Alter>(tx: &mut Transaction<'_, S>, terms: &Terms, indexed: bool) -> 
     requires inside { IsInside S.Store tx.old }
     ensures inside { StaysInside S.Store tx.old tx.new result }
     ensures blank { Turns S.Store tx.old tx.new result (MakesBlank terms.now.zone terms.now.default) }
-    ensures leaves { LeavesCommit S.Store tx.old tx.new }
+    ensures leaves { CommitsNothing S.Store tx.old tx.new }
 {
     let made_with = new_setting(terms.zone, terms.default);
     make_tables(tx, &made_with, indexed)?;
@@ -51,8 +51,8 @@ fn carry_apart<S: Alter, T: Alter>(
         → OnOk result (Carries terms.now.zone terms.now.default terms.now.day
         (state S.Store from.old.conn.now).now
         (state T.Store into.old.conn.now).now (state T.Store into.new.conn.now).now) }
-    ensures from_leaves { LeavesCommit S.Store from.old from.new }
-    ensures into_leaves { LeavesCommit T.Store into.old into.new }
+    ensures from_leaves { CommitsNothing S.Store from.old from.new }
+    ensures into_leaves { CommitsNothing T.Store into.old into.new }
 {
     let mut memory = Connection::open_in_memory(alloc)?;
     // (its clause says so of the tables in memory)
@@ -92,8 +92,8 @@ fn fill<S: Alter, T: Alter>(
         → OnOk result (Fills terms.now.zone terms.now.default terms.now.day
         (state S.Store from.old.conn.now).now
         (state T.Store into.old.conn.now).now (state T.Store into.new.conn.now).now) }
-    ensures from_leaves { LeavesCommit S.Store from.old from.new }
-    ensures into_leaves { LeavesCommit T.Store into.old into.new }
+    ensures from_leaves { CommitsNothing S.Store from.old from.new }
+    ensures into_leaves { CommitsNothing T.Store into.old into.new }
 {
     make(into, terms, indexed)?;
     carry_apart(alloc, from, into, terms)

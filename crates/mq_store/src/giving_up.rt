@@ -1,12 +1,11 @@
 //! A retire gives runs up: what their open transactions hold is settled, and the replies of their
-//! answers are cleared, one by one, so that no more than one row is in memory besides the list of
-//! them.
+//! answers are cleared, one by one. In memory are the places of these answers, then the rows of
+//! these transactions, and one row of `usage`.
 
 ghost use Rattle.std.specs.Prelude.{◌≡◌, ◌<◌, ◌^◌, Some, All, IfOk};
 ghost use Rattle.mq_rows.specs.Plan.{abandoned_row, freed};
 ghost use Rattle.mq_rows.specs.Storable.{IsStorable, AreStorableRuns};
-ghost use Rattle.mq_tables.specs.Inside.{IsInside, LeavesCommit};
-ghost use Rattle.mq_store.specs.Inside.{StaysInside, Turns};
+ghost use Rattle.mq_tables.specs.Inside.{IsInside, CommitsNothing, Turns, StaysInside};
 ghost use Rattle.mq_store.specs.GivingUp.{ClosesOne, ClosesAll, ClearsPlaces, ClearsRuns, GivesUp};
 
 use mq_rows::{Runs, TransactionRecord, UsageRecord, Write};
@@ -65,7 +64,7 @@ fn close_one<S: Alter>(tx: &mut Transaction<'_, S>, was: &TransactionRecord) -> 
     requires inside { IsInside S.Store tx.old }
     ensures inside { StaysInside S.Store tx.old tx.new result }
     ensures closed { Turns S.Store tx.old tx.new result (ClosesOne was.now) }
-    ensures leaves { LeavesCommit S.Store tx.old tx.new }
+    ensures leaves { CommitsNothing S.Store tx.old tx.new }
 {
     let usage = find_usage(tx, &was.login, was.day)?;
     let totals = settled(was.held, usage)?;
@@ -85,7 +84,7 @@ fn close_all<S: Alter>(
     requires inside { IsInside S.Store tx.old }
     ensures inside { StaysInside S.Store tx.old tx.new result }
     ensures closed { Turns S.Store tx.old tx.new result (ClosesAll transactions.now) }
-    ensures leaves { LeavesCommit S.Store tx.old tx.new }
+    ensures leaves { CommitsNothing S.Store tx.old tx.new }
 {
     for was in transactions {
         close_one(tx, was)?;
@@ -99,7 +98,7 @@ fn clear_all<S: Alter>(tx: &mut Transaction<'_, S>, places: &[Row]) -> Result<()
     requires inside { IsInside S.Store tx.old }
     ensures inside { StaysInside S.Store tx.old tx.new result }
     ensures cleared { Turns S.Store tx.old tx.new result (ClearsPlaces places.now) }
-    ensures leaves { LeavesCommit S.Store tx.old tx.new }
+    ensures leaves { CommitsNothing S.Store tx.old tx.new }
 {
     for place in places {
         let n = natural_at(place, 0)?;
@@ -115,7 +114,7 @@ fn clear_runs<S: Alter>(tx: &mut Transaction<'_, S>, runs: &Runs) -> Result<(), 
     requires inside { IsInside S.Store tx.old }
     ensures inside { StaysInside S.Store tx.old tx.new result }
     ensures cleared { Turns S.Store tx.old tx.new result (ClearsRuns runs.now) }
-    ensures leaves { LeavesCommit S.Store tx.old tx.new }
+    ensures leaves { CommitsNothing S.Store tx.old tx.new }
 {
     let places = answer_places(tx, runs)?;
     clear_all(tx, places.as_slice())
@@ -132,7 +131,7 @@ fn give_up_runs<S: Alter>(
     requires inside { IsInside S.Store tx.old }
     ensures inside { StaysInside S.Store tx.old tx.new result }
     ensures given_up { Turns S.Store tx.old tx.new result (GivesUp (Some runs.now)) }
-    ensures leaves { LeavesCommit S.Store tx.old tx.new }
+    ensures leaves { CommitsNothing S.Store tx.old tx.new }
 {
     clear_runs(tx, runs)?;
     let transactions = find_open(alloc, tx, runs)?;
@@ -150,7 +149,7 @@ pub(crate) fn give_up<S: Alter>(
     requires inside { IsInside S.Store tx.old }
     ensures inside { StaysInside S.Store tx.old tx.new result }
     ensures given_up { Turns S.Store tx.old tx.new result (GivesUp runs.now) }
-    ensures leaves { LeavesCommit S.Store tx.old tx.new }
+    ensures leaves { CommitsNothing S.Store tx.old tx.new }
 {
     match runs {
         Some(runs) => give_up_runs(alloc, tx, runs),

@@ -67,8 +67,8 @@ pub(crate) fn floors_are_known()
     floors_are_found();
 }
 
-/// A number whose run is below the floor is old. Of any other one without a row is new, and by a
-/// row the reply is the ledger's.
+/// A number whose run is below the floor is old. Any other number is new where it has no row; where
+/// it has one, the reply made from it is the ledger's.
 pub(crate) fn numbers_are_known()
     ensures old { (zone : AnyZone) (default : ℕ) (H : List AnyEntry) (r : AnyRequest) (id : Id) →
         id_of r ≡ Some id → is_below (requests H) id ≡ true →

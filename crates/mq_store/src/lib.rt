@@ -16,14 +16,16 @@
 //! connections or files. Begin with `specs/Soundness.antt`, when a store is a sound ledger.
 //! docs/STORE.md says it in words.
 //!
-//! A request goes from `apply.rt`, its transaction and the commit, through `take.rt`, whether its
-//! number is known and what a new one comes to, to `write.rt`, where the reply is stored with the
-//! other rows, and `giving_up.rt`, what a retire closes and clears; `listing.rt` answers what is
-//! only read. `specs/Taking.antt` says what each of them does to the tables, and
-//! `specs/Inside.antt` how a step says so. `opening.rt` and `auditing.rt` are an open. A new ledger
-//! is made of an old one by `recall.rt`, what an old row tells, `carry.rt`, one step, `slice.rt`,
-//! so many steps, and `fill.rt`, all of them: `forgetting.rt` does that at once, `renewal.rt` a
-//! piece at a time, and `renewing.rt` between requests. `laws.rt` has what their proofs stand on.
+//! A request goes from `SqlLedger::apply` in `ledger.rt` to `apply.rt`, its transaction and the
+//! commit, through `take.rt`, whether its number is known and what a new one comes to, to
+//! `write.rt`, where the reply is stored with the other rows, and `giving_up.rt`, what a retire
+//! closes and clears; `listing.rt` answers what is only read, and `fault.rt` has why a step was
+//! refused. `specs/Taking.antt` says what they do to the tables, `specs/GivingUp.antt` what a
+//! retire does, `specs/Paging.antt` what is read, and `specs/Inside.antt` how a step says so.
+//! `opening.rt` and `auditing.rt` are an open. A new ledger is made of an old one by `recall.rt`,
+//! what an old row tells, `carry.rt`, one step, `slice.rt`, so many steps, and `fill.rt`, all of
+//! them: `forgetting.rt` does that at once, and `renewal.rt` a piece at a time. `laws.rt` has what
+//! their proofs stand on.
 #![tactic(auto)]
 
 mod apply;
@@ -44,7 +46,6 @@ mod opening;
 mod recall;
 mod renewal;
 mod renewal_place;
-mod renewing;
 mod slice;
 mod take;
 mod write;
@@ -56,4 +57,3 @@ pub use laws::arrivals_leave_what_was_taken_over;
 pub use ledger::SqlLedger;
 pub use mq_rows::Audit;
 pub use renewal::Renewal;
-pub use renewing::RenewalChore;

@@ -3,8 +3,8 @@
 ghost use Rattle.std.specs.Prelude.{IfOk, IfSome};
 ghost use Rattle.mq_request.specs.declared.message.Request.{Request as AnyRequest};
 ghost use Rattle.mq_request.specs.Range.{IsLogin, IsDay, IsReply, IsRow, IsPage};
-ghost use Rattle.mq_tables.specs.Inside.{LeavesCommit};
-ghost use Rattle.mq_store.specs.Inside.{ChangesNothing, Finds, Stops};
+ghost use Rattle.mq_tables.specs.Inside.{CommitsNothing, Finds};
+ghost use Rattle.mq_store.specs.Inside.{ChangesNothing, Stops};
 ghost use Rattle.mq_store.specs.Causes.{StopsReading};
 ghost use Rattle.mq_store.specs.Taking.{IsReplied};
 ghost use Rattle.mq_store.specs.Paging.{IsNextRow, IsPageOf};
@@ -34,7 +34,7 @@ pub(crate) fn reply_to_usage<S: Alter>(
     ensures replied { Finds S.Store tx.old tx.new result
         (IsReplied default (AnyRequest.Usage login.now day)) }
     ensures in_range { IfOk result IsReply }
-    ensures leaves { LeavesCommit S.Store tx.old tx.new }
+    ensures leaves { CommitsNothing S.Store tx.old tx.new }
     ensures cause { Stops S.Store tx.old tx.new result (StopsReading default) }
 {
     reads_are_answered();
@@ -55,7 +55,7 @@ fn next_row<S: Alter>(
     ensures stays { ChangesNothing S.Store tx.old tx.new result }
     ensures next { Finds S.Store tx.old tx.new result (IsNextRow default day after.now) }
     ensures in_range { IfOk result (λ next. IfSome next IsRow) }
-    ensures leaves { LeavesCommit S.Store tx.old tx.new }
+    ensures leaves { CommitsNothing S.Store tx.old tx.new }
     ensures cause { Stops S.Store tx.old tx.new result (StopsReading default) }
 {
     reads_are_answered();
@@ -81,7 +81,7 @@ fn page<S: Alter>(
     ensures page { Finds S.Store tx.old tx.new result (λ db rows. IsPageOf default day after.now db
         rows.items) }
     ensures in_range { IfOk result (λ rows. IsPage rows.items) }
-    ensures leaves { LeavesCommit S.Store tx.old tx.new }
+    ensures leaves { CommitsNothing S.Store tx.old tx.new }
     ensures cause { Stops S.Store tx.old tx.new result (StopsReading default) }
 {
     reads_are_answered();
@@ -111,7 +111,7 @@ pub(crate) fn reply_to_list<S: Alter>(
     ensures replied { Finds S.Store tx.old tx.new result
         (IsReplied default (AnyRequest.List day after.now)) }
     ensures in_range { IfOk result IsReply }
-    ensures leaves { LeavesCommit S.Store tx.old tx.new }
+    ensures leaves { CommitsNothing S.Store tx.old tx.new }
     ensures cause { Stops S.Store tx.old tx.new result (StopsReading default) }
 {
     let rows = page(alloc, tx, default, day, after)?;

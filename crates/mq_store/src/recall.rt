@@ -5,8 +5,8 @@ ghost use Rattle.mq_request.specs.Range.{IsRequest, IsId, IsMoment};
 ghost use Rattle.mq_frame.specs.Spelling.{SpellsRequest};
 ghost use Rattle.mq_ledger.specs.History.{transaction};
 ghost use Rattle.mq_forget.specs.Remembered.{is_set};
-ghost use Rattle.mq_tables.specs.Inside.{LeavesCommit};
-ghost use Rattle.mq_store.specs.Inside.{ChangesNothing, Finds};
+ghost use Rattle.mq_tables.specs.Inside.{CommitsNothing, Finds};
+ghost use Rattle.mq_store.specs.Inside.{ChangesNothing};
 ghost use Rattle.mq_store.specs.Carrying.{Names, SpellsWhereKnown, IsAnsweredAt, TellsStaying};
 
 use crate::fault::{Refusal, StoreCause};
@@ -69,7 +69,7 @@ pub(crate) fn answered_at<S: Alter>(
     ensures stays { ChangesNothing S.Store tx.old tx.new result }
     ensures read { Finds S.Store tx.old tx.new result (IsAnsweredAt place) }
     ensures in_range { IfOk result (λ answered. IsRequest answered.request) }
-    ensures leaves { LeavesCommit S.Store tx.old tx.new }
+    ensures leaves { CommitsNothing S.Store tx.old tx.new }
 {
     answers_are_entries();
     let Some(bodies) = read_answer(tx, place + 1)? else {
@@ -94,7 +94,7 @@ fn day_named<S: Alter>(
     ensures stays { ChangesNothing S.Store tx.old tx.new result }
     ensures named { Finds S.Store tx.old tx.new result (Names zone
         (transaction id.now txn) moment) }
-    ensures leaves { LeavesCommit S.Store tx.old tx.new }
+    ensures leaves { CommitsNothing S.Store tx.old tx.new }
 {
     transactions_have_days();
     match find_transaction(tx, &id.host, id.run, txn)? {
@@ -124,7 +124,7 @@ pub(crate) fn stays<S: Alter>(
     requires { IsRequest answered.now.request }
     ensures stays { ChangesNothing S.Store tx.old tx.new result }
     ensures told { Finds S.Store tx.old tx.new result (TellsStaying zone day answered.now) }
-    ensures leaves { LeavesCommit S.Store tx.old tx.new }
+    ensures leaves { CommitsNothing S.Store tx.old tx.new }
 {
     let request = &answered.request;
     match request {

@@ -5,8 +5,8 @@ ghost use Rattle.sqlite.specs.Held.{state};
 ghost use Rattle.sqlite.specs.State.{HasCleanDisk};
 ghost use Rattle.sqlite.specs.Steps.{over_memory};
 ghost use Rattle.sqlite.specs.Tree.{Trees};
-ghost use Rattle.mq_tables.specs.Inside.{IsInside, LeavesCommit};
-ghost use Rattle.mq_store.specs.Inside.{ChangesNothing, Finds, StaysInside};
+ghost use Rattle.mq_tables.specs.Inside.{IsInside, CommitsNothing, Finds, StaysInside};
+ghost use Rattle.mq_store.specs.Inside.{ChangesNothing};
 ghost use Rattle.mq_store.specs.Renewing.{Renews, IsThrough, Ends};
 ghost use Rattle.mq_store.specs.Soundness.{HasKept};
 
@@ -61,9 +61,9 @@ fn steps<S: Alter, T: Alter>(
         (state S.Store from.old.conn.now).now
         (state T.Store into.old.conn.now).now (state T.Store into.new.conn.now).now
         (state over_memory scratch.old.conn.now).now (state over_memory scratch.new.conn.now).now) }
-    ensures from_leaves { LeavesCommit S.Store from.old from.new }
-    ensures into_leaves { LeavesCommit T.Store into.old into.new }
-    ensures scratch_leaves { LeavesCommit over_memory scratch.old scratch.new }
+    ensures from_leaves { CommitsNothing S.Store from.old from.new }
+    ensures into_leaves { CommitsNothing T.Store into.old into.new }
+    ensures scratch_leaves { CommitsNothing over_memory scratch.old scratch.new }
 {
     let mut reached = at;
     for _step in 0..count {
@@ -106,9 +106,9 @@ pub(crate) fn go_through<S: Alter, T: Alter>(
         (state S.Store from.old.conn.now).now
         (state T.Store into.old.conn.now).now (state T.Store into.new.conn.now).now
         (state over_memory scratch.old.conn.now).now (state over_memory scratch.new.conn.now).now) }
-    ensures from_leaves { LeavesCommit S.Store from.old from.new }
-    ensures into_leaves { LeavesCommit T.Store into.old into.new }
-    ensures scratch_leaves { LeavesCommit over_memory scratch.old scratch.new }
+    ensures from_leaves { CommitsNothing S.Store from.old from.new }
+    ensures into_leaves { CommitsNothing T.Store into.old into.new }
+    ensures scratch_leaves { CommitsNothing over_memory scratch.old scratch.new }
 {
     let until = read_arrivals(from)?;
     let more = came_since(heard, until);

@@ -7,8 +7,8 @@ ghost use Rattle.mq_ledger.specs.declared.entry.Entry.{Entry as AnyEntry};
 ghost use Rattle.mq_ledger.specs.Arrivals.{id_of, is_below};
 ghost use Rattle.mq_ledger.specs.History.{requests};
 ghost use Rattle.mq_rows.specs.Storable.{IsStorablePlan};
-ghost use Rattle.mq_tables.specs.Inside.{IsInside, LeavesCommit};
-ghost use Rattle.mq_store.specs.Inside.{Answers, ChangesNothing, Finds, StaysInside, Stops};
+ghost use Rattle.mq_tables.specs.Inside.{IsInside, CommitsNothing, Finds, StaysInside};
+ghost use Rattle.mq_store.specs.Inside.{Answers, ChangesNothing, Stops};
 ghost use Rattle.mq_store.specs.Causes.{StopsOver, StopsNew};
 ghost use Rattle.mq_store.specs.Taking.{HasBook, book_of, IsKnown, IsPlanned, AppliesNew, IsTaken};
 ghost use Rattle.mq_store.specs.Taking.{reply_in};
@@ -44,7 +44,7 @@ fn is_retired<S: Alter>(tx: &mut Transaction<'_, S>, id: &Id) -> Result<bool, Er
     ensures below { Finds S.Store tx.old tx.new result (λ db retired. (zone : Zone) (default : ℕ)
         (H : List AnyEntry)
         → HasBook (book_of zone default H) db → retired ≡ is_below (requests H) id.now) }
-    ensures leaves { LeavesCommit S.Store tx.old tx.new }
+    ensures leaves { CommitsNothing S.Store tx.old tx.new }
 {
     floors_are_known();
     match find_floor(tx, &id.host)? {
@@ -69,7 +69,7 @@ fn known_reply<S: Alter>(
         (H : List AnyEntry)
         → HasBook (book_of zone default H) db → IsKnown zone default H request.now id.now known) }
     ensures in_range { IfOk result (λ known. IfSome known IsReply) }
-    ensures leaves { LeavesCommit S.Store tx.old tx.new }
+    ensures leaves { CommitsNothing S.Store tx.old tx.new }
     ensures cause { Stops S.Store tx.old tx.new result (λ db refused. (zone : Zone) (default : ℕ)
         → StopsOver zone default db refused) }
 {
@@ -101,7 +101,7 @@ fn plan<S: Alter>(
         (IsPlanned zone default request.now id.now) }
     ensures storable { IfOk result IsStorablePlan }
     ensures in_range { IfOk result (λ plan. IsReply plan.reply) }
-    ensures leaves { LeavesCommit S.Store tx.old tx.new }
+    ensures leaves { CommitsNothing S.Store tx.old tx.new }
     ensures cause { Stops S.Store tx.old tx.new result (StopsNew zone default id.now) }
 {
     new_numbers_are_planned();
@@ -127,9 +127,10 @@ fn take_new<S: Alter>(
     ensures applied { Answers S.Store tx.old tx.new result
         (AppliesNew zone default request.now id.now) }
     ensures in_range { IfOk result IsReply }
-    ensures leaves { LeavesCommit S.Store tx.old tx.new }
+    ensures leaves { CommitsNothing S.Store tx.old tx.new }
     ensures cause { Stops S.Store tx.old tx.new result (StopsNew zone default id.now) }
 {
+    // (its clause `new`: rows of the history with the request are those of a legal book)
     arrivals_are_applied();
     let plan = plan(alloc, tx, zone, default, id, request)?;
     write_plan(alloc, tx, &plan)?;
@@ -153,9 +154,10 @@ fn take_numbered<S: Alter>(
     ensures taken { Answers S.Store tx.old tx.new result
         (λ taken before after. IsTaken zone default request.now before after taken) }
     ensures in_range { IfOk result (λ taken. IsReply (reply_in taken)) }
-    ensures leaves { LeavesCommit S.Store tx.old tx.new }
+    ensures leaves { CommitsNothing S.Store tx.old tx.new }
     ensures cause { Stops S.Store tx.old tx.new result (StopsOver zone default) }
 {
+    // (its clause `known`: a request whose number is known adds nothing)
     arrivals_are_applied();
     match known_reply(alloc, tx, id, request)? {
         Some(known) => Ok(TakenRequest::Read(known)),
@@ -180,9 +182,10 @@ pub(crate) fn take<S: Alter>(
     ensures taken { Answers S.Store tx.old tx.new result
         (λ taken before after. IsTaken zone default request.now before after taken) }
     ensures in_range { IfOk result (λ taken. IsReply (reply_in taken)) }
-    ensures leaves { LeavesCommit S.Store tx.old tx.new }
+    ensures leaves { CommitsNothing S.Store tx.old tx.new }
     ensures cause { Stops S.Store tx.old tx.new result (StopsOver zone default) }
 {
+    // (its clause `unnumbered`: a request without a number adds nothing)
     arrivals_are_applied();
     match request {
         Request::Reserve { id, .. }

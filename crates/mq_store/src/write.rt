@@ -1,8 +1,7 @@
 //! What a numbered request whose number is new writes.
 
-ghost use Rattle.mq_rows.specs.Storable.{AreStorable, IsStorableRun, IsStorablePlan};
-ghost use Rattle.mq_tables.specs.Inside.{IsInside, LeavesCommit};
-ghost use Rattle.mq_store.specs.Inside.{StaysInside, Turns};
+ghost use Rattle.mq_rows.specs.Storable.{IsStorableWrite, IsStorableFloorWrite, IsStorablePlan};
+ghost use Rattle.mq_tables.specs.Inside.{IsInside, CommitsNothing, Turns, StaysInside};
 ghost use Rattle.mq_store.specs.Taking.{MovesRows, WritesPlan};
 
 use crate::giving_up::give_up;
@@ -19,12 +18,12 @@ use std::alloc::Global;
 /// What becomes of the transactions, of what logins have used, of the limits and of the floors.
 #[tactic(auto, using(crate::proofs::Chain::calls))]
 fn write_rows<S: Alter>(tx: &mut Transaction<'_, S>, plan: &Plan) -> Result<(), Error>
-    requires storable { AreStorable plan.now.transaction }
-    requires floor { IsStorableRun plan.now.retired }
+    requires storable { IsStorableWrite plan.now.transaction }
+    requires floor { IsStorableFloorWrite plan.now.retired }
     requires inside { IsInside S.Store tx.old }
     ensures inside { StaysInside S.Store tx.old tx.new result }
     ensures written { Turns S.Store tx.old tx.new result (MovesRows plan.now) }
-    ensures leaves { LeavesCommit S.Store tx.old tx.new }
+    ensures leaves { CommitsNothing S.Store tx.old tx.new }
 {
     write_transaction(tx, &plan.transaction)?;
     write_usage(tx, &plan.usage)?;
@@ -44,7 +43,7 @@ pub(crate) fn write_plan<S: Alter>(
     requires inside { IsInside S.Store tx.old }
     ensures inside { StaysInside S.Store tx.old tx.new result }
     ensures written { Turns S.Store tx.old tx.new result (WritesPlan plan.now) }
-    ensures leaves { LeavesCommit S.Store tx.old tx.new }
+    ensures leaves { CommitsNothing S.Store tx.old tx.new }
 {
     // This comes first: the plan's other writes go on from the rows that it leaves.
     give_up(alloc, tx, &plan.given_up)?;

@@ -20,9 +20,3 @@ AppendsFront old new bytes = (front : List ℕ) × (rest : List ℕ) × (bytes �
 abbrev pub read_bytes : {E : Type 0} → Result ℕ E → List ℕ → List ℕ
 read_bytes (Ok count) piece = take count piece
 read_bytes (Err fault) piece = []
-
--- the reads that a source reports have grown by these, where it still reports them afterwards
-abbrev pub TellsReads : Option (List (List ℕ)) → Option (List (List ℕ)) → List (List ℕ) → Type 0
-TellsReads (Some before) (Some after) more = after ≡ before ++ more
-TellsReads None (Some after) more = ⊥
-TellsReads before None more = ⊤

@@ -3,7 +3,8 @@ ghost use Rattle.std.specs.Prelude.{◌≡◌, ◌∷◌, [], ℕ, List, Bool, f
 ghost use Rattle.std.specs.Prelude.{is_err};
 ghost use Rattle.std.specs.Io.{ReadsAtMost};
 ghost use Rattle.std.specs.Io.KnownBytes.{ReadConsumes};
-ghost use Rattle.mq_stream.specs.Flow.{read_bytes, TellsReads};
+ghost use Rattle.mq_lemmas.specs.Told.{Tells};
+ghost use Rattle.mq_stream.specs.Flow.{read_bytes};
 
 use crate::error::DeviceFault;
 use std::io::{ErrorKind, Read};
@@ -28,7 +29,7 @@ pub trait Source {
     fn read(&mut self, piece: &mut [u8]) -> Result<usize, DeviceFault>
         ensures bound { ReadsAtMost result piece.new }
         ensures bytes { ReadConsumes (remaining self.old) (remaining self.new) result piece.new }
-        ensures told { TellsReads (reads self.old) (reads self.new)
+        ensures told { Tells (reads self.old) (reads self.new)
             (read_bytes result piece.new ∷ []) }
         ensures failed { has_failed self.new ≡ is_err result }
         ensures for_good { has_failed self.old ≡ true → IsErr result };

@@ -1,11 +1,8 @@
 -- One table after another.
+use Rattle.mq_lemmas.proofs.Lists.{all_split}
 use Rattle.std.proofs.Common.{◌≡◌, ℕ, List, [], ◌∷◌, ◌++◌, refl, ap, subst, ◌∙◌}
 use Rattle.mq_tables.proofs.Words.{AllByRecursion, Schema, State, Table, all-append, all_both, created, next_tree}
 use Rattle.mq_tables.specs.Making.{chain, trees_for, AllFree, HasAdded}
-
-pub all_split : {X : Type 0} (P : X → Type 0) (xs ys : List X) → AllByRecursion P (xs ++ ys) → AllByRecursion P xs × AllByRecursion P ys
-all_split P [] ys h = (tt, h)
-all_split P (x ∷ xs) ys h = let more = all_split P xs ys h.1 in ((h.0, more.0), more.1)
 
 -- what holds of each table of the longer schema holds of those that were there, and of those that were made
 pub of_chain : (Q : ℕ → Type 0) (made : List Table) (s : Schema) → AllByRecursion (λ t. Q t.tree) (chain s made).tables

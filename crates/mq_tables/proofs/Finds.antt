@@ -1,15 +1,12 @@
 -- Which records a query shows.
-use Rattle.std.proofs.Common.{◌≡◌, inl, inr, ℕ, pos, List, [], ◌∷◌, map, filter, length, Bool, true, false, Option, Some, None, Ok, Err, Result, arith, refl, sym, ap, ap₂, subst, subst₂, ◌∙◌}
-use Rattle.mq_tables.proofs.Words.{AllByRecursion, Blob, Error, Has, IfOk, Int, IsPermutation, IsPermutation-map, Row, Tables, all-map, all-permutation, all_from, all_of, cases_Bool, has_filtered, has_kept, length_permutation, ⊤}
+use Rattle.std.proofs.Common.{◌≡◌, ℕ, pos, List, [], ◌∷◌, map, filter, length, Bool, true, Option, Some, None, Ok, Err, Result, arith, refl, sym, ap, ap₂, subst, subst₂, ◌∙◌}
+use Rattle.mq_tables.proofs.Words.{AllByRecursion, Blob, Error, Has, IfOk, Int, IsPermutation, IsPermutation-map, Row, Tables, all-map, all-permutation, all_from, all_of, has_filtered, length_permutation, ⊤}
 use Rattle.mq_tables.specs.Records.{IsOneOf, IsFirstBy, IsShownOne}
+use Rattle.mq_rows.proofs.Lists.{none_pass}
 
 pub empty_mapped : {X Y : Type 0} (f : X → Y) (xs : List X) → length (map f xs) ≡ 0 → xs ≡ []
 empty_mapped f [] e = refl
 empty_mapped f (x ∷ xs) e = absurd (omega (arith, e))
-
-module _ {R : Type 0} (test : R → Bool) where
-  pub none_of : (all : List R) → filter test all ≡ [] → AllByRecursion (λ r. test r ≡ false) all
-  none_of all e = all_from _ all (λ r there. elim (cases_Bool (test r)) [ inl hit ↦ absurd (subst (λ rs. Has rs r) e (has_kept test all r there hit)) | inr not_it ↦ not_it ])
 
 module _ {R Y : Type 0} (show : R → Y) where
   -- what is shown is shown of a record that passes
@@ -39,7 +36,7 @@ follows Shown Read Is so Held rows (Err e) shown read = tt
 
 module _ {R : Type 0} (test : R → Bool) (show : R → Row) (Shows : Row → R → Type 0) (is_it : (row : Row) (u v : R) → Shows row u → test v ≡ true → row ≡ show v → v ≡ u) where
   found_first : (all : List R) (rows : List Row) (found : Option R) → IsPermutation (map show (filter test all)) rows → IsFirstBy Shows rows found → IsOneOf test all found
-  found_first all rows None same none = none_of test all (empty_mapped show _ (sym (length_permutation _ _ same) ∙ ap length none))
+  found_first all rows None same none = none_pass test all (empty_mapped show _ (sym (length_permutation _ _ same) ∙ ap length none))
   found_first all rows (Some u) same (row, more, is, shown) =
       let head : (v : R) × (Has all v × (test v ≡ true)) × (row ≡ show v) = (subst (AllByRecursion (λ r. (v : R) × (Has all v × (test v ≡ true)) × (r ≡ show v))) is (all-permutation _ _ _ same (shown_of show test all))).0 in
       let it = is_it row u head.0 shown head.1.1 head.2 in

@@ -11,8 +11,9 @@ use Rattle.sqlite_value.specs.declared.keys.Key.{Key}
 use Rattle.sqlite.specs.Program.{overlay}
 use Rattle.mq_tables.specs.Written.{latest_query}
 use Rattle.mq_tables.specs.Records.{Holds}
-use Rattle.mq_tables.proofs.Finds.{none_of, empty_mapped, shown_of}
+use Rattle.mq_tables.proofs.Finds.{empty_mapped, shown_of}
 use Rattle.mq_tables.proofs.Queries.{one_each, made_records}
+use Rattle.mq_rows.proofs.Lists.{none_pass}
 
 stored : (t : ℕ) (db : Trees) → nat_le (2 ^ 31) t ≡ false → overlay db [] t ≡ db t
 stored t db low = rw low
@@ -62,7 +63,7 @@ module _ {R : Type 0} (fields : R → Row) (tests project : List Term) (params :
       first_is : (t : ℕ) (all : List R) (ordered : List Output) → IsPermutation (map out (filter pass all)) ordered → IsSortedBy (before t) ordered
           → (rows : List Row) → rows ≡ page (latest_query t tests project order) params (map (λ (o : Output). o.1) ordered) → IsFirstRow t all rows
       first_is t all [] same sorted rows is =
-          let none = none_of pass all (empty_mapped out (filter pass all) (sym (length_permutation _ _ same))) in
+          let none = none_pass pass all (empty_mapped out (filter pass all) (sym (length_permutation _ _ same))) in
           subst (IsFirstRow t all) (sym is) none
       first_is t all (o ∷ more) same sorted rows is =
           let from : AllByRecursion (λ y. (u : R) × (Has all u × (pass u ≡ true)) × (y ≡ out u)) (o ∷ more) = all-permutation _ _ _ same (shown_of out pass all) in

@@ -1,8 +1,8 @@
 -- INSERT of one row of values into a table that the schema has at some place.
-use Rattle.std.proofs.Common.{◌≡◌, ℕ, ◌+◌, List, [], ◌∷◌, length, Bool, true, false, Option, Some, None, Ok, refl}
+use Rattle.std.proofs.Common.{◌≡◌, ℕ, ◌+◌, List, [], ◌∷◌, length, Option, Some, None, Ok, refl}
 use Rattle.mq_tables.proofs.Words.{Compiled, Insert, Name, Parsed, Row, Schema, Table, command, compiled, first, insert, insert_or_abort, meaning, new_rows, planned, returning, shows, small, table_named, timed, understood, with_command}
-use Rattle.std.specs.Prelude.{slice_get, ◌&&◌, ◌==◌}
-use Rattle.std.specs.List.{flat_map, filter_map}
+use Rattle.std.specs.Prelude.{slice_get, ◌==◌}
+use Rattle.std.specs.List.{filter_map}
 use Rattle.sqlite_ast.specs.declared.Statement.TheVariants as written
 use Rattle.sqlite_ast.specs.declared.Conflict.TheVariants as conflict
 use Rattle.sqlite_ast.specs.declared.Rows.{Rows}
@@ -13,6 +13,8 @@ use Rattle.sqlite_schema.specs.Rules.{ParentKey, parent_key}
 use Rattle.sqlite_rules.specs.Action.{works, work_by, work_for, deed_for}
 use Rattle.sqlite_rules.specs.declared.action.Deed.{Deed}
 use Rattle.mq_tables.proofs.Plain.{parsed_in}
+use Rattle.mq_lemmas.proofs.Booleans.{and_false}
+use Rattle.sqlite_trees.proofs.ListLemmas.{flat_map_none}
 
 pub record IsInsert (p : Parsed) : Type 0 where
   pub name : Name
@@ -42,10 +44,6 @@ module _ (text : List ℕ) (parses : first text ≡ Ok (parsed_in (first text)))
   understood_insert = rw compiled_insert
 
 -- an INSERT takes no row out, so no foreign key acts
-and_false : (b : Bool) → b && false ≡ false
-and_false true = refl
-and_false false = refl
-
 no_work : (key : Option ParentKey) (deed : Option Deed) (depth tree : ℕ) (child : Table) (ref : Reference) → work_by depth tree [] child ref deed key ≡ None
 no_work key None depth tree child ref = refl
 no_work None (Some deed) depth tree child ref = refl
@@ -55,11 +53,7 @@ none_of : {X Y : Type 0} (f : X → Option Y) → ((x : X) → f x ≡ None) →
 none_of f none [] = refl
 none_of f none (x ∷ xs) = rw (none x) (none_of f none xs)
 
-nothing_of : {X Y : Type 0} (f : X → List Y) → ((x : X) → f x ≡ []) → (xs : List X) → flat_map f xs ≡ []
-nothing_of f none [] = refl
-nothing_of f none (x ∷ xs) = rw (none x) (nothing_of f none xs)
-
 pub unreferred : (s : Schema) (tree : ℕ) (news : List Row) → works s Enforced 0 tree [] news ≡ []
 unreferred s tree news =
-    nothing_of (λ child. filter_map (work_for s Enforced 0 tree [] news child) child.references)
+    flat_map_none (λ child. filter_map (work_for s Enforced 0 tree [] news child) child.references)
     (λ child. none_of (work_for s Enforced 0 tree [] news child) (λ ref. no_work (parent_key s.tables ref) (deed_for Enforced (length news == 0) ref) 0 tree child ref) child.references) s.tables

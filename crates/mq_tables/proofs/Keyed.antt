@@ -4,8 +4,8 @@ use Rattle.mq_tables.proofs.Words.{Has, IsUnchanged, LimitRecord, State, Tables,
 use Rattle.mq_request.specs.declared.message.Id.{Id}
 use Rattle.mq_ledger.specs.History.{transaction}
 use Rattle.mq_rows.specs.declared.plan.FoundRows.{FoundRows}
-use Rattle.mq_rows.specs.Found.{IsGoverning, IsFirstOver}
-use Rattle.mq_tables.specs.Finding.{AreKeyed, IsTransactionFound, IsReserveFound}
+use Rattle.mq_rows.specs.Found.{IsGoverning, IsFirstOver, IsTransactionFound, IsReserveFound}
+use Rattle.mq_tables.specs.Finding.{AreKeyed}
 use Rattle.mq_tables.specs.Ledger.{HasLedger}
 use Rattle.mq_tables.specs.Records.{IsOneOf}
 

@@ -6,7 +6,7 @@ use Rattle.mq_tables.specs.Ledger.{HasFloors, HasLedger, IsCurrent}
 use Rattle.mq_tables.specs.Places.{IsTableIn, IsUnreferred}
 use Rattle.mq_tables.specs.Records.{Holds, transaction_fields, usage_fields, limit_fields, retired_fields}
 use Rattle.mq_tables.specs.Tables.{trans_table, usage_table, ceiling_table, retired_table}
-use Rattle.mq_tables.specs.Updates.{KeepsOthers, Leaves}
+use Rattle.mq_tables.specs.Updates.{KeepsOthers, LeadsWhereKeyed}
 use Rattle.mq_tables.proofs.Changes.{is_since, transactions_changed, usage_changed, limits_changed, floors_changed}
 
 -- one of them
@@ -87,7 +87,7 @@ floors_part = record {
 
 -- what a write of one of its records leaves
 abbrev pub Rewrites : {R : Type 0} {table : Table} → Part R table → (R → R → Bool) → (R → R → R) → Write R → State → State → Type 0
-Rewrites part same set write old new = (t : Tables) → part.IsIn old.now t → Leaves same set write (part.records t) (λ after. HasLedger new.now (part.put t after))
+Rewrites part same set write old new = (t : Tables) → part.IsIn old.now t → LeadsWhereKeyed same set write (part.records t) (λ after. HasLedger new.now (part.put t after))
 
 -- a statement was executed inside a transaction, which goes on, and did so
 abbrev pub Executed : Result ℕ Error → State → Type 0 → Type 0

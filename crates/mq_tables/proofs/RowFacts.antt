@@ -11,11 +11,7 @@ use Rattle.sqlite_rules.proofs.ListLemmas.{all_has}
 use Rattle.sqlite_rules.proofs.PlaceLemmas.{tied_same}
 use Rattle.sqlite_rules.proofs.TableLemmas.{int_is}
 use Rattle.mq_tables.specs.Records.{Holds}
-
-equal_is : (o : Ordering) → is_eq o ≡ true → o ≡ Equal
-equal_is Less h = absurd cc
-equal_is Equal h = refl
-equal_is Greater h = absurd cc
+use Rattle.std.specs.Cmp.{Equal-is, both_ways}
 
 put_fresh : (new : Row) (rows : List Row) → is_taken rows new ≡ false → IsPermutation (put_row new rows) (new ∷ rows)
 put_fresh new [] free = IsPermutation-refl _
@@ -44,11 +40,6 @@ one_mapped : {X Y : Type 0} (f : X → Y) (xs : List X) (y : Y) → map f xs ≡
 one_mapped f [] y e = absurd cc
 one_mapped f (x ∷ []) y e = (x, refl, cc)
 one_mapped f (x ∷ z ∷ xs) y e = absurd cc
-
-same_tests : (a b : Bool) → (a ≡ true → b ≡ true) → (b ≡ true → a ≡ true) → a ≡ b
-same_tests true b f g = sym (f refl)
-same_tests false true f g = g refl
-same_tests false false f g = refl
 
 module _ {R : Type 0} (fields : R → Row) (pass test : Row → Bool) (tied : (r : Row) → pass r ≡ test (drop 1 r)) (rows : List Row) (was : R) (rest : List R)
     (held : Holds 1 fields rows (was ∷ rest)) (hit : test (fields was) ≡ true) (apart : AllByRecursion (λ u. test (fields u) ≡ false) rest) where
@@ -85,7 +76,7 @@ module _ {R : Type 0} (fields : R → Row) (pass test : Row → Bool) (tied : (r
       with_head (v ∷ row) h e = ap₂ (λ x xs. x ∷ xs) (int_is v h) e
 
   pub left_over : without_rowid (id_in (rowid only.0)) rows ≡ filter (λ r. not (pass r)) rows
-  left_over = filter_same (λ r. not (has_rowid id r)) (λ r. not (pass r)) rows (all_from _ rows (λ r there. ap not (same_tests (has_rowid id r) (pass r) (to r there) (from r there))))
+  left_over = filter_same (λ r. not (has_rowid id r)) (λ r. not (pass r)) rows (all_from _ rows (λ r there. ap not (both_ways (has_rowid id r) (pass r) (to r there) (from r there))))
     where
       id : ℤ
       id = id_in (rowid only.0)
@@ -95,7 +86,7 @@ module _ {R : Type 0} (fields : R → Row) (pass test : Row → Bool) (tied : (r
 
       to : (r : Row) → Has rows r → has_rowid id r ≡ true → pass r ≡ true
       to r there h =
-          let tie = equal_is (value_cmp (rowid r) (rowid only.0)) (rw keyed h) in
+          let tie = (Equal-is (value_cmp (rowid r) (rowid only.0))).0 (rw keyed h) in
           subst (λ x. pass x ≡ true) (sym (tied_same rows r only.0 held.numbered.0 there row_there.0 tie)) row_there.1
 
       from : (r : Row) → Has rows r → pass r ≡ true → has_rowid id r ≡ true

@@ -33,7 +33,7 @@ pub use Rattle.sqlite.specs.Tree.{Trees, has_rowid, put_row, rowid, without_rowi
 pub use Rattle.sqlite.specs.declared.error.Error.{Error}
 pub use Rattle.sqlite.specs.declared.types.Value.TheVariants.{Blob, Int, Null, Real, Text}
 pub use Rattle.sqlite_ast.specs.declared.Expr.{Expr, out-Expr, out-roll-Expr, roll-Expr}
-pub use Rattle.sqlite_catalog.specs.Change.{is_used, past_views}
+pub use Rattle.sqlite_catalog.specs.Change.{is_used}
 pub use Rattle.sqlite_resolve.specs.Compile.{first, is_attached, is_reserved, new_rows, small, with_command}
 unfoldable pub use Rattle.sqlite_resolve.specs.Compile.{command, compiled, create_index, create_table, creates, insert, insert_or_abort, meaning, planned, returning, shows, timed, update}
 pub use Rattle.sqlite_resolve.specs.Lowering.{Checked, and_then, fresh, max_budget, nothing}

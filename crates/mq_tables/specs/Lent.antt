@@ -1,5 +1,5 @@
 -- Parameters of statements, and what is read of the rows of an answer.
-use Rattle.std.specs.Prelude.{◌≡◌, ◌<◌, ◌^◌, ℕ, ℤ, pos, List, [], ◌∷◌, Option, not}
+use Rattle.std.specs.Prelude.{◌≡◌, ◌<◌, ◌^◌, ℕ, ℤ, pos, List, [], ◌∷◌, Option, Some, not}
 use Rattle.std.specs.Ordering.{int_eq}
 use Rattle.sqlite.specs.Order.{Row, column}
 use Rattle.sqlite.specs.declared.types.Value.TheVariants.{Int, Blob}
@@ -122,4 +122,4 @@ IsNaturalAt row at n = (column row at ≡ Int (pos n)) × (n < 2 ^ 63)
 
 -- there is a row, and this is the number in the first
 abbrev pub IsFirstNatural : List Row → ℕ → Type 0
-IsFirstNatural rows n = (row : Row) × (more : List Row) × (rows ≡ row ∷ more) × IsNaturalAt row 0 n
+IsFirstNatural rows n = IsFirstBy (λ row. IsNaturalAt row 0) rows (Some n)

@@ -41,14 +41,14 @@ pub record HasSetRow (set : SettingRow → SettingRow) (tree : ℕ) (old new : D
 
 -- P holds of the rows of a table after the write. Of an update that is said where one row alone has its
 -- key. `same` compares keys, and `set` gives a row the new one's other fields.
-abbrev pub Leaves : {R : Type 0} → (R → R → Bool) → (R → R → R) → Write R → List R → (List R → Type 0) → Type 0
-Leaves same set Keep rows P = P rows
-Leaves same set (Insert new) rows P = P (new ∷ rows)
-Leaves {R} same set (Update new) rows P =
+abbrev pub LeadsWhereKeyed : {R : Type 0} → (R → R → Bool) → (R → R → R) → Write R → List R → (List R → Type 0) → Type 0
+LeadsWhereKeyed same set Keep rows P = P rows
+LeadsWhereKeyed same set (Insert new) rows P = P (new ∷ rows)
+LeadsWhereKeyed {R} same set (Update new) rows P =
     (was : R) (rest : List R) → IsPermutation (was ∷ rest) rows → same new was ≡ true
     → AllByRecursion (λ other. same new other ≡ false) rest → P (set new was ∷ rest)
 
--- What functions on a table leave in the five: where they held some rows, they hold these.
+-- What functions on a table leave in the ledger's tables: where they held some rows, they hold these.
 
 -- the settings count so many answers
 abbrev pub CountsArrivals : ℕ → State → State → Type 0
@@ -66,23 +66,23 @@ Appends a old new =
 abbrev pub WritesUsage : Write UsageRecord → State → State → Type 0
 WritesUsage write old new =
     (t : Tables) → HasLedger old.now t
-    → Leaves same_day set_usage write t.usage (λ after. HasLedger new.now (record t { usage = after }))
+    → LeadsWhereKeyed same_day set_usage write t.usage (λ after. HasLedger new.now (record t { usage = after }))
 
 -- the row of a transaction is as planned
 abbrev pub WritesTransaction : Write TransactionRecord → State → State → Type 0
 WritesTransaction write old new =
     (t : Tables) → HasLedger old.now t
-    → Leaves same_key set_transaction write t.transactions
+    → LeadsWhereKeyed same_key set_transaction write t.transactions
     (λ after. HasLedger new.now (record t { transactions = after }))
 
 -- the row of a limit is as planned
 abbrev pub WritesLimit : Write LimitRecord → State → State → Type 0
 WritesLimit write old new =
     (t : Tables) → HasLedger old.now t
-    → Leaves same_from set_limit write t.limits (λ after. HasLedger new.now (record t { limits = after }))
+    → LeadsWhereKeyed same_from set_limit write t.limits (λ after. HasLedger new.now (record t { limits = after }))
 
 -- the row of a floor is as planned, where the tables have floors
 abbrev pub WritesFloor : Write RetiredRecord → State → State → Type 0
 WritesFloor write old new =
     (t : Tables) → HasLedger old.now t → IsCurrent t
-    → Leaves same_host set_run write t.retired (λ after. HasLedger new.now (record t { retired = after }))
+    → LeadsWhereKeyed same_host set_run write t.retired (λ after. HasLedger new.now (record t { retired = after }))

@@ -4,8 +4,8 @@ ghost use Rattle.std.specs.List.Sorted.{IsPermutation};
 ghost use Rattle.std.specs.Prelude.{◌≡◌, ◌<◌, ◌^◌, map, filter, IfOk};
 ghost use Rattle.sqlite.specs.Values.{bound};
 ghost use Rattle.mq_request.specs.Same.{same_id};
-ghost use Rattle.mq_tables.specs.Inside.{IsInside, Reads, Leads, StaysInside, OfLedger};
-ghost use Rattle.mq_tables.specs.Inside.{LeavesCommit};
+ghost use Rattle.mq_tables.specs.Inside.{IsInside, Reads, Becomes, StaysInside, OfLedger};
+ghost use Rattle.mq_tables.specs.Inside.{CommitsNothing};
 ghost use Rattle.mq_tables.specs.Lent.{answer_params, bodies_row, id_key, IsFirstAnswer};
 ghost use Rattle.mq_tables.specs.Records.{IsOneOf};
 ghost use Rattle.mq_tables.specs.Updates.{Appends};
@@ -23,8 +23,8 @@ pub fn append_answer<S: Alter>(
     requires in_range { (answer.now.n < 2 ^ 63) × (answer.now.id.run < 2 ^ 63) }
     requires inside { IsInside S.Store tx.old }
     ensures inside { StaysInside S.Store tx.old tx.new result }
-    ensures appended { Leads S.Store tx.old tx.new result (Appends answer.now) }
-    ensures leaves { LeavesCommit S.Store tx.old tx.new }
+    ensures appended { Becomes S.Store tx.old tx.new result (Appends answer.now) }
+    ensures leaves { CommitsNothing S.Store tx.old tx.new }
 {
     tx.execute(
         "INSERT INTO answer (n, host, run, seq, request, reply) VALUES (?1, ?2, ?3, ?4, ?5, ?6)",
@@ -57,7 +57,7 @@ fn id_params(id: &Id) -> [ValueRef<'_>; 3]
     ]
 }
 
-fn answer_rows<S: Alter>(tx: &mut Transaction<'_, S>, id: &Id) -> Result<Vec<Row>, Error>
+fn rows_of_number<S: Alter>(tx: &mut Transaction<'_, S>, id: &Id) -> Result<Vec<Row>, Error>
     requires { id.now.run < 2 ^ 63 }
     ensures { Reads S.Store tx.old tx.new result (OfLedger (λ t rows.
         IsPermutation (map bodies_row (filter (λ a. same_id id.now a.id) t.answers)) rows.items)) }
@@ -92,6 +92,6 @@ pub fn find_answer<S: Alter>(
     ensures { Reads S.Store tx.old tx.new result (OfLedger (λ t found.
         IsOneOf (λ a. same_id id.now a.id) t.answers found)) }
 {
-    let rows = answer_rows(tx, id)?;
+    let rows = rows_of_number(tx, id)?;
     first_answer(rows.as_slice(), id)
 }

@@ -7,8 +7,8 @@ ghost use Rattle.mq_rows.specs.declared.plan.Write.TheVariants.{Insert, Update};
 ghost use Rattle.mq_rows.specs.Found.{IsGoverning};
 ghost use Rattle.mq_rows.specs.Rows.{is_limit};
 ghost use Rattle.mq_tables.specs.Governing.{limit_row, IsGoverningShown, IsFirstLimit};
-ghost use Rattle.mq_tables.specs.Inside.{IsInside, Reads, Leads, StaysInside, Writes, OfLedger};
-ghost use Rattle.mq_tables.specs.Inside.{LeavesCommit};
+ghost use Rattle.mq_tables.specs.Inside.{IsInside, Reads, Becomes, StaysInside, Writes, OfLedger};
+ghost use Rattle.mq_tables.specs.Inside.{CommitsNothing};
 ghost use Rattle.mq_tables.specs.Lent.{cap_params};
 ghost use Rattle.mq_tables.specs.Records.{limit_fields, IsOneOf};
 ghost use Rattle.mq_tables.specs.Updates.{WritesLimit};
@@ -59,7 +59,7 @@ fn update_limit<S: Alter>(tx: &mut Transaction<'_, S>, limit: &LimitRecord) -> R
     )
 }
 
-/// Writes what becomes of the table, and answers how many rows that are.
+/// Writes what becomes of the table, and answers how many rows it wrote.
 pub fn write_limit<S: Alter>(
     tx: &mut Transaction<'_, S>,
     write: &Write<LimitRecord>,

@@ -6,7 +6,7 @@ ghost use Rattle.sqlite.specs.Held.{state};
 ghost use Rattle.sqlite.specs.Tree.{Trees};
 ghost use Rattle.sqlite.specs.Values.{bound};
 ghost use Rattle.mq_ledger.specs.Day.{rule_in};
-ghost use Rattle.mq_tables.specs.Inside.{IsInside, Leads, Turns, StaysInside, LeavesCommit, Lasts};
+ghost use Rattle.mq_tables.specs.Inside.{IsInside, Becomes, Turns, StaysInside, CommitsNothing, Lasts};
 ghost use Rattle.mq_tables.specs.Settings.{rule_fields};
 ghost use Rattle.mq_tables.specs.Tables.{setting_table, answer_table, trans_table, usage_table};
 ghost use Rattle.mq_tables.specs.Tables.{ceiling_table, rule_table};
@@ -25,8 +25,8 @@ use sqlite::{Alter, Connection, Error, Transaction};
 
 fn create_setting<S: Alter>(tx: &mut Transaction<'_, S>) -> Result<usize, Error>
     requires inside { IsInside S.Store tx.old }
-    ensures made { Leads S.Store tx.old tx.new result (Makes setting_table) }
-    ensures leaves { LeavesCommit S.Store tx.old tx.new }
+    ensures made { Becomes S.Store tx.old tx.new result (Makes setting_table) }
+    ensures leaves { CommitsNothing S.Store tx.old tx.new }
 {
     tx.execute(
         "CREATE TABLE setting (id INTEGER PRIMARY KEY, version INTEGER NOT NULL, \
@@ -37,8 +37,8 @@ fn create_setting<S: Alter>(tx: &mut Transaction<'_, S>) -> Result<usize, Error>
 
 fn create_answer<S: Alter>(tx: &mut Transaction<'_, S>) -> Result<usize, Error>
     requires inside { IsInside S.Store tx.old }
-    ensures made { Leads S.Store tx.old tx.new result (Makes answer_table) }
-    ensures leaves { LeavesCommit S.Store tx.old tx.new }
+    ensures made { Becomes S.Store tx.old tx.new result (Makes answer_table) }
+    ensures leaves { CommitsNothing S.Store tx.old tx.new }
 {
     tx.execute(
         "CREATE TABLE answer (n INTEGER PRIMARY KEY, host BLOB NOT NULL, run INTEGER NOT NULL, \
@@ -49,8 +49,8 @@ fn create_answer<S: Alter>(tx: &mut Transaction<'_, S>) -> Result<usize, Error>
 
 fn create_trans<S: Alter>(tx: &mut Transaction<'_, S>) -> Result<usize, Error>
     requires inside { IsInside S.Store tx.old }
-    ensures made { Leads S.Store tx.old tx.new result (Makes trans_table) }
-    ensures leaves { LeavesCommit S.Store tx.old tx.new }
+    ensures made { Becomes S.Store tx.old tx.new result (Makes trans_table) }
+    ensures leaves { CommitsNothing S.Store tx.old tx.new }
 {
     tx.execute(
         "CREATE TABLE trans (host BLOB NOT NULL, run INTEGER NOT NULL, txn INTEGER NOT NULL, \
@@ -63,8 +63,8 @@ fn create_trans<S: Alter>(tx: &mut Transaction<'_, S>) -> Result<usize, Error>
 
 fn create_usage<S: Alter>(tx: &mut Transaction<'_, S>) -> Result<usize, Error>
     requires inside { IsInside S.Store tx.old }
-    ensures made { Leads S.Store tx.old tx.new result (Makes usage_table) }
-    ensures leaves { LeavesCommit S.Store tx.old tx.new }
+    ensures made { Becomes S.Store tx.old tx.new result (Makes usage_table) }
+    ensures leaves { CommitsNothing S.Store tx.old tx.new }
 {
     tx.execute(
         "CREATE TABLE usage (login BLOB NOT NULL, day INTEGER NOT NULL, \
@@ -75,8 +75,8 @@ fn create_usage<S: Alter>(tx: &mut Transaction<'_, S>) -> Result<usize, Error>
 
 fn create_ceiling<S: Alter>(tx: &mut Transaction<'_, S>) -> Result<usize, Error>
     requires inside { IsInside S.Store tx.old }
-    ensures made { Leads S.Store tx.old tx.new result (Makes ceiling_table) }
-    ensures leaves { LeavesCommit S.Store tx.old tx.new }
+    ensures made { Becomes S.Store tx.old tx.new result (Makes ceiling_table) }
+    ensures leaves { CommitsNothing S.Store tx.old tx.new }
 {
     tx.execute(
         "CREATE TABLE ceiling (login BLOB NOT NULL, day INTEGER NOT NULL, cap INTEGER NOT NULL, \
@@ -87,8 +87,8 @@ fn create_ceiling<S: Alter>(tx: &mut Transaction<'_, S>) -> Result<usize, Error>
 
 pub(crate) fn create_rule<S: Alter>(tx: &mut Transaction<'_, S>) -> Result<usize, Error>
     requires inside { IsInside S.Store tx.old }
-    ensures made { Leads S.Store tx.old tx.new result (Makes rule_table) }
-    ensures leaves { LeavesCommit S.Store tx.old tx.new }
+    ensures made { Becomes S.Store tx.old tx.new result (Makes rule_table) }
+    ensures leaves { CommitsNothing S.Store tx.old tx.new }
 {
     tx.execute(
         "CREATE TABLE rule (id INTEGER PRIMARY KEY, bytes BLOB NOT NULL) STRICT",
@@ -98,9 +98,9 @@ pub(crate) fn create_rule<S: Alter>(tx: &mut Transaction<'_, S>) -> Result<usize
 
 pub(crate) fn create_retired<S: Alter>(tx: &mut Transaction<'_, S>) -> Result<usize, Error>
     requires inside { IsInside S.Store tx.old }
-    ensures open { Leads S.Store tx.old tx.new result (λ before _. IsTrue before.is_open) }
-    ensures made { Leads S.Store tx.old tx.new result (Makes retired_table) }
-    ensures leaves { LeavesCommit S.Store tx.old tx.new }
+    ensures open { Becomes S.Store tx.old tx.new result (λ before _. IsTrue before.is_open) }
+    ensures made { Becomes S.Store tx.old tx.new result (Makes retired_table) }
+    ensures leaves { CommitsNothing S.Store tx.old tx.new }
 {
     tx.execute(
         "CREATE TABLE retired (host BLOB PRIMARY KEY, run INTEGER NOT NULL) STRICT",
@@ -116,8 +116,8 @@ fn rule_params(rule: &[u8]) -> [ValueRef<'_>; 1]
 
 fn put_rule<S: Alter>(tx: &mut Transaction<'_, S>, rule: &[u8]) -> Result<usize, Error>
     requires inside { IsInside S.Store tx.old }
-    ensures put { Leads S.Store tx.old tx.new result (Puts rule_table (rule_fields rule.now)) }
-    ensures leaves { LeavesCommit S.Store tx.old tx.new }
+    ensures put { Becomes S.Store tx.old tx.new result (Puts rule_table (rule_fields rule.now)) }
+    ensures leaves { CommitsNothing S.Store tx.old tx.new }
 {
     tx.execute(
         "INSERT INTO rule (id, bytes) VALUES (1, ?1)",
@@ -131,8 +131,8 @@ fn put_any_rule<S: Alter>(
     made_with: &NewSetting,
 ) -> Result<usize, Error>
     requires inside { IsInside S.Store tx.old }
-    ensures put { Leads S.Store tx.old tx.new result (PutsAny (rule_in made_with.now.zone)) }
-    ensures leaves { LeavesCommit S.Store tx.old tx.new }
+    ensures put { Becomes S.Store tx.old tx.new result (PutsAny (rule_in made_with.now.zone)) }
+    ensures leaves { CommitsNothing S.Store tx.old tx.new }
 {
     match made_with.zone.rule() {
         Some(rule) => put_rule(tx, rule),
@@ -155,9 +155,9 @@ fn put_setting<S: Alter>(
     made_with: &NewSetting,
 ) -> Result<usize, Error>
     requires inside { IsInside S.Store tx.old }
-    ensures put { Leads S.Store tx.old tx.new result (Puts setting_table
+    ensures put { Becomes S.Store tx.old tx.new result (Puts setting_table
         (setting_row made_with.now)) }
-    ensures leaves { LeavesCommit S.Store tx.old tx.new }
+    ensures leaves { CommitsNothing S.Store tx.old tx.new }
 {
     tx.execute(
         "INSERT INTO setting (id, version, minutes, cap, arrivals) VALUES (1, ?1, ?2, ?3, 0)",
@@ -172,9 +172,9 @@ fn begin_setting<S: Alter>(
 ) -> Result<usize, Error>
     requires inside { IsInside S.Store tx.old }
     ensures inside { StaysInside S.Store tx.old tx.new result }
-    ensures started { Leads S.Store tx.old tx.new result
+    ensures started { Becomes S.Store tx.old tx.new result
         (StartsTable setting_table (setting_row made_with.now)) }
-    ensures leaves { LeavesCommit S.Store tx.old tx.new }
+    ensures leaves { CommitsNothing S.Store tx.old tx.new }
 {
     create_setting(tx)?;
     put_setting(tx, made_with)
@@ -184,8 +184,8 @@ fn begin_setting<S: Alter>(
 fn create_four<S: Alter>(tx: &mut Transaction<'_, S>) -> Result<usize, Error>
     requires inside { IsInside S.Store tx.old }
     ensures inside { StaysInside S.Store tx.old tx.new result }
-    ensures added { Leads S.Store tx.old tx.new result (AddsTables four_tables) }
-    ensures leaves { LeavesCommit S.Store tx.old tx.new }
+    ensures added { Becomes S.Store tx.old tx.new result (AddsTables four_tables) }
+    ensures leaves { CommitsNothing S.Store tx.old tx.new }
 {
     create_answer(tx)?;
     create_trans(tx)?;
@@ -198,8 +198,8 @@ fn create_four<S: Alter>(tx: &mut Transaction<'_, S>) -> Result<usize, Error>
 fn create_later<S: Alter>(tx: &mut Transaction<'_, S>) -> Result<usize, Error>
     requires inside { IsInside S.Store tx.old }
     ensures inside { StaysInside S.Store tx.old tx.new result }
-    ensures added { Leads S.Store tx.old tx.new result (AddsTables (later_tables false)) }
-    ensures leaves { LeavesCommit S.Store tx.old tx.new }
+    ensures added { Becomes S.Store tx.old tx.new result (AddsTables (later_tables false)) }
+    ensures leaves { CommitsNothing S.Store tx.old tx.new }
 {
     create_rule(tx)?;
     create_retired(tx)
@@ -209,8 +209,8 @@ fn create_later<S: Alter>(tx: &mut Transaction<'_, S>) -> Result<usize, Error>
 fn create_others<S: Alter>(tx: &mut Transaction<'_, S>) -> Result<usize, Error>
     requires inside { IsInside S.Store tx.old }
     ensures inside { StaysInside S.Store tx.old tx.new result }
-    ensures added { Leads S.Store tx.old tx.new result (AddsTables other_tables) }
-    ensures leaves { LeavesCommit S.Store tx.old tx.new }
+    ensures added { Becomes S.Store tx.old tx.new result (AddsTables other_tables) }
+    ensures leaves { CommitsNothing S.Store tx.old tx.new }
 {
     create_four(tx)?;
     create_later(tx)
@@ -222,7 +222,7 @@ fn make_seven<S: Alter>(tx: &mut Transaction<'_, S>, made_with: &NewSetting) -> 
     requires inside { IsInside S.Store tx.old }
     ensures inside { StaysInside S.Store tx.old tx.new result }
     ensures made { Turns S.Store tx.old tx.new result (AreMadeFor made_with.now) }
-    ensures leaves { LeavesCommit S.Store tx.old tx.new }
+    ensures leaves { CommitsNothing S.Store tx.old tx.new }
 {
     begin_setting(tx, made_with)?;
     create_others(tx)?;
@@ -241,7 +241,7 @@ pub fn make_tables<S: Alter>(
     requires inside { IsInside S.Store tx.old }
     ensures inside { StaysInside S.Store tx.old tx.new result }
     ensures made { Turns S.Store tx.old tx.new result (IsMadeOverBy indexed made_with.now) }
-    ensures leaves { LeavesCommit S.Store tx.old tx.new }
+    ensures leaves { CommitsNothing S.Store tx.old tx.new }
 {
     make_seven(tx, made_with)?;
     add_index(tx, indexed)

@@ -4,12 +4,11 @@ ghost use Rattle.std.specs.Prelude.{◌≡◌, ◌<◌, ◌^◌, find, IfOk, IsS
 ghost use Rattle.mq_request.specs.Range.{IsRequest};
 ghost use Rattle.mq_ledger.specs.Arrivals.{id_of};
 ghost use Rattle.mq_ledger.specs.Day.{day_of};
-ghost use Rattle.mq_rows.specs.Found.{IsFound};
+ghost use Rattle.mq_rows.specs.Found.{IsTransactionFound, IsReserveFound, IsLimitFound, IsFound};
 ghost use Rattle.mq_rows.specs.Rows.{is_host};
-ghost use Rattle.mq_rows.specs.Storable.{AreStorableIf, IsStorableFloor};
-ghost use Rattle.mq_tables.specs.Finding.{AreKeyed, IsTransactionFound, IsReserveFound};
-ghost use Rattle.mq_tables.specs.Finding.{IsLimitFound};
-ghost use Rattle.mq_tables.specs.Inside.{ChangesNothing, Finds, OfLedger, OfCurrent, LeavesCommit};
+ghost use Rattle.mq_rows.specs.Storable.{IsStorableIf, IsStorableFloor};
+ghost use Rattle.mq_tables.specs.Finding.{AreKeyed};
+ghost use Rattle.mq_tables.specs.Inside.{ChangesNothing, Finds, OfLedger, OfCurrent, CommitsNothing};
 
 use crate::ceiling::{find_governing, find_limit};
 use crate::floor::find_floor;
@@ -31,7 +30,7 @@ const NOTHING: FoundRows = FoundRows {
     floor: None,
 };
 
-/// The rows of a request's transaction, and of its login and day.
+/// The rows of the transaction, and of the login and day, that a request names.
 #[tactic(auto, using(crate::proofs::Chain::calls))]
 fn find_named<S: Alter>(
     tx: &mut Transaction<'_, S>,
@@ -44,19 +43,16 @@ fn find_named<S: Alter>(
     ensures same { ChangesNothing S.Store tx.old tx.new result }
     ensures found { Finds S.Store tx.old tx.new result (OfLedger (λ t found.
         AreKeyed t → IsTransactionFound id.now txn login.now day t found)) }
-    ensures storable { IfOk result (λ found. AreStorableIf found.transaction) }
+    ensures storable { IfOk result (λ found. IsStorableIf found.transaction) }
     ensures storable_floor { IfOk result (λ found. IsStorableFloor found.floor) }
-    ensures leaves { LeavesCommit S.Store tx.old tx.new }
+    ensures leaves { CommitsNothing S.Store tx.old tx.new }
 {
     let transaction = find_transaction(tx, &id.host, id.run, txn)?;
     let usage = find_usage(tx, login, day)?;
     Ok(FoundRows {
         transaction,
         usage,
-        governing: None,
-        over: None,
-        limit: None,
-        floor: None,
+        ..NOTHING
     })
 }
 
@@ -73,9 +69,9 @@ fn find_for_reserve<S: Alter>(
     ensures same { ChangesNothing S.Store tx.old tx.new result }
     ensures found { Finds S.Store tx.old tx.new result (OfLedger (λ t found.
         AreKeyed t → IsReserveFound id.now txn login.now day t found)) }
-    ensures storable { IfOk result (λ found. AreStorableIf found.transaction) }
+    ensures storable { IfOk result (λ found. IsStorableIf found.transaction) }
     ensures storable_floor { IfOk result (λ found. IsStorableFloor found.floor) }
-    ensures leaves { LeavesCommit S.Store tx.old tx.new }
+    ensures leaves { CommitsNothing S.Store tx.old tx.new }
 {
     let found = find_named(tx, id, txn, login, day)?;
     let governing = find_governing(tx, login, day)?;
@@ -93,19 +89,16 @@ fn find_for_limit<S: Alter>(
     ensures same { ChangesNothing S.Store tx.old tx.new result }
     ensures found { Finds S.Store tx.old tx.new result (OfLedger (λ t found.
         AreKeyed t → IsLimitFound login.now from_day cap t found)) }
-    ensures storable { IfOk result (λ found. AreStorableIf found.transaction) }
+    ensures storable { IfOk result (λ found. IsStorableIf found.transaction) }
     ensures storable_floor { IfOk result (λ found. IsStorableFloor found.floor) }
-    ensures leaves { LeavesCommit S.Store tx.old tx.new }
+    ensures leaves { CommitsNothing S.Store tx.old tx.new }
 {
     let over = find_over(tx, login, from_day, cap)?;
     let limit = find_limit(tx, login, from_day)?;
     Ok(FoundRows {
-        transaction: None,
-        usage: None,
-        governing: None,
         over,
         limit,
-        floor: None,
+        ..NOTHING
     })
 }
 
@@ -114,19 +107,12 @@ fn find_for_retire<S: Alter>(tx: &mut Transaction<'_, S>, id: &Id) -> Result<Fou
     ensures same { ChangesNothing S.Store tx.old tx.new result }
     ensures found { Finds S.Store tx.old tx.new result (OfCurrent (λ t found.
         AreKeyed t → found.floor ≡ find (is_host id.now.host) t.retired)) }
-    ensures storable { IfOk result (λ found. AreStorableIf found.transaction) }
+    ensures storable { IfOk result (λ found. IsStorableIf found.transaction) }
     ensures storable_floor { IfOk result (λ found. IsStorableFloor found.floor) }
-    ensures leaves { LeavesCommit S.Store tx.old tx.new }
+    ensures leaves { CommitsNothing S.Store tx.old tx.new }
 {
     let floor = find_floor(tx, &id.host)?;
-    Ok(FoundRows {
-        transaction: None,
-        usage: None,
-        governing: None,
-        over: None,
-        limit: None,
-        floor,
-    })
+    Ok(FoundRows { floor, ..NOTHING })
 }
 
 /// What the tables have about a numbered request.
@@ -142,9 +128,9 @@ pub fn find<S: Alter>(
     ensures same { ChangesNothing S.Store tx.old tx.new result }
     ensures found { Finds S.Store tx.old tx.new result (OfCurrent (λ t found.
         AreKeyed t → IsFound (day_of zone) t request.now found)) }
-    ensures storable { IfOk result (λ found. AreStorableIf found.transaction) }
+    ensures storable { IfOk result (λ found. IsStorableIf found.transaction) }
     ensures storable_floor { IfOk result (λ found. IsStorableFloor found.floor) }
-    ensures leaves { LeavesCommit S.Store tx.old tx.new }
+    ensures leaves { CommitsNothing S.Store tx.old tx.new }
 {
     match request {
         Request::Reserve {

@@ -9,12 +9,12 @@ ghost use Rattle.sqlite.specs.State.{HasCleanDisk};
 ghost use Rattle.sqlite.specs.Values.{bound};
 ghost use Rattle.mq_rows.specs.declared.plan.Write.TheVariants.{Insert, Update};
 ghost use Rattle.mq_rows.specs.Rows.{is_host};
-ghost use Rattle.mq_rows.specs.Storable.{IsStorableFloor, IsStorableRun};
+ghost use Rattle.mq_rows.specs.Storable.{IsStorableFloor, IsStorableFloorWrite};
 ghost use Rattle.mq_rows.specs.declared.record.RetiredRecord.{RetiredRecord as AnyRetiredRecord};
 ghost use Rattle.mq_tables.specs.Floors.{is_floor, are_floors, AreFloorsOf};
-ghost use Rattle.mq_tables.specs.Inside.{IsInside, ChangesNothing, Finds, Reads, Leads};
+ghost use Rattle.mq_tables.specs.Inside.{IsInside, ChangesNothing, Finds, Reads, Becomes};
 ghost use Rattle.mq_tables.specs.Inside.{StaysInside, Writes};
-ghost use Rattle.mq_tables.specs.Inside.{OfCurrent, LeavesCommit};
+ghost use Rattle.mq_tables.specs.Inside.{OfCurrent, CommitsNothing};
 ghost use Rattle.mq_tables.specs.Ledger.{HasFloors};
 ghost use Rattle.mq_tables.specs.Lent.{host_params, floor_params, floor_row, IsFirstFloor};
 ghost use Rattle.mq_tables.specs.Records.{retired_fields, IsOneOf};
@@ -111,7 +111,7 @@ pub fn find_floor<S: Alter>(
     ensures found { Finds S.Store tx.old tx.new result (OfCurrent (λ t found.
         IsOneOf (is_host host.now) t.retired found)) }
     ensures storable { IfOk result IsStorableFloor }
-    ensures leaves { LeavesCommit S.Store tx.old tx.new }
+    ensures leaves { CommitsNothing S.Store tx.old tx.new }
 {
     let rows = floor_rows(tx, host)?;
     first_floor(rows.as_slice(), host)
@@ -165,12 +165,12 @@ fn update_floor<S: Alter>(
     )
 }
 
-/// Writes what becomes of the table, and answers how many rows that are.
+/// Writes what becomes of the table, and answers how many rows it wrote.
 pub fn write_floor<S: Alter>(
     tx: &mut Transaction<'_, S>,
     write: &Write<RetiredRecord>,
 ) -> Result<usize, Error>
-    requires in_range { IsStorableRun write.now }
+    requires in_range { IsStorableFloorWrite write.now }
     requires inside { IsInside S.Store tx.old }
     ensures { Writes S.Store tx.old tx.new result (WritesFloor write.now) }
 {

@@ -9,17 +9,17 @@ ghost use Rattle.sqlite.specs.Held.{state};
 ghost use Rattle.sqlite.specs.State.{HasCleanDisk};
 ghost use Rattle.sqlite.specs.Tree.{Trees};
 ghost use Rattle.mq_tables.specs.Indexing.{Indexes, IndexesIf, IsIndexed, AreIndexed};
-ghost use Rattle.mq_tables.specs.Inside.{IsInside, Leads, Turns, StaysInside, LeavesCommit, Lasts};
+ghost use Rattle.mq_tables.specs.Inside.{IsInside, Becomes, Turns, StaysInside, CommitsNothing, Lasts};
 
 use sqlite::{Alter, Connection, Error, Transaction};
 
 fn create_index<S: Alter>(tx: &mut Transaction<'_, S>) -> Result<usize, Error>
     requires inside { IsInside S.Store tx.old }
-    ensures open { Leads S.Store tx.old tx.new result (λ before _. IsTrue before.is_open) }
+    ensures open { Becomes S.Store tx.old tx.new result (λ before _. IsTrue before.is_open) }
     ensures inside { StaysInside S.Store tx.old tx.new result }
     ensures indexed { Turns S.Store tx.old tx.new result IsIndexed }
-    ensures made { Leads S.Store tx.old tx.new result Indexes }
-    ensures leaves { LeavesCommit S.Store tx.old tx.new }
+    ensures made { Becomes S.Store tx.old tx.new result Indexes }
+    ensures leaves { CommitsNothing S.Store tx.old tx.new }
 {
     tx.execute("CREATE INDEX usage_by_day ON usage (day, login)", &[])
 }
@@ -30,8 +30,8 @@ pub(crate) fn add_index<S: Alter>(
     is_wanted: bool,
 ) -> Result<usize, Error>
     requires inside { IsInside S.Store tx.old }
-    ensures made { Leads S.Store tx.old tx.new result (IndexesIf is_wanted) }
-    ensures leaves { LeavesCommit S.Store tx.old tx.new }
+    ensures made { Becomes S.Store tx.old tx.new result (IndexesIf is_wanted) }
+    ensures leaves { CommitsNothing S.Store tx.old tx.new }
 {
     if is_wanted { create_index(tx) } else { Ok(0) }
 }

@@ -7,7 +7,7 @@
 //!     write_transaction(tx, &plan.transaction)?;
 //!     write_usage(tx, &plan.usage)?;
 //!     write_limit(tx, &plan.limit)?;
-//!     write_floor(tx, &plan.retired)
+//!     write_floor(tx, &plan.retired)?;
 //!
 //! It stands on `mq_request`, `mq_ledger` and `mq_rows`, and knows typed rows; it doesn't know what
 //! a request is answered. Begin with `specs/Tables.antt`, the tables as the schema has them, and

@@ -6,9 +6,9 @@ ghost use Rattle.std.specs.Prelude.{◌≡◌, ◌<◌, ◌^◌, map, filter, Al
 ghost use Rattle.sqlite.specs.Values.{bound};
 ghost use Rattle.mq_rows.specs.Plan.{is_among, is_open_in};
 ghost use Rattle.mq_rows.specs.Storable.{IsStorable};
-ghost use Rattle.mq_tables.specs.Inside.{IsInside, ChangesNothing, Finds, Reads, Leads};
+ghost use Rattle.mq_tables.specs.Inside.{IsInside, ChangesNothing, Finds, Reads, Becomes};
 ghost use Rattle.mq_tables.specs.Inside.{StaysInside, OfLedger};
-ghost use Rattle.mq_tables.specs.Inside.{LeavesCommit};
+ghost use Rattle.mq_tables.specs.Inside.{CommitsNothing};
 ghost use Rattle.mq_tables.specs.Retiring.{open_params, open_row, open_columns, IsOpenRead};
 ghost use Rattle.mq_tables.specs.Retiring.{IsOpenOf};
 ghost use Rattle.mq_tables.specs.Retiring.{runs_params, place_row, clear_params, ClearsAt};
@@ -87,7 +87,7 @@ pub fn find_open<S: Alter>(
     ensures found { Finds S.Store tx.old tx.new result (OfLedger (λ t found.
         IsPermutation found.items (filter (is_open_in runs.now) t.transactions))) }
     ensures storable { IfOk result (λ found. All IsStorable found.items) }
-    ensures leaves { LeavesCommit S.Store tx.old tx.new }
+    ensures leaves { CommitsNothing S.Store tx.old tx.new }
 {
     let rows = open_rows(tx, runs)?;
     opens_in(alloc, rows.as_slice(), &runs.host)
@@ -129,8 +129,8 @@ pub fn clear_reply<S: Alter>(tx: &mut Transaction<'_, S>, n: u64) -> Result<usiz
     requires in_range { n < 2 ^ 63 }
     requires inside { IsInside S.Store tx.old }
     ensures inside { StaysInside S.Store tx.old tx.new result }
-    ensures cleared { Leads S.Store tx.old tx.new result (ClearsAt n) }
-    ensures leaves { LeavesCommit S.Store tx.old tx.new }
+    ensures cleared { Becomes S.Store tx.old tx.new result (ClearsAt n) }
+    ensures leaves { CommitsNothing S.Store tx.old tx.new }
 {
     tx.execute(
         "UPDATE answer SET reply = ?1 WHERE n = ?2",

@@ -7,9 +7,9 @@ ghost use Rattle.sqlite.specs.State.{HasCleanDisk};
 ghost use Rattle.sqlite.specs.Values.{bound};
 ghost use Rattle.sqlite.specs.declared.types.Value.TheVariants.{Int};
 ghost use Rattle.sqlite_value.specs.Value.{owned};
-ghost use Rattle.mq_tables.specs.Inside.{IsInside, ChangesNothing, Finds, Reads, Leads};
+ghost use Rattle.mq_tables.specs.Inside.{IsInside, ChangesNothing, Finds, Reads, Becomes};
 ghost use Rattle.mq_tables.specs.Inside.{StaysInside, OfLedger};
-ghost use Rattle.mq_tables.specs.Inside.{LeavesCommit};
+ghost use Rattle.mq_tables.specs.Inside.{CommitsNothing};
 ghost use Rattle.mq_tables.specs.Lent.{IsNaturalAt, IsFirstNatural};
 ghost use Rattle.mq_tables.specs.Reading.{IsRead, Spares};
 ghost use Rattle.mq_tables.specs.Settings.{SettingRow, HasSetting, IsOf, reading, setting_of};
@@ -138,7 +138,7 @@ pub fn read_arrivals<S: Alter>(tx: &mut Transaction<'_, S>) -> Result<u64, Error
     ensures found { Finds S.Store tx.old tx.new result (OfLedger
         (λ t arrivals. arrivals ≡ t.setting.arrivals)) }
     ensures in_range { IfOk result (λ arrivals. arrivals < 2 ^ 63) }
-    ensures leaves { LeavesCommit S.Store tx.old tx.new }
+    ensures leaves { CommitsNothing S.Store tx.old tx.new }
 {
     let rows = arrivals_rows(tx)?;
     first_natural(rows.as_slice())
@@ -149,8 +149,8 @@ pub fn set_arrivals<S: Alter>(tx: &mut Transaction<'_, S>, arrivals: u64) -> Res
     requires in_range { arrivals < 2 ^ 63 }
     requires inside { IsInside S.Store tx.old }
     ensures inside { StaysInside S.Store tx.old tx.new result }
-    ensures counted { Leads S.Store tx.old tx.new result (CountsArrivals arrivals) }
-    ensures leaves { LeavesCommit S.Store tx.old tx.new }
+    ensures counted { Becomes S.Store tx.old tx.new result (CountsArrivals arrivals) }
+    ensures leaves { CommitsNothing S.Store tx.old tx.new }
 {
     tx.execute(
         "UPDATE setting SET arrivals = ?1 WHERE id = 1",

@@ -4,11 +4,11 @@ ghost use Rattle.std.specs.List.Sorted.{IsPermutation};
 ghost use Rattle.std.specs.Prelude.{◌≡◌, ◌<◌, ◌^◌, map, filter, IfOk};
 ghost use Rattle.sqlite.specs.Values.{bound};
 ghost use Rattle.mq_rows.specs.Rows.{is_transaction};
-ghost use Rattle.mq_rows.specs.Storable.{IsStorable, AreStorableIf, AreStorable};
+ghost use Rattle.mq_rows.specs.Storable.{IsStorable, IsStorableIf, IsStorableWrite};
 ghost use Rattle.mq_rows.specs.declared.plan.Write.TheVariants.{Insert, Update};
-ghost use Rattle.mq_tables.specs.Inside.{IsInside, ChangesNothing, Finds, Reads, Leads};
+ghost use Rattle.mq_tables.specs.Inside.{IsInside, ChangesNothing, Finds, Reads, Becomes};
 ghost use Rattle.mq_tables.specs.Inside.{StaysInside, Writes};
-ghost use Rattle.mq_tables.specs.Inside.{OfLedger, LeavesCommit};
+ghost use Rattle.mq_tables.specs.Inside.{OfLedger, CommitsNothing};
 ghost use Rattle.mq_tables.specs.Lent.{standing_params, standing_row, transaction_key};
 ghost use Rattle.mq_tables.specs.Lent.{IsFirstTransaction};
 ghost use Rattle.mq_tables.specs.Records.{IsOneOf, transaction_fields};
@@ -58,7 +58,7 @@ fn first_transaction(
 ) -> Result<Option<TransactionRecord>, Error>
     requires { run < 2 ^ 63 }
     ensures shown { IfOk result (IsFirstTransaction host.now run txn rows.now) }
-    ensures storable { IfOk result AreStorableIf }
+    ensures storable { IfOk result IsStorableIf }
 {
     let Some(row) = rows.first() else {
         return Ok(None);
@@ -89,8 +89,8 @@ pub fn find_transaction<S: Alter>(
     ensures found { Finds S.Store tx.old tx.new result (OfLedger (λ t found.
         IsOneOf (is_transaction (record { host = host.now; run = run; txn = txn })) t.transactions
         found)) }
-    ensures storable { IfOk result AreStorableIf }
-    ensures leaves { LeavesCommit S.Store tx.old tx.new }
+    ensures storable { IfOk result IsStorableIf }
+    ensures leaves { CommitsNothing S.Store tx.old tx.new }
 {
     let rows = transaction_rows(tx, host, run, txn)?;
     first_transaction(rows.as_slice(), host, run, txn)
@@ -156,13 +156,13 @@ fn update_transaction<S: Alter>(
     )
 }
 
-/// Writes what becomes of the table, and answers how many rows that are. Its run and its
+/// Writes what becomes of the table, and answers how many rows it wrote. The row's run and its
 /// moment are below 2 to the 63rd.
 pub fn write_transaction<S: Alter>(
     tx: &mut Transaction<'_, S>,
     write: &Write<TransactionRecord>,
 ) -> Result<usize, Error>
-    requires storable { AreStorable write.now }
+    requires storable { IsStorableWrite write.now }
     requires inside { IsInside S.Store tx.old }
     ensures { Writes S.Store tx.old tx.new result (WritesTransaction write.now) }
 {

@@ -5,8 +5,8 @@ ghost use Rattle.std.specs.Prelude.{◌≡◌, map, filter, IfOk};
 ghost use Rattle.sqlite.specs.Values.{bound};
 ghost use Rattle.mq_rows.specs.Rows.{is_usage};
 ghost use Rattle.mq_rows.specs.declared.plan.Write.TheVariants.{Insert, Update};
-ghost use Rattle.mq_tables.specs.Inside.{IsInside, Reads, Leads, StaysInside, Writes, OfLedger};
-ghost use Rattle.mq_tables.specs.Inside.{LeavesCommit};
+ghost use Rattle.mq_tables.specs.Inside.{IsInside, Reads, Becomes, StaysInside, Writes, OfLedger};
+ghost use Rattle.mq_tables.specs.Inside.{CommitsNothing};
 ghost use Rattle.mq_tables.specs.Lent.{key_params, totals_params, totals_row, IsFirst};
 ghost use Rattle.mq_tables.specs.Records.{IsOneOf, usage_fields};
 ghost use Rattle.mq_tables.specs.Updates.{WritesUsage};
@@ -109,7 +109,7 @@ fn update_usage<S: Alter>(tx: &mut Transaction<'_, S>, usage: &UsageRecord) -> R
     )
 }
 
-/// Writes what becomes of the table, and answers how many rows that are.
+/// Writes what becomes of the table, and answers how many rows it wrote.
 pub fn write_usage<S: Alter>(
     tx: &mut Transaction<'_, S>,
     write: &Write<UsageRecord>,

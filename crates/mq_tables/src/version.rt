@@ -5,7 +5,7 @@ ghost use Rattle.sqlite.specs.State.{HasCleanDisk};
 ghost use Rattle.sqlite.specs.Held.{state};
 ghost use Rattle.sqlite.specs.Tree.{Trees};
 ghost use Rattle.sqlite.specs.Values.{bound};
-ghost use Rattle.mq_tables.specs.Inside.{IsInside, Leads, Turns, StaysInside, Writes, LeavesCommit};
+ghost use Rattle.mq_tables.specs.Inside.{IsInside, Becomes, Turns, StaysInside, Writes, CommitsNothing};
 ghost use Rattle.mq_tables.specs.Inside.{Lasts};
 ghost use Rattle.mq_tables.specs.Migrating.{version_params, AddsRule, SetsVersion, IsMigratedBy};
 ghost use Rattle.mq_tables.specs.Migrating.{IsMigrated, AreMigrated};
@@ -37,8 +37,8 @@ fn set_version<S: Alter>(tx: &mut Transaction<'_, S>) -> Result<usize, Error>
 fn add_rule<S: Alter>(tx: &mut Transaction<'_, S>, has_rule_table: bool) -> Result<usize, Error>
     requires inside { IsInside S.Store tx.old }
     ensures inside { StaysInside S.Store tx.old tx.new result }
-    ensures added { Leads S.Store tx.old tx.new result (AddsRule has_rule_table) }
-    ensures leaves { LeavesCommit S.Store tx.old tx.new }
+    ensures added { Becomes S.Store tx.old tx.new result (AddsRule has_rule_table) }
+    ensures leaves { CommitsNothing S.Store tx.old tx.new }
 {
     if has_rule_table {
         Ok(0)
@@ -55,9 +55,9 @@ fn migrate_tables<S: Alter>(
 ) -> Result<usize, Error>
     requires inside { IsInside S.Store tx.old }
     ensures inside { StaysInside S.Store tx.old tx.new result }
-    ensures open { Leads S.Store tx.old tx.new result (λ before _. IsTrue before.is_open) }
+    ensures open { Becomes S.Store tx.old tx.new result (λ before _. IsTrue before.is_open) }
     ensures migrated { Turns S.Store tx.old tx.new result (IsMigratedBy false has_rule_table) }
-    ensures leaves { LeavesCommit S.Store tx.old tx.new }
+    ensures leaves { CommitsNothing S.Store tx.old tx.new }
 {
     add_rule(tx, has_rule_table)?;
     create_retired(tx)?;
@@ -73,9 +73,9 @@ fn migrate_all<S: Alter>(
 ) -> Result<usize, Error>
     requires inside { IsInside S.Store tx.old }
     ensures inside { StaysInside S.Store tx.old tx.new result }
-    ensures open { Leads S.Store tx.old tx.new result (λ before _. IsTrue before.is_open) }
+    ensures open { Becomes S.Store tx.old tx.new result (λ before _. IsTrue before.is_open) }
     ensures migrated { Turns S.Store tx.old tx.new result (IsMigratedBy indexed has_rule_table) }
-    ensures leaves { LeavesCommit S.Store tx.old tx.new }
+    ensures leaves { CommitsNothing S.Store tx.old tx.new }
 {
     migrate_tables(tx, has_rule_table)?;
     add_index(tx, indexed)

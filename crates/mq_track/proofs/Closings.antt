@@ -1,15 +1,15 @@
 -- All closings that lines bring: each is the last of its transaction.
 use Rattle.std.proofs.Common.{◌≡◌, ◌≢◌, ℕ, ◌<◌, ◌≤◌, List, [], ◌∷◌, ◌++◌, refl, sym, subst, append_assoc}
 use Rattle.std.specs.Prelude.{Option, None, Some}
-use Rattle.std.specs.List.{AllByRecursion}
+use Rattle.std.specs.List.{AllByRecursion, cons_option}
 use Rattle.mq_line.specs.Grammar.{Meaning}
 use Rattle.mq_track.specs.Sessions.{Transaction, Sending, open_transaction, begin_count, closing, login, position_of}
-use Rattle.mq_track.specs.Laws.{added, closings, IsUnclosed, NoneStandsClosed, AreClosedOnce, ClosedBegan}
+use Rattle.mq_track.specs.Laws.{closings, IsUnclosed, NoneStandsClosed, AreClosedOnce, ClosedBegan}
 use Rattle.mq_track.specs.declared.closing.Closing.{Closing}
 use Rattle.mq_track.proofs.Numbers.{closes, numbered, stay_closed}
 
 one_more : (o : Option Closing) (before : List Closing) (txn : ℕ) → ((c : Closing) → o ≡ Some c → c.txn ≢ txn)
-    → AllByRecursion (λ c. c.txn ≢ txn) before → AllByRecursion (λ c. c.txn ≢ txn) (added o before)
+    → AllByRecursion (λ c. c.txn ≢ txn) before → AllByRecursion (λ c. c.txn ≢ txn) (cons_option o before)
 one_more None before txn one all = all
 one_more (Some c) before txn one all = (one c refl, all)
 

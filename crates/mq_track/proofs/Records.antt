@@ -1,4 +1,5 @@
 -- The map of sessions, read by the bytes of its keys.
+use Rattle.mq_lemmas.proofs.Keys.{key_cmp, apart, others}
 use Rattle.std.proofs.Common.{◌≡◌, ℕ, List, [], ◌∷◌, Bool, true, false, cond, map, refl, sym, ap, ◌∙◌, subst}
 use Rattle.std.specs.Prelude.{IsTrue, ◌||◌, Option, None, Some, is_some, unwrap_or, if◌then◌else◌}
 use Rattle.std.specs.declared.alloc.Global.{Global}
@@ -20,10 +21,6 @@ use Rattle.mq_track.specs.declared.sessions.Session.{Session}
 abbrev Records : Type 0
 Records = BTreeMap (Vec ℕ Global) Session
 
--- how the bytes s compare to a key
-abbrev pub key_cmp : List ℕ → Vec ℕ Global → Ordering
-key_cmp s k = slice_cmp nat_cmp s k.items
-
 known_cond : (b : Bool) (r : Session) (more : Option Known) (rest : Option Session) → unwrap_or more nothing ≡ known_in rest → unwrap_or (cond b (Some (known_by r)) more) nothing ≡ known_in (cond b (Some r) rest)
 known_cond true r more rest e = refl
 known_cond false r more rest e = e
@@ -32,13 +29,6 @@ known_cond false r more rest e = e
 pub known-entry : (es : List (Vec ℕ Global × Session)) (s : List ℕ) → known (map entry es) s ≡ known_in (lookup (is_at (key_cmp s)) es)
 known-entry [] s = refl
 known-entry (e ∷ es) s = rw (is_eq-slice_cmp s e.0.items) (known_cond (bytes_eq s e.0.items) e.1 _ _ (known-entry es s))
-
-apart : (s q k : List ℕ) → bytes_eq s q ≡ false → is_eq (slice_cmp nat_cmp s k) ≡ true → is_eq (slice_cmp nat_cmp q k) ≡ false
-apart s q k n y = is_eq-slice_cmp q k ∙ (nat_list_eq_equiv.symm q k ∙ (sym (nat_list_eq_equiv.congr s k q (sym (is_eq-slice_cmp s k) ∙ y)) ∙ n))
-
-others : {K X : Type 0} (eq : K → K → Bool) (test : K → Bool) (old new : List (K × X)) → KeepsOthers eq test old new → (other : K → Bool) → IsKeyTest eq other → AreApart test other → lookup other new ≡ lookup other old
-unfolding KeepsOthers
-others eq test old new h = h
 
 either_known : (b : Bool) (w : Known) (x y : Known) → (b ≡ true → x ≡ w) → (b ≡ false → x ≡ y) → x ≡ (if b then w else y)
 either_known true w x y h n = h refl

@@ -1,6 +1,6 @@
 -- What holds of sessions and transactions after any lines.
-use Rattle.std.specs.Prelude.{◌≡◌, ◌≢◌, ◌<◌, ◌≤◌, ℕ, List, [], ◌∷◌, ◌++◌, Option, None, Some, ◌⊎◌}
-use Rattle.std.specs.List.{AllByRecursion}
+use Rattle.std.specs.Prelude.{◌≡◌, ◌≢◌, ◌<◌, ◌≤◌, ℕ, List, [], ◌∷◌, ◌++◌, Some, ◌⊎◌}
+use Rattle.std.specs.List.{AllByRecursion, cons_option}
 use Rattle.mq_line.specs.Grammar.{Meaning}
 use Rattle.mq_track.specs.Events.{event}
 use Rattle.mq_track.specs.Sessions.{Transaction, login, open_transaction, begin_count, session_of, closing}
@@ -43,15 +43,10 @@ NoneVanishes = (past : List Meaning) (line : Meaning) (s : List ℕ) (t : Transa
 
 -- ---- all closings
 
--- one closing more, where there is one
-abbrev pub added : Option Closing → List Closing → List Closing
-added None closings = closings
-added (Some closed) closings = closed ∷ closings
-
 -- the closings that lines bring, the newest first
 abbrev pub closings : List Meaning → List Closing
 closings [] = []
-closings (line ∷ past) = added (closing past line) (closings past)
+closings (line ∷ past) = cons_option (closing past line) (closings past)
 
 -- none of them is of the transaction with this number
 abbrev pub IsUnclosed : List Meaning → ℕ → Type 0

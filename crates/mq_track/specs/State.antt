@@ -36,7 +36,7 @@ pub record TracksAt (state : State) (past : List Meaning) : Type 0 where
       known state.sessions s ≡ record { login = login past s; transaction = open_transaction past s }
   pub begins : state.begins ≡ begin_count past
 
--- the same of an answer, by the bytes of its parts
+-- an answer of `standing` as a position
 abbrev pub shown : Standing → Position
 shown standing.Anonymous = Unknown
 shown (standing.Login login) = LoggedIn login.now

@@ -7,8 +7,8 @@ use Rattle.mq_request.specs.declared.message.Reply.TheVariants.{Usage as UsageRe
 use Rattle.mq_ledger.specs.declared.ledger.LedgerFault.{LedgerFault}
 use Rattle.mq_ledger.specs.declared.ledger.LedgerFault.TheVariants.{Memory, Store}
 use Rattle.mq_ledger.specs.declared.ledger.ReportedCall.{ReportedCall}
-use Rattle.mq_ledger.specs.Told.{Tells}
-use Rattle.mq_ledger.proofs.Telling.{Tells-trans}
+use Rattle.mq_lemmas.specs.Told.{Tells}
+use Rattle.mq_lemmas.proofs.Telling.{Tells-trans}
 use Rattle.mq_watch.specs.Asked.{AsksOnly, CallsOnce, IsQuestion, usage_in}
 
 -- a call came

@@ -10,7 +10,7 @@ use Rattle.mq_ledger.specs.declared.ledger.LedgerFault.TheVariants.{Memory, Stor
 use Rattle.mq_ledger.specs.declared.ledger.ReportedCall.{ReportedCall}
 use Rattle.mq_ledger.specs.Legal.{Book}
 use Rattle.mq_ledger.specs.Limits.{cap}
-use Rattle.mq_ledger.specs.Told.{Tells}
+use Rattle.mq_lemmas.specs.Told.{Tells}
 use Rattle.mq_watch.specs.declared.nearing.Usage.{Usage as Used}
 
 -- it asks what a login has used

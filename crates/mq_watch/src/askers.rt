@@ -52,6 +52,7 @@ impl Askers {
         let host = host.as_slice();
         match self.hosts.get(host) {
             None => {
+                // (where there is no room, the host asks for the first time again)
                 let _ = self.hosts.put(host, Asker::One(address));
                 None
             }

@@ -5,7 +5,7 @@ ghost use Rattle.mq_request.specs.Range.{IsAmount, IsDay, IsLogin, IsReply};
 ghost use Rattle.mq_ledger.specs.Day.{day_of};
 ghost use Rattle.mq_ledger.specs.History.{used};
 ghost use Rattle.mq_ledger.specs.Limits.{cap};
-ghost use Rattle.mq_ledger.specs.Told.{Tells};
+ghost use Rattle.mq_lemmas.specs.Told.{Tells};
 ghost use Rattle.mq_watch.specs.Asked.{IsAnswered, IsAsked, LacksMemory, question, usage_in};
 
 use crate::nearing::Usage;

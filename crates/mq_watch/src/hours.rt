@@ -20,8 +20,8 @@ const HOUR: u64 = 3_600;
 /// names.
 const NAMES: usize = 1_000;
 
-/// Whether there is a day or more between two days.
-fn are_far(day: u32, today: u32) -> bool
+/// Whether there is a day or more between two days, each in days since 1970-01-01.
+pub fn are_far(day: u32, today: u32) -> bool
     ensures { IsTrue result ↔ AreFar day today }
 {
     day.abs_diff(today) > 1

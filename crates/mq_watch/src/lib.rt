@@ -10,7 +10,7 @@
 //!     let outcome = listen(rt, log, rt.alloc(), settings, &mut watched, connections);
 //!
 //! It stands on `mq_request`, `mq_ledger` and `mq_chore`: it knows requests, replies and days, and
-//! of a connection its peer's address alone. [`Within`] has a chore of the other ledger go on.
+//! of a connection its peer's address alone. [`InnerChore`] has a chore of the other ledger go on.
 //! Begin with `specs/Seen.antt`, what is to be seen of a request: `watch.rt` finds it, and
 //! `watched.rt` logs it.
 #![tactic(auto)]
@@ -22,14 +22,15 @@ mod clock;
 mod hear;
 mod hourly;
 mod hours;
+mod inner_chore;
 mod nearing;
 mod notes;
 mod notice;
 mod refusals;
 mod watch;
 mod watched;
-mod within;
 
 pub use hear::Hear;
+pub use hours::are_far;
+pub use inner_chore::InnerChore;
 pub use watched::WatchedLedger;
-pub use within::Within;

@@ -220,7 +220,7 @@ pub fn see_limit<'r, L: Ledger>(
     ensures from { IfSome result.main (TellsBefore before) }
 {
     let verdict = verdict_of(answer);
-    let Lowering { from, question } = see_lowering(
+    let CapChange { from, question } = see_lowering(
         ledger, nearing, login, from_day, cap, before, verdict,
     );
     RequestNotices {
@@ -236,9 +236,9 @@ pub fn see_limit<'r, L: Ledger>(
     }
 }
 
-/// Whether a limit lowered another.
+/// How a limit changed its login's cap, by what questions said.
 #[derive(Clone, Copy)]
-struct Lowering<'a> {
+struct CapChange<'a> {
     /// The cap that the login had on that day before, where it is lower now.
     from: Option<u32>,
     /// That the ledger's store failed at the question.
@@ -254,7 +254,7 @@ fn see_lowering<'r, L: Ledger>(
     cap: u32,
     before: Result<Option<u32>, LedgerFault>,
     verdict: OrderVerdict,
-) -> Lowering<'r>
+) -> CapChange<'r>
     requires login { IsLogin login.now }
     requires day { IsDay from_day }
     ensures asked { IsAsked L.told L.book L.has_kept L.is_sound L.has_store ledger.old ledger.new }
@@ -264,12 +264,12 @@ fn see_lowering<'r, L: Ledger>(
     ensures from { IfSome result.from (λ was. before ≡ Ok (Some was)) }
 {
     match (before, verdict) {
-        (Err(_), _) => Lowering {
+        (Err(_), _) => CapChange {
             from: None,
             question: Some(Notice::FailedQuestion),
         },
         (Ok(before), OrderVerdict::Set) => note_set(ledger, nearing, login, from_day, cap, before),
-        (Ok(_), _) => Lowering {
+        (Ok(_), _) => CapChange {
             from: None,
             question: None,
         },
@@ -285,7 +285,7 @@ fn note_set<'r, L: Ledger>(
     from_day: u32,
     cap: u32,
     before: Option<u32>,
-) -> Lowering<'r>
+) -> CapChange<'r>
     requires login { IsLogin login.now }
     requires day { IsDay from_day }
     ensures asked { IsAsked L.told L.book L.has_kept L.is_sound L.has_store ledger.old ledger.new }
@@ -296,7 +296,7 @@ fn note_set<'r, L: Ledger>(
     nearing.forget(login);
     match before {
         Some(was) if cap < was => ask_again(ledger, login, from_day, was),
-        _ => Lowering {
+        _ => CapChange {
             from: None,
             question: None,
         },
@@ -305,7 +305,7 @@ fn note_set<'r, L: Ledger>(
 
 /// Whether the cap is another now than it was, by a question. Where there is no answer, it counts
 /// as another.
-fn ask_again<'r, L: Ledger>(ledger: &mut L, login: &Login, from_day: u32, was: u32) -> Lowering<'r>
+fn ask_again<'r, L: Ledger>(ledger: &mut L, login: &Login, from_day: u32, was: u32) -> CapChange<'r>
     requires login { IsLogin login.now }
     requires day { IsDay from_day }
     ensures asked { IsAsked L.told L.book L.has_kept L.is_sound L.has_store ledger.old ledger.new }
@@ -314,15 +314,15 @@ fn ask_again<'r, L: Ledger>(ledger: &mut L, login: &Login, from_day: u32, was: u
         (L.told ledger.new) was result.from result.question }
 {
     match ask_usage(ledger, login, from_day) {
-        Ok(Some(usage)) if was <= usage.cap => Lowering {
+        Ok(Some(usage)) if was <= usage.cap => CapChange {
             from: None,
             question: None,
         },
-        Ok(_) => Lowering {
+        Ok(_) => CapChange {
             from: Some(was),
             question: None,
         },
-        Err(_) => Lowering {
+        Err(_) => CapChange {
             from: Some(was),
             question: Some(Notice::FailedQuestion),
         },

@@ -1,6 +1,7 @@
 -- Members of lists, what is found in them, and sums.
-use Rattle.mq_world.proofs.Words.{AllByRecursion, Bool, In, List, Some, [], ap, arith, clash, either, false, inl, inr, list_any, none_some, refl, slice_get, some_is, suc, sum_by, sum_by-cons, sum_by-le-sum_by, sym, true, zero, ℕ, ◌++◌, ◌+◌, ◌∙◌, ◌∷◌, ◌≡◌, ◌≤◌, ◌⊎◌}
+use Rattle.mq_world.proofs.Words.{AllByRecursion, Bool, In, List, Some, [], ap, arith, clash, inl, inr, is_some, list_any, none_some, option_cases, slice_get, some_is, suc, sum_by, sum_by-cons, sum_by-le-sum_by, true, zero, ℕ, ◌++◌, ◌+◌, ◌∙◌, ◌∷◌, ◌≡◌, ◌≤◌, ◌⊎◌}
 use Rattle.std.specs.Prelude.{find}
+use Rattle.mq_ledger.proofs.Basics.{found, any_found as any_is}
 
 -- ---- members
 
@@ -29,29 +30,10 @@ all_put P (z ∷ xs) ys x y all h = (all.0, all_put P xs ys x y all.1 h)
 
 -- ---- finding
 
-pub record Found {X : Type 0} (p : X → Bool) (xs : List X) (x : X) : Type 0 where
-  pub among : In x xs
-  pub so : p x ≡ true
-
-pub found : {X : Type 0} (p : X → Bool) (xs : List X) (x : X) → find p xs ≡ Some x → Found p xs x
-found p [] x h = absurd (none_some x h)
-found p (y ∷ xs) x h = elim (either (p y)) [
-  | inl t ↦ (let is : y ≡ x = some_is y x (rw t at h) in record { among = inl is; so = ap p (sym is) ∙ t })
-  | inr f ↦ (let g = found p xs x (rw f at h) in record { among = inr g.among; so = g.so })
-]
-
-pub any_found : {X : Type 0} (p : X → Bool) (xs : List X) → list_any p xs ≡ true → (x : X) × Found p xs x
-any_found p [] h = absurd (clash false h refl)
-any_found p (y ∷ xs) h = elim (either (p y)) [
-  | inl t ↦ (y, record { among = inl refl; so = t })
-  | inr f ↦ (let r = any_found p xs (rw f at h) in (r.0, record { among = inr r.1.among; so = r.1.so }))
-]
-
-pub not_any : {X : Type 0} (p : X → Bool) (xs : List X) → list_any p xs ≡ false → (x : X) → In x xs → p x ≡ false
-not_any p [] h x i = absurd i
-not_any p (y ∷ xs) h x i = elim (either (p y)) [
-  | inl t ↦ (let bad : true ≡ false = rw t at h in absurd (clash true refl bad))
-  | inr f ↦ elim i [ inl e ↦ ap p (sym e) ∙ f | inr j ↦ not_any p xs (rw f at h) x j ]
+pub any_found : {X : Type 0} (p : X → Bool) (xs : List X) → list_any p xs ≡ true → (x : X) × (In x xs × (p x ≡ true))
+any_found p xs h = elim (option_cases (find p xs)) [
+  | inr f ↦ (f.0, found p xs f.0 f.1)
+  | inl none ↦ absurd (clash (list_any p xs) h (any_is p xs ∙ ap is_some none))
 ]
 
 -- ---- sums
@@ -70,11 +52,3 @@ pub sum_has : {X : Type 0} (f : X → ℕ) (x : X) (xs : List X) → In x xs →
 sum_has f x [] i = absurd i
 sum_has f x (y ∷ xs) (inl e) = let s : f y ≡ f x = ap f e in omega (arith, s, sum_by-cons f y xs)
 sum_has f x (y ∷ xs) (inr i) = omega (arith, sum_has f x xs i, sum_by-cons f y xs)
-
-pub sum_plus : {X : Type 0} (f g : X → ℕ) (xs : List X) → sum_by (λ x. f x + g x) xs ≡ sum_by f xs + sum_by g xs
-sum_plus f g [] = refl
-sum_plus f g (x ∷ xs) = omega (arith, sum_by-cons (λ x. f x + g x) x xs, sum_by-cons f x xs, sum_by-cons g x xs, sum_plus f g xs)
-
-pub sum_zero : {X : Type 0} (xs : List X) → sum_by (λ x. 0) xs ≡ 0
-sum_zero [] = refl
-sum_zero (x ∷ xs) = omega (arith, sum_by-cons (λ x. 0) x xs, sum_zero xs)

@@ -3,7 +3,8 @@ use Rattle.mq_world.proofs.Words.{Entry, In, IsLegal, List, Release, RepliesSuit
 use Rattle.mq_world.proofs.Words.{neither_first, option_cases, refl, remembered, same_transaction, some_is, stays, subst, sym, transaction, true, ℕ, ◌++◌, ◌∙◌, ◌≡◌, ◌≤◌, ◌⊎◌}
 use Rattle.mq_request.specs.declared.message.Reply.TheVariants as reply
 use Rattle.mq_forget.proofs.Lists.{filter_in}
-use Rattle.mq_world.proofs.Basics.{in_front, in_back, in_either, found}
+use Rattle.mq_ledger.proofs.Basics.{found}
+use Rattle.mq_world.proofs.Basics.{in_front, in_back, in_either}
 use Rattle.mq_world.proofs.Known.{OfFrames, OfClients, OfLedgers}
 use Rattle.mq_world.proofs.Numbers.{IsOwn}
 use Rattle.mq_world.proofs.Grounds.{of_source, is_grant, GrantedIn, ground_kept}
@@ -19,7 +20,7 @@ OfForgetting = (day : ℕ → ℕ) (default D : ℕ) (H : List Entry) → IsLega
 own_day : (day : ℕ → ℕ) (H : List Entry) (t : Transaction) (moment : ℕ) → ((e : Entry) → In e H → is_of t e.request ≡ true → moment_of e.request ≡ moment) → day_named day moment (named H t) ≡ day moment
 own_day day H t moment same = elim (option_cases (named H t)) [
   | inl none ↦ ap (day_named day moment) none
-  | inr p ↦ (let f = found (λ x. is_of t x.request) H p.0 p.1 in ap (day_named day moment) p.1 ∙ ap day (same p.0 f.among f.so))
+  | inr p ↦ (let f = found (λ x. is_of t x.request) H p.0 p.1 in ap (day_named day moment) p.1 ∙ ap day (same p.0 f.0 f.1))
 ]
 
 -- where all entries of a transaction are of one moment, a request of it is about that day

@@ -1,5 +1,5 @@
 -- What was let through was granted in some ledger, under numbers of the run. H has the entries of all ledgers.
-use Rattle.mq_world.proofs.Words.{Action, AreUnderway, Ask, RecipientAnswer, Bool, Close, CloseEnd, Closed, Drain, Entry, Exchange, HeldTransaction, In, IsUnderway, List, Live, Never, None, Option, Reply, Request, Some, Source, Standing, Step, Transaction, View, [], after, after_ask, after_close, answer_of, ap, arith}
+use Rattle.mq_world.proofs.Words.{Action, AreUnderway, Ask, RecipientAnswer, Bool, Close, CloseEnd, Closed, Drain, Entry, Exchange, HeldTransaction, In, IsUnderway, List, Live, Never, None, Option, Reply, Request, Some, Source, TransactionState, Step, Transaction, View, [], after, after_ask, after_close, answer_of, ap, arith}
 use Rattle.mq_world.proofs.Words.{clash, either, false, granted, granted_in, held_by, if◌then◌else◌, inl, inr, is_of, is_other, length, let_through, let_through_at, nat_le, nat_tests, neither_first, neither_second, none_some, not, not_false, number_is, opened, refl, refuses, reserve_of, same_text}
 use Rattle.mq_world.proofs.Words.{same_transaction, some_is, subst, sum_by, sum_by-le-sum_by, sym, tries_in, true, view, ℕ, ◌&&◌, ◌+◌, ◌==◌, ◌∙◌, ◌∷◌, ◌≡◌, ◌≤◌}
 use Rattle.mq_request.specs.declared.message.Reply.TheVariants as reply
@@ -33,12 +33,12 @@ IsGrounded day F s H [] = Unit {0}
 IsGrounded day F s H (x ∷ P) = IsGround day F s H (view s P) x.action x.group × IsGrounded day F s H P
 
 -- the moment of a transaction
-abbrev pub at_of : Standing → ℕ
+abbrev pub at_of : TransactionState → ℕ
 at_of Never = 0
 at_of (Live h) = h.moment
 at_of (Closed end number h) = h.moment
 
-abbrev pub let_at : Standing → ℕ
+abbrev pub let_at : TransactionState → ℕ
 let_at Never = 0
 let_at (Live h) = h.granted
 let_at (Closed end number h) = h.granted
@@ -88,7 +88,7 @@ upto_grows I s H n txn moment login g = sum_grows (one_upto (of_source s txn) n)
 abbrev pub AllLet : (day : ℕ → ℕ) → (F : ℕ) → Source → List Entry → View → Type 0
 AllLet day F s H v = (t : ℕ) → F ≤ day (at_of (v.standing t)) → let_at (v.standing t) ≤ upto H (of_source s t) v.numbers
 
-opened_let : (day : ℕ → ℕ) (F moment : ℕ) (login : List ℕ) (st : Standing) (n : ℕ) → (opened moment login (held_by st)).moment ≡ moment → F ≤ day moment → (F ≤ day (at_of st) → let_at st ≤ n) → (opened moment login (held_by st)).granted ≤ n
+opened_let : (day : ℕ → ℕ) (F moment : ℕ) (login : List ℕ) (st : TransactionState) (n : ℕ) → (opened moment login (held_by st)).moment ≡ moment → F ≤ day moment → (F ≤ day (at_of st) → let_at st ≤ n) → (opened moment login (held_by st)).granted ≤ n
 opened_let day F moment login (Live h) n same f all = all (subst (λ x. F ≤ day x) (sym same) f)
 opened_let day F moment login st n same f all = omega arith
 
@@ -117,7 +117,7 @@ let_ask day F I s H v txn moment login x g same_at ground all = λ t. elim (eith
       rw y (subst G same here))
 ]
 
-held_let : (st : Standing) (h : HeldTransaction) → held_by st ≡ Some h → (let_at st ≡ h.granted) × (at_of st ≡ h.moment)
+held_let : (st : TransactionState) (h : HeldTransaction) → held_by st ≡ Some h → (let_at st ≡ h.granted) × (at_of st ≡ h.moment)
 held_let (Live k) h e = (ap (λ (x : HeldTransaction). x.granted) (some_is k h e), ap (λ (x : HeldTransaction). x.moment) (some_is k h e))
 held_let st h e = absurd (none_some h e)
 

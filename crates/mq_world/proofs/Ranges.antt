@@ -1,6 +1,6 @@
 -- What a run sends is in range, where its asks are.
 use Rattle.mq_world.proofs.Words.{Action, AllByRecursion, AreUnderway, Ask, RecipientAnswer, Bool, Close, CloseEnd, ComeInTurn, Drain, Exchange, HeldTransaction, In, IsBounded, IsHost, IsId, IsLogin, IsMoment, IsOrdinal, IsRequest, IsRun, IsWithin, List, Live, None, Option, Release, Request, Settle, Some, Source}
-use Rattle.mq_world.proofs.Words.{Standing, Step, View, [], after, after_ask, after_close, all_at, all_drop, all_push, answer_of, ap, arith, between, closing_of, decisions, either, failures, false, first_so, held_by, held_for, id_of, if◌then◌else◌, inl, inr, is_commit, is_other, lacks_numbers}
+use Rattle.mq_world.proofs.Words.{TransactionState, Step, View, [], after, after_ask, after_close, all_at, all_drop, all_push, answer_of, ap, arith, between, closing_of, decisions, either, failures, false, first_so, held_by, held_for, id_of, if◌then◌else◌, inl, inr, is_commit, is_other, lacks_numbers}
 use Rattle.mq_world.proofs.Words.{le_of, length, let_through, nat_le, nat_tests, neither_first, neither_second, next, next_of, none_some, number_is, opened, queue_of, refl, refuses, reserve_of, second_so, slice_get, some_is, subst, tries_in, true, view, ℕ, ◌&&◌, ◌+◌, ◌<◌, ◌==◌, ◌∷◌, ◌≡◌}
 use Rattle.mq_client.specs.HeldTransactions.{IsHeld}
 use Rattle.mq_client.specs.declared.recipient_answer.RecipientAnswer.TheVariants as asked
@@ -58,7 +58,7 @@ let_held : (txn : ℕ) (a : RecipientAnswer) (h : HeldTransaction) → IsOrdinal
 let_held txn asked.Granted h t m l g = record { number = t; moment = m; login = l; granted = omega (arith, g) }
 let_held txn a h t m l g = record { number = t; moment = m; login = l; granted = omega (arith, g) }
 
-held_by_live : (st : Standing) (h : HeldTransaction) → held_by st ≡ Some h → st ≡ Live h
+held_by_live : (st : TransactionState) (h : HeldTransaction) → held_by st ≡ Some h → st ≡ Live h
 held_by_live (Live k) h e = ap Live (some_is k h e)
 held_by_live st h e = absurd (none_some h e)
 

@@ -5,6 +5,7 @@ use Rattle.mq_world.proofs.Words.{reserve_of, subst, sym, tries_in, true, view, 
 use Rattle.mq_request.specs.declared.message.Reply.TheVariants as reply
 use Rattle.mq_link.specs.Link.{Brings}
 use Rattle.mq_client.specs.declared.recipient_answer.RecipientAnswer.TheVariants as asked
+use Rattle.mq_world.specs.Running.{step_of}
 use Rattle.mq_world.specs.World.{begun, with_exchange}
 use Rattle.mq_world.proofs.Known.{OfFrames, OfClients}
 use Rattle.mq_world.proofs.Numbers.{IsOwn, numbered_own, begun_numbered, more_numbered, ended_numbered}
@@ -59,9 +60,6 @@ failing q = record { request = q; outcome = Faulted Down; decided = None }
 abbrev pub so_far : Option Request → List Step → List Step
 so_far None P = P
 so_far (Some q) P = with_exchange (failing q) P
-
-abbrev pub step : Action → (quiet : Bool) → List Exchange → Step
-step a quiet g = record { action = a; group = g; quiet = quiet }
 
 -- ---- numbers of replies
 
@@ -167,25 +165,25 @@ pub record Sent (day : ℕ → ℕ) (F : ℕ) (s : Source) (tries : ℕ) (P : Li
   pub own : IsOwn s q
 
 pub sends_on : {day : ℕ → ℕ} {F : ℕ} → OfFrames → OfClients → (s : Source) (tries : ℕ) (P : List Step) (H : List Entry) (sent written : List (List ℕ)) (a : Action) (g : List Exchange) (quiet : Bool) (q : Request) → next s (tries_in tries quiet) (view s P) a g ≡ Some q
-    → Holds day F s tries (step a quiet g ∷ P) H sent written → Sent day F s tries (step a quiet g ∷ P) H sent written q
+    → Holds day F s tries (step_of a quiet g ∷ P) H sent written → Sent day F s tries (step_of a quiet g ∷ P) H sent written q
 sends_on {day = day} {F = since} F C s tries P H sent written a g quiet q e h =
     let o = h.steps in
-    let u : AreUnderway s tries (step a quiet (failing q ∷ g) ∷ P) = ((e, none_brought q, o.underway.0), o.underway.1) in
+    let u : AreUnderway s tries (step_of a quiet (failing q ∷ g) ∷ P) = ((e, none_brought q, o.underway.0), o.underway.1) in
     let range : IsRequest q = next_in_range C.bounded s tries a g quiet (failing q) P o.host o.run o.asks u in
-    let new : IsNumbered s (step a quiet (failing q ∷ g) ∷ P) q = (C.sent s tries (step a quiet (failing q ∷ g) ∷ P) u).0 in
+    let new : IsNumbered s (step_of a quiet (failing q ∷ g) ∷ P) q = (C.sent s tries (step_of a quiet (failing q ∷ g) ∷ P) u).0 in
     record {
       holds = record {
         steps = record { host = o.host; run = o.run; underway = u; returns = o.returns; asks = o.asks };
         sends = λ r i k own. elim i [
-          | inl same ↦ subst (IsNumbered s (step a quiet (failing q ∷ g) ∷ P)) (F.one_request q r range k same) new
+          | inl same ↦ subst (IsNumbered s (step_of a quiet (failing q ∷ g) ∷ P)) (F.one_request q r range k same) new
           | inr j ↦ more_numbered s a (failing q) g quiet P r (h.sends r j k own)
         ];
         taken = λ x i own. more_numbered s a (failing q) g quiet P x.request (h.taken x i own);
-        wrote = λ b r i k own d z. wrote_on s (step a quiet g ∷ P) (step a quiet (failing q ∷ g) ∷ P) H b r (more_numbered s a (failing q) g quiet P) (h.wrote b r i k own d z);
+        wrote = λ b r i k own d z. wrote_on s (step_of a quiet g ∷ P) (step_of a quiet (failing q ∷ g) ∷ P) H b r (more_numbered s a (failing q) g quiet P) (h.wrote b r i k own d z);
         ground = (no_ground day since s H (view s P) a (failing q ∷ g) refl, h.ground.1);
       };
       range = range;
-      own = numbered_own s (step a quiet (failing q ∷ g) ∷ P) q new;
+      own = numbered_own s (step_of a quiet (failing q ∷ g) ∷ P) q new;
     }
 
 -- ---- an exchange ends
@@ -200,11 +198,11 @@ granted_by (Some (reply.Granted id used)) e = (reply.Granted id used, refl, refl
 granted_by o e = (let no : ⊥ = cc in absurd no)
 
 heard : {day : ℕ → ℕ} {F : ℕ} → OfFrames → OfClients → (s : Source) (tries : ℕ) (P : List Step) (H : List Entry) (sent written : List (List ℕ)) (txn moment : ℕ) (login : List ℕ) (g : List Exchange) (quiet : Bool) (x : Exchange)
-    → AllSuit H → Holds day F s tries (step (Ask txn moment login) quiet (failing x.request ∷ g) ∷ P) H sent written → Comes written x.request x.outcome → IsDecision x.request x.outcome x.decided
+    → AllSuit H → Holds day F s tries (step_of (Ask txn moment login) quiet (failing x.request ∷ g) ∷ P) H sent written → Comes written x.request x.outcome → IsDecision x.request x.outcome x.decided
     → answer_by x.decided ≡ asked.Granted → F ≤ day moment → GrantedIn s H (view s P).numbers txn moment login
 heard {day = day} {F = since} F C s tries P H sent written txn moment login g quiet x suits h may dec e on =
     let v = view s P in
-    let Q : List Step = step (Ask txn moment login) quiet (failing x.request ∷ g) ∷ P in
+    let Q : List Step = step_of (Ask txn moment login) quiet (failing x.request ∷ g) ∷ P in
     let k = granted_by x.decided e in
     let D : Option Reply → Type 0 = λ o. IsDecision x.request x.outcome o in
     let d : Brings x.outcome k.0 × (decides x.request k.0 ≡ true) = subst D k.1 dec in
@@ -231,17 +229,17 @@ heard {day = day} {F = since} F C s tries P H sent written txn moment login g qu
     ]
 
 heard_ground : {day : ℕ → ℕ} {F : ℕ} → OfFrames → OfClients → (s : Source) (tries : ℕ) (P : List Step) (H : List Entry) (sent written : List (List ℕ)) (a : Action) (g : List Exchange) (quiet : Bool) (x : Exchange)
-    → AllSuit H → Holds day F s tries (step a quiet (failing x.request ∷ g) ∷ P) H sent written → Comes written x.request x.outcome → IsDecision x.request x.outcome x.decided → IsGround day F s H (view s P) a (x ∷ g)
+    → AllSuit H → Holds day F s tries (step_of a quiet (failing x.request ∷ g) ∷ P) H sent written → Comes written x.request x.outcome → IsDecision x.request x.outcome x.decided → IsGround day F s H (view s P) a (x ∷ g)
 heard_ground F C s tries P H sent written (Ask txn moment login) g quiet x suits h may dec = λ e on. heard F C s tries P H sent written txn moment login g quiet x suits h may dec e on
 heard_ground F C s tries P H sent written a g quiet x suits h may dec = tt
 
 pub ends_on : {day : ℕ → ℕ} {F : ℕ} → OfFrames → OfClients → (s : Source) (tries : ℕ) (P : List Step) (H : List Entry) (sent written : List (List ℕ)) (a : Action) (g : List Exchange) (quiet : Bool) (x : Exchange)
-    → AllSuit H → Holds day F s tries (step a quiet (failing x.request ∷ g) ∷ P) H sent written → Comes written x.request x.outcome → IsDecision x.request x.outcome x.decided → Holds day F s tries (step a quiet (x ∷ g) ∷ P) H sent written
+    → AllSuit H → Holds day F s tries (step_of a quiet (failing x.request ∷ g) ∷ P) H sent written → Comes written x.request x.outcome → IsDecision x.request x.outcome x.decided → Holds day F s tries (step_of a quiet (x ∷ g) ∷ P) H sent written
 ends_on F C s tries P H sent written a g quiet x suits h may dec = record {
   steps = (let o = h.steps in let u = o.underway in record { host = o.host; run = o.run; underway = ((u.0.0, dec, u.0.2), u.1); returns = o.returns; asks = o.asks });
   sends = λ q i r own. ended_numbered s a (failing x.request) x g quiet P q (h.sends q i r own);
   taken = λ e i own. ended_numbered s a (failing x.request) x g quiet P e.request (h.taken e i own);
-  wrote = λ b q i r own d z. wrote_on s (step a quiet (failing x.request ∷ g) ∷ P) (step a quiet (x ∷ g) ∷ P) H b q (ended_numbered s a (failing x.request) x g quiet P) (h.wrote b q i r own d z);
+  wrote = λ b q i r own d z. wrote_on s (step_of a quiet (failing x.request ∷ g) ∷ P) (step_of a quiet (x ∷ g) ∷ P) H b q (ended_numbered s a (failing x.request) x g quiet P) (h.wrote b q i r own d z);
   ground = (heard_ground F C s tries P H sent written a g quiet x suits h may dec, h.ground.1);
 }
 

@@ -1,16 +1,15 @@
 -- A ledger takes a request.
-use Rattle.mq_world.proofs.Words.{Bool, CloseEnd, Closed, Entry, HeldTransaction, Id, In, IsNumbered, IsReply, IsRequest, List, Live, Never, Release, RepliesSuit, Reply, Request, Reserve, Settle, Some, Source, Standing, Step, Suits, Transaction, [], answer, ap, appended, clash, closes, closing_of, counted}
-use Rattle.mq_world.proofs.Words.{either, ended, false, first_so, frame, id_in, id_of, if◌then◌else◌, inl, inr, is_commit, is_of, ledger_id, moment_of, nat_le, refl, reply_body, request_body, reserve_of, same_transaction, second_so, subst, sym, transaction, true, txn_in, view, ℕ, ◌&&◌, ◌++◌, ◌∙◌}
+use Rattle.mq_world.proofs.Words.{Bool, Closed, Entry, HeldTransaction, Id, In, IsNumbered, IsReply, IsRequest, List, Live, Never, Release, RepliesSuit, Reply, Request, Reserve, Settle, Some, Source, TransactionState, Step, Suits, Transaction, [], answer, ap, appended, clash, closes, counted}
+use Rattle.mq_world.proofs.Words.{either, ended, false, first_so, frame, id_in, id_of, inl, inr, is_of, ledger_id, moment_of, refl, reply_body, request_body, reserve_of, same_transaction, second_so, subst, sym, transaction, true, txn_in, view, ℕ, ◌&&◌, ◌++◌, ◌∙◌}
 use Rattle.mq_world.proofs.Words.{◌∷◌, ◌≡◌, ◌⊎◌}
 use Rattle.mq_request.specs.declared.message.Reply.TheVariants as reply
+use Rattle.mq_ledger.proofs.Transactions.{entry}
+use Rattle.mq_client.proofs.Basics.{of_closing}
 use Rattle.mq_world.proofs.Basics.{in_front, in_back, in_either, any_found}
 use Rattle.mq_world.proofs.Known.{OfFrames, OfClients, OfLedgers}
 use Rattle.mq_world.proofs.Numbers.{IsOwn}
 use Rattle.mq_world.proofs.Grounds.{of_source, at_of, ground_in}
 use Rattle.mq_world.proofs.Runs.{is_settle, count_of, Holds}
-
-abbrev pub entry : Request → Reply → Entry
-entry q a = record { request = q; reply = a }
 
 -- ---- the requests of a transaction are its run's
 
@@ -32,7 +31,7 @@ of_source_own L s t (Release id txn moment login) mine = let o = of_own L s t id
 of_source_own L s t r mine = absurd (clash false mine refl)
 
 -- a number under which a request suits its transaction
-pub record SuitsUnder (s : Source) (t : ℕ) (st : Standing) (q : Request) : Type 0 where
+pub record SuitsUnder (s : Source) (t : ℕ) (st : TransactionState) (q : Request) : Type 0 where
   pub number : ℕ
   pub id : id_in q ≡ Some (id_of s number)
   pub suits : Suits s number t st q
@@ -46,19 +45,11 @@ entry_suits C L s tries P H sent written h t e i mine =
 
 -- ---- all requests of a transaction are of its moment
 
--- what holds of a settle and of a release, holds of a closing
-pub closing_kinds : (P : Request → Type 0) (s : Source) (n t : ℕ) (end : CloseEnd) (h : HeldTransaction) → P (Settle (id_of s n) t h.moment h.login h.granted) → P (Release (id_of s n) t h.moment h.login) → P (closing_of s n t end h)
-closing_kinds P s n t end h settle release = by_kind (is_commit end && nat_le 1 h.granted)
-  where
-    by_kind : (b : Bool) → P (if b then Settle (id_of s n) t h.moment h.login h.granted else Release (id_of s n) t h.moment h.login)
-    by_kind true = settle
-    by_kind false = release
-
-pub suits_moment : (s : Source) (n t : ℕ) (st : Standing) (q : Request) → Suits s n t st q → moment_of q ≡ at_of st
+pub suits_moment : (s : Source) (n t : ℕ) (st : TransactionState) (q : Request) → Suits s n t st q → moment_of q ≡ at_of st
 suits_moment s n t Never q u = absurd u
 suits_moment s n t (Live h) q u = ap moment_of u
 suits_moment s n t (Closed end number h) q (inl r) = ap moment_of r
-suits_moment s n t (Closed end number h) q (inr p) = ap moment_of p.1 ∙ closing_kinds (λ r. moment_of r ≡ h.moment) s n t end h refl refl
+suits_moment s n t (Closed end number h) q (inr p) = ap moment_of p.1 ∙ of_closing (λ r. moment_of r ≡ h.moment) s n t end h refl refl
 
 pub entry_moment : {day : ℕ → ℕ} {F : ℕ} → OfClients → OfLedgers → (s : Source) (tries : ℕ) (P : List Step) (H : List Entry) (sent written : List (List ℕ)) → Holds day F s tries P H sent written → (t : ℕ) (e : Entry) → In e H → is_of (of_source s t) e.request ≡ true → moment_of e.request ≡ at_of ((view s P).standing t)
 entry_moment C L s tries P H sent written h t e i mine =
@@ -85,9 +76,9 @@ pub not_ended : (H : List Entry) (t : Transaction) → ((e : Entry) → In e H �
 not_ended H t none = elim (either (ended H t)) [
   | inr f ↦ f
   | inl y ↦ (let f = any_found (λ e. is_of t e.request && closes e.reply) H y in
-      let mine = first_so (is_of t f.0.request) (closes f.0.reply) f.1.so in
-      let shut = second_so (is_of t f.0.request) (closes f.0.reply) f.1.so in
-      absurd (clash (closes f.0.reply) shut (none f.0 f.1.among mine)))
+      let mine = first_so (is_of t f.0.request) (closes f.0.reply) f.1.1 in
+      let shut = second_so (is_of t f.0.request) (closes f.0.reply) f.1.1 in
+      absurd (clash (closes f.0.reply) shut (none f.0 f.1.0 mine)))
 ]
 
 -- a reserve closes nothing

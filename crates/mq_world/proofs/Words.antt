@@ -12,7 +12,7 @@ pub use Rattle.mq_client.specs.Exchanges.{Exchange, IsDecision, IsTry, NoneYet, 
 pub use Rattle.mq_client.specs.Filter.{Answers, Asks, Closes, Filters, Passes, Query, Refuses, Takes, action_of, actions, actions_of, asking_of, at_line, close_of, is_login, is_moment, push, query, query_at}
 pub use Rattle.mq_client.specs.Holding.{Holding, held_back, nothing_held}
 pub use Rattle.mq_client.specs.Numbers.{IsNumbered, NoneReturns, Suits, exchanges_in, id_in, is_closed, request_under, txn_in}
-pub use Rattle.mq_client.specs.Past.{Action, ArePlayed, Ask, Close, Closed, Drain, IsBounded, IsPlayed, Live, MakesAll, Never, Plays, Source, Standing, State, Step, View, after}
+pub use Rattle.mq_client.specs.Past.{Action, ArePlayed, Ask, Close, Closed, Drain, IsBounded, IsPlayed, Live, MakesAll, Never, Plays, Source, TransactionState, State, Step, View, after}
 pub use Rattle.mq_client.specs.Past.{after_ask, after_close, answer_by, answer_of, closing_of, drained, held_by, held_for, id_of, is_commit, is_other, lacks_numbers, let_through, opened, refuses, reserve_of, told_steps, tries_in, view}
 pub use Rattle.mq_client.specs.Reading.{numbers_in, standing_in, takes_number}
 pub use Rattle.mq_client.specs.Run.{AfterReady, BeforeReady, EndsWith, Goes, HasText, IsInHand, IsReady, Outside, Stage, StopsAt}
@@ -20,13 +20,13 @@ pub use Rattle.mq_client.specs.Turns.{AreUnderway, ComeInTurn, IsUnderway, failu
 pub use Rattle.mq_client.specs.declared.filter.RunEnd.{RunEnd}
 pub use Rattle.mq_client.specs.declared.recipient_answer.RecipientAnswer.{RecipientAnswer}
 pub use Rattle.mq_client.specs.declared.held_transaction.HeldTransaction.{HeldTransaction}
-pub use Rattle.mq_forget.specs.Remembered.{day_named, is_about, is_set, moment_of, remembered, stays}
+pub use Rattle.mq_forget.specs.Remembered.{day_named, is_about, is_set, remembered, stays}
 pub use Rattle.mq_frame.specs.Spelling.{SpellsReply, SpellsRequest, frame, reply_body, request_body, request_frame}
 pub use Rattle.mq_ledger.specs.Answer.{answer, appended, history_of, reply, reply as ledger_reply, reply_by, reply_to, stored, with_arrival, with_arrival_by}
 pub use Rattle.mq_ledger.specs.Arrivals.{has_id, id_of as ledger_id, is_below}
 unfoldable pub use Rattle.mq_ledger.specs.Arrivals.{floor}
 pub use Rattle.mq_ledger.specs.Day.{ByOffset, IsDayRule, IsOffset, IsZone, clock, day_of}
-pub use Rattle.mq_ledger.specs.History.{Transaction, closes, counted, counted_in, ended, granted, granted_in, held, is_of, named, requests, reserved, same_transaction, settled, settled_in, transaction, used}
+pub use Rattle.mq_ledger.specs.History.{Transaction, closes, counted, counted_in, ended, granted, granted_in, held, is_of, named, requests, reserved, same_transaction, settled, settled_in, transaction, used, moment_of}
 pub use Rattle.mq_ledger.specs.Legal.{Book, IsLegal, IsLegalBook}
 pub use Rattle.mq_ledger.specs.Limits.{cap}
 pub use Rattle.mq_ledger.specs.Suits.{Suits as RepliesSuit}

@@ -7,7 +7,8 @@ use Rattle.mq_request.specs.declared.message.Reply.TheVariants as reply
 use Rattle.mq_world.specs.World.{Site, Run, World, fresh, same_source, put, book_after}
 use Rattle.mq_world.specs.Law.{earlier}
 use Rattle.mq_forget.proofs.Growing.{in_range}
-use Rattle.mq_world.proofs.Basics.{in_front, in_either, found}
+use Rattle.mq_ledger.proofs.Basics.{found}
+use Rattle.mq_world.proofs.Basics.{in_front, in_either}
 use Rattle.mq_world.proofs.Known.{OfFrames, OfLedgers, Known}
 use Rattle.mq_world.proofs.Grounds.{is_grant}
 use Rattle.mq_world.proofs.Runs.{Wrote, Holds, AllSuit, so_far, writes_on, same_id_by}
@@ -77,7 +78,7 @@ no_grant b a none e g = clash (is_grant a) g (ap is_grant (sym e) ∙ none)
 -- a request whose number is stored gets the stored reply, or Conflict
 same_reply : OfFrames → (H G : List Entry) (id : Id) (e : Entry) (b : Bool) → stored H id ≡ Some e → IsReply (if b then e.reply else reply.Conflict id)
     → (a : Reply) → frame (reply_body (if b then e.reply else reply.Conflict id)) ≡ frame (reply_body a) → IsReply a → is_grant a ≡ true → Wrote (H ++ G) a
-same_reply F H G id e true there fits a f k g = let i = found (λ x. has_id id x.request) H e there in record { entry = e; among = in_front H G e i.among; is = F.one_reply e.reply a fits k f }
+same_reply F H G id e true there fits a f k g = let i = found (λ x. has_id id x.request) H e there in record { entry = e; among = in_front H G e i.0; is = F.one_reply e.reply a fits k f }
 same_reply F H G id e false there fits a f k g = absurd (no_grant (reply.Conflict id) a refl (F.one_reply (reply.Conflict id) a fits k f) g)
 
 takes_by : {F : ℕ} → (day : ℕ → ℕ) (default : ℕ) → Known → (s : Source) (tries : ℕ) (P : List Step) (H G : List Entry) (sent written : List (List ℕ)) (id : Id) (q : Request) (m : Option Entry) → stored H id ≡ m

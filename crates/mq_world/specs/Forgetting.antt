@@ -1,17 +1,8 @@
 -- Worlds whose ledger forgets days that are over, while runs go on.
 use Rattle.std.specs.Prelude.{ℕ, ◌≤◌}
-use Rattle.mq_ledger.specs.Day.{day_of}
 use Rattle.mq_ledger.specs.Legal.{Book}
-use Rattle.mq_forget.specs.Remembered.{remembered}
+use Rattle.mq_forget.specs.Remembered.{remembered_book}
 use Rattle.mq_world.specs.World.{Site, World, Next}
-
--- what is remembered of a ledger where the days before D are forgotten
-abbrev pub remembered_book : ℕ → Book → Book
-remembered_book D b = record {
-  zone = b.zone;
-  default = b.default;
-  history = remembered (day_of b.zone) D b.history;
-}
 
 -- the world once its ledger has forgotten the days before D: runs and frames are as they were
 abbrev pub forgotten : ℕ → World → World

@@ -3,7 +3,7 @@ use Rattle.std.specs.Prelude.{◌≡◌, ℕ, List, [], ◌∷◌, Bool, false, 
 use Rattle.mq_request.specs.Same.{same_text}
 use Rattle.mq_ledger.specs.Day.{day_of}
 use Rattle.mq_ledger.specs.History.{Transaction}
-use Rattle.mq_client.specs.Past.{Source, Action, Drain, Step, Standing, Never, Live, Closed, is_commit, IsPlayed}
+use Rattle.mq_client.specs.Past.{Source, Action, Drain, Step, TransactionState, Never, Live, Closed, is_commit, IsPlayed}
 use Rattle.mq_client.specs.Filter.{actions, actions_of}
 use Rattle.mq_client.specs.Turns.{AreUnderway}
 use Rattle.mq_client.specs.Reading.{standing_in}
@@ -15,11 +15,11 @@ abbrev pub run_of : Transaction → Source
 run_of t = record { host = t.host; run = t.run }
 
 -- how a transaction stands by the steps that its run began
-abbrev pub standing_of : World → Transaction → Standing
+abbrev pub standing_of : World → Transaction → TransactionState
 standing_of w t = standing_in (w.runs (run_of t)).past t.txn
 
 -- a transaction that is live, or whose last close that found it live was a commit
-abbrev pub counting : Standing → Option HeldTransaction
+abbrev pub counting : TransactionState → Option HeldTransaction
 counting Never = None
 counting (Live h) = Some h
 counting (Closed end number h) = if is_commit end then Some h else None
@@ -30,7 +30,7 @@ granted_of None = 0
 granted_of (Some h) = h.granted
 
 -- how many of its recipients were let through
-abbrev pub let_by : Standing → ℕ
+abbrev pub let_by : TransactionState → ℕ
 let_by st = granted_of (counting st)
 
 -- it is known to be of that login and to have begun on that day
@@ -39,7 +39,7 @@ is_on day l d None = false
 is_on day l d (Some h) = same_text l h.login && (day h.moment == d)
 
 -- the same, where it is of that login and day
-abbrev pub let_on : (ℕ → ℕ) → List ℕ → ℕ → Standing → ℕ
+abbrev pub let_on : (ℕ → ℕ) → List ℕ → ℕ → TransactionState → ℕ
 let_on day l d st = if is_on day l d (counting st) then let_by st else 0
 
 -- the sum over some transactions

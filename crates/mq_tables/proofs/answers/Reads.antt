@@ -11,12 +11,13 @@ use Rattle.mq_tables.specs.Ledger.{HasLedger}
 use Rattle.mq_tables.specs.Lent.{id_key, bodies_row, IsAnswerShown}
 use Rattle.mq_tables.specs.Retiring.{runs_params, place_row}
 use Rattle.mq_tables.specs.Tables.{answer_table}
-use Rattle.mq_tables.proofs.Finds.{Following, follows, int_same, blob_same, none_of, empty_mapped, shown_of}
+use Rattle.mq_tables.proofs.Finds.{Following, follows, int_same, blob_same, empty_mapped, shown_of}
 use Rattle.mq_tables.proofs.SelectShape.{IsSelect, unordered}
 use Rattle.mq_tables.proofs.Selected.{Finding, finds_answers}
 use Rattle.mq_tables.proofs.TermShape.{field, against}
 use Rattle.mq_tables.proofs.TermShape.Relation.{Same, AtMost, AtLeast}
 use Rattle.mq_tables.proofs.Tests.{text_test, nat_test, from_test, until_test}
+use Rattle.mq_rows.proofs.Lists.{none_pass}
 
 -- ---- by its number
 
@@ -94,8 +95,8 @@ module _ (n : ℕ) where
       (λ r. rw (nat_test r.n n) (and-true (n == r.n)))
 
   entry_first : (all : List AnswerRecord) (rows : List Row) (found : Option Bodies) → IsPermutation (map bodies_row (filter (λ a. n == a.n) all)) rows → IsFirstBodies rows found → IsAnswerAt n all found
-  entry_first all rows None same none = none_of (λ a. n == a.n) all (empty_mapped bodies_row _ (sym (length_permutation _ _ same) ∙ ap length none))
-  entry_first all rows (Some u) same (row, more, is, request, reply) =
+  entry_first all rows None same none = none_pass (λ a. n == a.n) all (empty_mapped bodies_row _ (sym (length_permutation _ _ same) ∙ ap length none))
+  entry_first all rows (Some u) same (row, more, is, (request, reply)) =
       let shows = all-permutation _ _ _ same (shown_of bodies_row (λ a. n == a.n) all) in
       let head : (v : AnswerRecord) × (Has all v × ((n == v.n) ≡ true)) × (row ≡ bodies_row v) = (subst (AllByRecursion (λ r. (v : AnswerRecord) × (Has all v × ((n == v.n) ≡ true)) × (r ≡ bodies_row v))) is shows).0 in
       record {

@@ -1,5 +1,5 @@
 -- What the rows of a strict table hold, none of whose columns may be NULL.
-use Rattle.std.proofs.Common.{◌≡◌, ℕ, ℤ, ◌+◌, suc, zero, List, [], ◌∷◌, drop, map, Bool, true, false, not, ◌||◌, None, true≢false, arith, refl, sym, ap, ap₂, subst, ◌∙◌}
+use Rattle.std.proofs.Common.{◌≡◌, ℕ, ℤ, ◌+◌, suc, zero, List, [], ◌∷◌, drop, map, true, false, not, ◌||◌, None, true≢false, arith, refl, sym, ap, ap₂, subst, ◌∙◌}
 use Rattle.mq_tables.proofs.Words.{AllByRecursion, Blob, Database, Int, IsDatabase, IsPermutation, IsPermutation-refl, Null, Real, Row, Schema, Table, Text, Trees, all-slice_get, all_weaker, and_parts, column}
 use Rattle.std.specs.Prelude.{if◌then◌else◌}
 use Rattle.sqlite.specs.declared.types.Value.{Value}
@@ -16,6 +16,7 @@ use Rattle.mq_tables.specs.Places.{IsTableIn}
 use Rattle.mq_tables.specs.Tables.{trans_table, usage_table, ceiling_table}
 use Rattle.mq_rows.specs.declared.audited.LimitFigures.{LimitFigures}
 use Rattle.mq_rows.specs.declared.audited.UsageFigures.{UsageFigures}
+use Rattle.mq_lemmas.proofs.Booleans.{is_not}
 
 -- what a cell of a kind holds
 
@@ -73,10 +74,6 @@ column_at zero (w ∷ row) v vs e = (cc, cc)
 column_at (suc n) [] v vs e = absurd cc
 column_at (suc n) (w ∷ row) v vs e = column_at n row v vs e
 
-not_true : (b : Bool) → not b ≡ true → b ≡ false
-not_true true h = absurd (true≢false (sym h))
-not_true false h = refl
-
 typed : (cs : List Column) → AllByRecursion IsWhole cs → (at : ℕ) (row vs : Row) → drop (at + 1) row ≡ vs → are_typed None at cs vs ≡ true → are_present None at cs row ≡ true → (p : Contents cs) × (vs ≡ row_of cs p)
 typed [] whole at row [] is fit there = (tt, refl)
 typed [] whole at row (v ∷ vs) is fit there = absurd (true≢false (sym fit))
@@ -86,7 +83,7 @@ typed (c ∷ cs) whole at row (v ∷ vs) is fit there =
     let here = column_at (at + 1) row v vs is in
     let place : suc (at + 1) ≡ at + 1 + 1 = omega arith in
     let next : drop (at + 1 + 1) row ≡ vs = subst (λ k. drop k row ≡ vs) place here.1 in
-    let present : is_null v ≡ false = not_true (is_null v) (sym (ap₂ (λ b w. not b || not (is_null w)) whole.0.1 here.0) ∙ (and_parts _ _ there).0) in
+    let present : is_null v ≡ false = is_not (is_null v) (sym (ap₂ (λ b w. not b || not (is_null w)) whole.0.1 here.0) ∙ (and_parts _ _ there).0) in
     let of : is_of c.kind v ≡ true = sym (ap (λ b. if b then is_of c.kind v else has_affinity c.kind v) whole.0.0) ∙ (and_parts _ _ fit).0 in
     let one = fits c.kind v of present in
     let more = typed cs whole.1 (at + 1) row vs next (and_parts _ _ fit).1 (and_parts _ _ there).1 in

@@ -15,7 +15,8 @@ use Rattle.mq_tables.specs.Written.{Created}
 use Rattle.mq_tables.specs.Making.{Makes, chain, later_tables}
 use Rattle.mq_tables.specs.Indexing.{with_day_index, IndexesIf}
 use Rattle.mq_tables.specs.Updates.{KeepsOthers}
-use Rattle.mq_tables.proofs.Chains.{all_split, of_chain}
+use Rattle.mq_lemmas.proofs.Lists.{all_split}
+use Rattle.mq_tables.proofs.Chains.{of_chain}
 use Rattle.mq_tables.proofs.making.Found.{IsFound, begun, still_all, in_database}
 use Rattle.mq_tables.proofs.making.Places.{all_below}
 use Rattle.mq_tables.proofs.making.Indexed as indexed
@@ -91,7 +92,7 @@ new_alone s unnamed =
 
 -- ---- the tables of later versions
 
-was_before : (Now Before : Type 0) (b : Bool) → b ≡ false → Since b Now Before → Before
+pub was_before : (Now Before : Type 0) (b : Bool) → b ≡ false → Since b Now Before → Before
 was_before Now Before true e h = absurd cc
 was_before Now Before false e h = h
 

@@ -6,7 +6,8 @@ use Rattle.sqlite_catalog.specs.Listing.{IsTableRow}
 use Rattle.mq_tables.specs.Places.{IsTableIn}
 use Rattle.mq_tables.specs.Making.{chain}
 use Rattle.mq_tables.proofs.making.Creating.{place_kept, get_kept}
-use Rattle.mq_tables.proofs.making.Places.{placed, unnamed, all_below}
+use Rattle.mq_tables.proofs.making.Places.{placed, all_below}
+use Rattle.sqlite_catalog.proofs.StepLemmas.{no_table}
 
 -- by its name, its place and its tree
 pub record IsFound (tables : List Table) (t : Table) : Type 0 where
@@ -32,7 +33,7 @@ still_all t (u ∷ more) s h = still_all t more (created s u) (still t u s h)
 
 pub begun : (made : Table) → same_name made.name made.name ≡ true → (s : Schema) → is_used s made.name ≡ false → IsFound (created s made).tables (record made { tree = next_tree s })
 begun made self s free =
-    let place = placed (λ t. same_name t.name made.name) 0 s.tables (record made { tree = next_tree s }) (unnamed s made.name free) self in
+    let place = placed (λ t. same_name t.name made.name) 0 s.tables (record made { tree = next_tree s }) (no_table s made.name free) self in
     let here : (at : ℕ) → 0 + at ≡ at = λ at. omega arith in
     record { at = place.at; named = place.found ∙ ap Some (here place.at); there = place.there; found = find_last s.tables (record made { tree = next_tree s }) (all_below s) }
 

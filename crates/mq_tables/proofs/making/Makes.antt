@@ -5,8 +5,10 @@ use Rattle.mq_tables.specs.Tables.{answer_table, trans_table, usage_table, ceili
 use Rattle.mq_tables.specs.Written.{Created}
 use Rattle.mq_tables.specs.Making.{Makes, Puts, HasCounters, HasAdded, HasStarted, four_tables, later_tables, other_tables}
 use Rattle.mq_tables.proofs.making.Creating.{MakesTable, creates_any, counters_kept}
-use Rattle.mq_tables.proofs.making.Places.{placed, unnamed, all_below}
-use Rattle.mq_tables.proofs.Chains.{adds_both, all_split}
+use Rattle.mq_tables.proofs.making.Places.{placed, all_below}
+use Rattle.mq_lemmas.proofs.Lists.{all_split}
+use Rattle.mq_tables.proofs.Chains.{adds_both}
+use Rattle.sqlite_catalog.proofs.StepLemmas.{no_table}
 
 module _ {text : List ℕ} {table : Table} (it : MakesTable text table) (old new : State) where
   pub makes : (r : Result ℕ Error) → ExecutesInside 0 text [] old new r → OnOk r (Makes table old new)
@@ -39,7 +41,7 @@ starts table row self a b c p q counters =
     let one = p.1 counters in
     let s = a.now.schema in
     let made : Table = record table { tree = next_tree s } in
-    let place = placed (λ t. same_name t.name table.name) 0 s.tables made (unnamed s table.name one.0.free) self in
+    let place = placed (λ t. same_name t.name table.name) 0 s.tables made (no_table s table.name one.0.free) self in
     let there : (at : ℕ) → 0 + at ≡ at = λ at. omega arith in
     let put = q.1 place.at (next_tree s) (ap (λ x. table_named x table.name) one.0.schema_is ∙ place.found ∙ ap Some (there place.at)) (ap (λ (x : Schema). slice_get x.tables place.at) one.0.schema_is ∙ place.there) one.0.empty in
     let kept : AllByRecursion (λ t. t.tree ≢ next_tree s → c.now.trees t.tree ≡ b.now.trees t.tree) (created s table).tables =

@@ -64,7 +64,7 @@ module _ (day : ℕ) (after : List ℕ) where
       let reserved : v.reserved ≡ u.reserved = int_same (sym (ap (λ r. column r 2) is) ∙ shown.reserved) in
       λ i. record { login = login i; day = (sym key ∙ sym shown.day) i; settled = settled i; reserved = reserved i }
 
-  of_day : (u : UsageRecord) → is_above day after u ≡ true → day ≡ u.day
+  pub of_day : (u : UsageRecord) → is_above day after u ≡ true → day ≡ u.day
   of_day u hit = (unsigned_Decides day u.day).0 (and_parts _ _ hit).0
 
   pub next_after : Following (λ t. IsNextShown day after t.usage) (IsFirstOfDay day) (λ t. IsNext day after t.usage)

@@ -1,6 +1,6 @@
 use Rattle.std.proofs.Common.{◌≡◌, [], refl, sym, ap, ◌∙◌, rules, inl, inr, None, Some}
-use Rattle.mq_client.proofs.Words.{noted, option_copied, result_text, times_out}
-use Rattle.mq_client.proofs.Looping.{Appends-none, Does-nothing}
+use Rattle.mq_client.proofs.Words.{noted, option_copied, result_text, times_out, Appends-nil}
+use Rattle.mq_client.proofs.Looping.{Does-nothing}
 use Rattle.mq_client.proofs.answer.answer.Goals as goal
 
 pub returns-in-Err-clause-cut : goal.returns-in-Err-clause-cut
@@ -15,7 +15,7 @@ returns-in_default-clause-cut g c =
       step,
       [],
       result_text i.session.now i.token.now c.in-Ok.decided.decision,
-      record { written = Appends-none _; exchanged = told; made = made },
+      record { written = Appends-nil _; exchanged = told; made = made },
       inr (λ L st. (c.in-Ok.decided.decision, answers L st, refl)),
     )
 
@@ -26,7 +26,7 @@ returns-in_default-note_answer-clause-cut g c =
       step,
       [],
       result_text i.session.now i.token.now c.in-Ok.decided.decision,
-      record { written = Appends-none _; exchanged = told; made = made },
+      record { written = Appends-nil _; exchanged = told; made = made },
       inr (λ L st. (c.in-Ok.decided.decision, answers L st, refl)),
     )
 

@@ -1,7 +1,8 @@
-use Rattle.std.proofs.Common.{◌≡◌, ◌&&◌, Bool, true, false, is_some, sym, ap, ◌∙◌, subst, rules, [], None, Some, Option}
+use Rattle.std.proofs.Common.{◌≡◌, ◌&&◌, Bool, true, false, is_some, sym, ap, ◌∙◌, subst, rules, [], None, Some, Option, inl, inr}
+use Rattle.mq_lemmas.proofs.Options.{option_cases}
 use Rattle.mq_client.proofs.Words.{Ask, Decision, Makes, State, Step, decision_by, decision_of, full_by, held_back, is_login, is_moment}
 use Rattle.mq_client.proofs.Making.{held_back as makes_held_back}
-use Rattle.mq_client.proofs.Telling.{Tells-none}
+use Rattle.mq_lemmas.proofs.Telling.{Tells-none}
 use Rattle.mq_client.proofs.answer.ask.Goals as goal
 
 pub returns-in-Some-clause-ok : goal.returns-in-Some-clause-ok
@@ -22,7 +23,10 @@ pub returns-in-Ok-clause-ok : goal.returns-in-Ok-clause-ok
 returns-in-Ok-clause-ok g c =
     let (group, told, answer, made, late) = c.in-Ok.ensures.ok in
     let may : (is_login c.args.login.now && is_moment c.args.moment) ≡ true = search rules in
-    let is : held_back c.args.holdup.now.1 c.args.login.now ≡ None = sym c.held_back.ensures ∙ c.in-None.is in
+    let is : held_back c.args.holdup.now.1 c.args.login.now ≡ None = elim (option_cases c.held_back.result) [
+      | inl none ↦ sym c.held_back.ensures ∙ none
+      | inr p ↦ absurd (c.in_default.not-Some p.0 p.1)
+    ] in
     let S : Bool → Option Step = λ k. Some (record { action = Ask c.args.txn c.args.moment c.args.login.now; group = group; quiet = k }) in (
       S false,
       told,

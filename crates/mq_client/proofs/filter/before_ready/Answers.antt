@@ -2,7 +2,7 @@ use Rattle.std.proofs.Common.{◌++◌, ◌∷◌, [], refl, sym, inr, None}
 use Rattle.mq_client.proofs.Words.{IsAt, IsAtWork, Stage, meaning}
 use Rattle.mq_client.specs.declared.fault.FilterFault.TheVariants as faults
 use Rattle.mq_client.proofs.Looping.{carries_early, carries_ready, at_before, Does-still, stops_within, cut_found, cut_in_hand, first_of}
-use Rattle.mq_client.proofs.Telling.{Tells-none}
+use Rattle.mq_lemmas.proofs.Telling.{Tells-none}
 use Rattle.mq_client.proofs.filter.before_ready.Goals as goal
 
 pub returns-in-Passed-clause-ok : goal.returns-in-Passed-clause-ok

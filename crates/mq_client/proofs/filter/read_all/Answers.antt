@@ -1,4 +1,5 @@
 use Rattle.std.proofs.Common.{◌≡◌, ◌≤◌, ◌∷◌, [], ◌++◌, length, take, refl, ap, arith, rules, inl, inr, None, length-append}
+use Rattle.std.proofs.lemmas.Result.{IfErr-weaker, IfOk-weaker, on_ok_weaker}
 use Rattle.mq_client.proofs.Words.{IsAtEnd, concat, length-take-le}
 use Rattle.mq_lemmas.proofs.Streams.{consumes_kept}
 use Rattle.mq_client.specs.declared.fault.FilterFault.TheVariants as faults
@@ -95,25 +96,30 @@ returns-clause-fault g c =
     )
 
 -- the input ended, and so did the run
-pub returns-in-Ok-finish-clause-ok : goal.returns-in-Ok-finish-clause-ok
-returns-in-Ok-finish-clause-ok g c =
-    let i = c.loop-read.invariant in
-    let piece = take c.in-Ok.count c.read.new.piece in
-    let none : piece ≡ [] = ap (λ n. take n c.read.new.piece) c.if-count-eq0.true in (
-      i.pieces ++ piece ∷ [],
-      supplied_more _ _ _ i.pieces piece i.supplied c.in-Ok.ensures.bytes.0 c.in-Ok.ensures.told (omega (arith, ap length none)) (omega (arith, i.reads)),
-      c.in-Ok.ensures.bytes.1 c.if-count-eq0.true (omega arith),
-      c.in-Ok-finish.ensures.ok _ (concat (i.pieces ++ piece ∷ [])) _ (so_far_none _ i.pieces piece c.loop-read.feed.rest c.loop-read.filter _ none i.so_far),
-    )
-
--- the input ended where the run can't
-pub returns-in-Err-finish-clause-fault : goal.returns-in-Err-finish-clause-fault
-returns-in-Err-finish-clause-fault g c =
+pub returns-then-count-eq0-clause-ok : goal.returns-then-count-eq0-clause-ok
+returns-then-count-eq0-clause-ok g c =
     let i = c.loop-read.invariant in
     let piece = take c.in-Ok.count c.read.new.piece in
     let none : piece ≡ [] = ap (λ n. take n c.read.new.piece) c.if-count-eq0.true in
-    let at_end : IsAtEnd (g.S.Source.remaining c.read.new.self) = c.in-Ok.ensures.bytes.1 c.if-count-eq0.true (omega arith) in (
+    IfOk-weaker c.finish.result _ _ (λ e ends. (
       i.pieces ++ piece ∷ [],
       supplied_more _ _ _ i.pieces piece i.supplied c.in-Ok.ensures.bytes.0 c.in-Ok.ensures.told (omega (arith, ap length none)) (omega (arith, i.reads)),
-      c.in-Err-finish.ensures.fault _ (i.pieces ++ piece ∷ []) _ _ _ _ at_end (so_far_none _ i.pieces piece c.loop-read.feed.rest c.loop-read.filter _ none i.so_far),
-    )
+      c.in-Ok.ensures.bytes.1 c.if-count-eq0.true (omega arith),
+      ends _ (concat (i.pieces ++ piece ∷ [])) _ (so_far_none _ i.pieces piece c.loop-read.feed.rest c.loop-read.filter _ none i.so_far),
+    )) c.finish.ensures.ok
+
+pub returns-then-count-eq0-clause-written : goal.returns-then-count-eq0-clause-written
+returns-then-count-eq0-clause-written g c = on_ok_weaker c.finish.result c.loop-read.invariant.written c.finish.ensures.ready
+
+-- the input ended where the run can't
+pub returns-then-count-eq0-clause-fault : goal.returns-then-count-eq0-clause-fault
+returns-then-count-eq0-clause-fault g c =
+    let i = c.loop-read.invariant in
+    let piece = take c.in-Ok.count c.read.new.piece in
+    let none : piece ≡ [] = ap (λ n. take n c.read.new.piece) c.if-count-eq0.true in
+    let at_end : IsAtEnd (g.S.Source.remaining c.read.new.self) = c.in-Ok.ensures.bytes.1 c.if-count-eq0.true (omega arith) in
+    IfErr-weaker c.finish.result _ _ (λ f halts. (
+      i.pieces ++ piece ∷ [],
+      supplied_more _ _ _ i.pieces piece i.supplied c.in-Ok.ensures.bytes.0 c.in-Ok.ensures.told (omega (arith, ap length none)) (omega (arith, i.reads)),
+      halts _ (i.pieces ++ piece ∷ []) _ _ _ _ at_end (so_far_none _ i.pieces piece c.loop-read.feed.rest c.loop-read.filter _ none i.so_far),
+    )) c.finish.ensures.fault

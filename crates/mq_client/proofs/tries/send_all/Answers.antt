@@ -1,6 +1,7 @@
 use Rattle.std.proofs.Common.{◌≡◌, ◌++◌, [], length, false, true, subst, sym, ap, ◌∙◌, arith, rules}
 use Rattle.mq_client.proofs.Words.{empty, AllByRecursion, IsFramed, IsSent, NoneYet, requests_of}
-use Rattle.mq_client.proofs.Telling.{Tells-none, told_both}
+use Rattle.mq_lemmas.proofs.Telling.{Tells-none}
+use Rattle.mq_client.proofs.Telling.{told_both}
 use Rattle.mq_client.proofs.Sending.{starts_with, front_is, sends_more, sends_stop, sends_all, some_in_time, late_after}
 use Rattle.mq_client.proofs.tries.send_all.Goals as goal
 

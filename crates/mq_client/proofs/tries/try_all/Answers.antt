@@ -1,6 +1,7 @@
 use Rattle.std.proofs.Common.{◌≡◌, [], ◌∷◌, length, ◌∙◌, subst, arith, None}
 use Rattle.mq_client.proofs.Words.{told_all, told_of, IsVerdict, TriesOutcome, verdict_of}
-use Rattle.mq_client.proofs.Telling.{Tells-trans, undecided, decided_by_last, no_verdict, late_more, comes_decided, comes_undecided}
+use Rattle.mq_lemmas.proofs.Telling.{Tells-trans}
+use Rattle.mq_client.proofs.Telling.{undecided, decided_by_last, no_verdict, late_more, comes_decided, comes_undecided}
 use Rattle.mq_client.proofs.tries.try_all.Goals as goal
 
 pub loop-attempt-preserved : goal.loop-attempt-preserved

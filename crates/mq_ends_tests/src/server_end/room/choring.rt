@@ -9,7 +9,7 @@ use log::sink::Discard;
 use mq_chore::{Chore, Piece};
 use mq_connections::{RoomFault, ServingEnd};
 use mq_ledger::Ledger;
-use mq_watch::{WatchedLedger, Within};
+use mq_watch::{InnerChore, WatchedLedger};
 use std::alloc::Global;
 use std::cell::Cell;
 use std::collections::VecDeque;
@@ -60,7 +60,7 @@ fn serve_with(rt: &impl Abort, alloc: Global, pieces: &[Piece]) -> Result<Came, 
     for piece in pieces {
         wanted.push_back(*piece)?;
     }
-    let mut chore = Within {
+    let mut chore = InnerChore {
         chore: Wanting {
             pieces: wanted,
             done: 0,

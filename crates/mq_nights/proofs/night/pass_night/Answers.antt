@@ -23,7 +23,7 @@ returns-clause-serves g c = λ k s.
     let m = c.serve_connections-ended.new.ledger in
     let before : Outside = record { book = book_in l.zone l.default (state g.S.Store l.connection).now; told = None; wires = unknown } in
     let after : Outside = record { book = book_in m.zone m.default (state g.S.Store m.connection).now; told = None; wires = unknown } in
-    ends_as before after Store c.serve_connections-ended.result c.outcome_of.result c.outcome_of.ensures.store.1 c.outcome_of.ensures.store.0 (c.serve_connections-ended.ensures.serves k s)
+    ends_as before after Store c.serve_connections-ended.result Store c.outcome_of.result (c.serve_connections-ended.ensures.serves k s) c.outcome_of.ensures.store.1 c.outcome_of.ensures.store.0
 
 pub returns-clause-renewed_lent : goal.returns-clause-renewed_lent
 returns-clause-renewed_lent g c = λ k s.

@@ -1,9 +1,9 @@
 use Rattle.std.proofs.Common.{◌≡◌, ℕ, ◌≤◌, List, [], ◌∷◌, ◌++◌, Bool, true, false, refl, ◌∙◌, ap, sym, subst, arith, append-nil, filter, not, ◌&&◌, nat_lt, nat_le, IsPermutation}
-use Rattle.mq_rows.proofs.Words.{AreMovesOf, AreTransactions, CanBeClosed, Entry, Id, IsLegal, TransactionRecord, closed, ended, filter_same, floor, has_reserve, is_open_in, key_of, nat_list_eq_equiv, nat_tests, neither_first, or_false, requests, retire_entry, runs_below, same_text, text_is}
+use Rattle.mq_rows.proofs.Words.{AreMovesOf, AreTransactions, CanBeClosed, Entry, Id, IsLegal, TransactionRecord, all_of, closed, ended, filter_same, floor, has_reserve, is_open_in, key_of, nat_list_eq_equiv, nat_tests, neither_first, or_false, requests, retire_entry, runs_below, same_text, text_is}
 use Rattle.mq_rows.proofs.Clearing.{below_is_to}
 use Rattle.mq_rows.proofs.Closing.{is_to_close, begun, all_closed, all_used}
 use Rattle.mq_rows.proofs.Leading.{AreLeft, led, next_fits, none_to_close, all_lead_on}
-use Rattle.mq_rows.proofs.RowSums.{IsRowOf, all_of, Laws, each_row}
+use Rattle.mq_rows.proofs.RowSums.{IsRowOf, Laws, each_row}
 use Rattle.mq_rows.proofs.Trans.{Ledger}
 use Rattle.mq_rows.proofs.laws.retired_runs_follow.Goals as goal
 

@@ -1,6 +1,6 @@
 use Rattle.std.proofs.Common.{ℕ, ◌<◌, ◌^◌, ◌∙◌, ap, arith, Some, None, inl, inr, Option}
 use Rattle.mq_rows.proofs.Words.{FoundRows, Granted, Id, IsId, IsRequest, Release, Released, Reply, Request, Reserve, Retire, RetiredRecord, Settle, Settled, TransactionRecord, day_of, either, floor_by, given_up_by, id_range, moved, moved_or_made, moves, raised_to, retired_write, transaction_write, written}
-use Rattle.mq_rows.specs.Storable.{IsStorable, AreStorableIf, AreStorable, IsStorableFloor, AreStorableRuns, IsStorableRun}
+use Rattle.mq_rows.specs.Storable.{IsStorable, IsStorableIf, IsStorableWrite, IsStorableFloor, AreStorableRuns, IsStorableFloorWrite}
 use Rattle.mq_rows.proofs.write.decide.Goals as goal
 
 moved_has : (count : ℕ) (a : Reply) (t : TransactionRecord) → IsStorable t → IsStorable (moved count a t)
@@ -9,14 +9,14 @@ moved_has count (Settled id n) t h = h
 moved_has count (Released id held) t h = h
 moved_has count a t h = h
 
-moved_or_made_has : (count : ℕ) (a : Reply) (new : TransactionRecord) (o : Option TransactionRecord) → IsStorable new → AreStorableIf o → AreStorable (moved_or_made count a new o)
+moved_or_made_has : (count : ℕ) (a : Reply) (new : TransactionRecord) (o : Option TransactionRecord) → IsStorable new → IsStorableIf o → IsStorableWrite (moved_or_made count a new o)
 moved_or_made_has count a new None made has = moved_has count a new made
 moved_or_made_has count a new (Some t) made has = elim (either (moves a)) [
   | inl yes_moves ↦ rw yes_moves (moved_has count a t has)
   | inr stays ↦ rw stays tt
 ]
 
-write_has : (day : ℕ → ℕ) (r : Request) (a : Reply) (o : Option TransactionRecord) → IsRequest r → AreStorableIf o → AreStorable (transaction_write day r a o)
+write_has : (day : ℕ → ℕ) (r : Request) (a : Reply) (o : Option TransactionRecord) → IsRequest r → IsStorableIf o → IsStorableWrite (transaction_write day r a o)
 write_has day (Reserve id txn moment login count) a o h has = moved_or_made_has count a _ o (omega (arith, h.0.run.to), omega (arith, h.2.to)) has
 write_has day (Settle id txn moment login count) a o h has = moved_or_made_has count a _ o (omega (arith, h.0.run.to), omega (arith, h.2.to)) has
 write_has day (Release id txn moment login) a o h has = moved_or_made_has 0 a _ o (omega (arith, h.0.run.to), omega (arith, h.2.to)) has
@@ -30,11 +30,11 @@ runs_have : (r : Request) (f : FoundRows) → IsRequest r → IsStorableFloor f.
 runs_have (Retire id) f h has = (floor_has f.floor has, omega (arith, h.run.to))
 runs_have r f h has = tt
 
-raised_has : (id : Id) (o : Option RetiredRecord) → IsId id → IsStorableRun (raised_to id o)
+raised_has : (id : Id) (o : Option RetiredRecord) → IsId id → IsStorableFloorWrite (raised_to id o)
 raised_has id None h = omega (arith, h.run.to)
 raised_has id (Some r) h = omega (arith, h.run.to)
 
-run_has : (r : Request) (o : Option RetiredRecord) → IsRequest r → IsStorableRun (retired_write r o)
+run_has : (r : Request) (o : Option RetiredRecord) → IsRequest r → IsStorableFloorWrite (retired_write r o)
 run_has (Retire id) o h = raised_has id o h
 run_has r o h = tt
 

@@ -1,8 +1,9 @@
 use Rattle.std.proofs.Common.{List, None, ap, false, find, is_some, subst, sym, true, ◌≡◌}
 use Rattle.mq_store.proofs.Words.{AnswerRecord, answer_rows, day_of, is_below, or_first, requests, same_id, stored}
 use Rattle.mq_store.proofs.KnownNumbers.{known_as_stored}
-use Rattle.mq_store.proofs.KeyedRows.{found_of, none_found}
+use Rattle.mq_store.proofs.KeyedRows.{found_of}
 use Rattle.mq_store.proofs.laws.numbers_are_known.Goals as goal
+use Rattle.mq_rows.proofs.Leading.{none_found}
 
 pub returns-clause-old : goal.returns-clause-old
 returns-clause-old c = λ zone default H r id h below. (or_first (is_below (requests H) id) (is_some (stored H id)) below, sym (c.floors_are_found.ensures.old (day_of zone) default H r id h below))

@@ -1,8 +1,8 @@
 use Rattle.std.proofs.Common.{Bool, List, None, Option, Some, [], ap, arith, find, inl, inr, length, length-append, map, refl, subst, sym, true, ℕ, ◌++◌, ◌∙◌, ◌∷◌, ◌≡◌, ◌≤◌, ◌⊎◌}
 use Rattle.mq_store.proofs.Words.{AllByRecursion, IsNext, IsOneOf, UsageRecord, UsageRow, all_has, behind, day_of, is_usage, map-append, row}
 use Rattle.mq_store.proofs.InRange.{row_found}
-use Rattle.mq_store.proofs.KeyedRows.{none_found}
 use Rattle.mq_store.proofs.laws.reads_are_answered.Goals as goal
+use Rattle.mq_rows.proofs.Leading.{none_found}
 
 -- a row that is there once is the one that is found
 the_one : (test : UsageRecord → Bool) (rows : List UsageRecord) (u : Option UsageRecord) → AllByRecursion (λ (x : UsageRecord). test x ≡ true → Some x ≡ find test rows) rows → IsOneOf test rows u → u ≡ find test rows

@@ -1,5 +1,5 @@
 use Rattle.std.proofs.Common.{IsTrue, ◌+◌, ◌≤◌}
-use Rattle.mq_store.proofs.Words.{HasCleanDisk, LeavesCommit, over_memory, state}
+use Rattle.mq_store.proofs.Words.{HasCleanDisk, CommitsNothing, over_memory, state}
 use Rattle.mq_store.specs.Renewing.{Renews}
 use Rattle.mq_store.specs.Taking.{Stays}
 use Rattle.mq_store.proofs.slice.steps.Given as goal
@@ -13,9 +13,9 @@ invariant-loop-step g l =
     let before = state over_memory l.fn.scratch.conn.now in
     let after = state over_memory l.scratch.conn.now in
     record {
-      from_leaves : LeavesCommit g.S.Store l.fn.from l.from;
-      into_leaves : LeavesCommit g.T.Store l.fn.into l.into;
-      scratch_leaves : LeavesCommit over_memory l.fn.scratch l.scratch;
+      from_leaves : CommitsNothing g.S.Store l.fn.from l.from;
+      into_leaves : CommitsNothing g.T.Store l.fn.into l.into;
+      scratch_leaves : CommitsNothing over_memory l.fn.scratch l.scratch;
       stays : HasCleanDisk now → Stays old now;
       into_inside : HasCleanDisk now_into → IsTrue now_into.in_transaction;
       inside : IsTrue after.in_transaction;

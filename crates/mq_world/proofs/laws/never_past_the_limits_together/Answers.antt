@@ -1,6 +1,6 @@
 -- Every state of the world, step by step, and what follows in each.
 use Rattle.mq_world.proofs.Words.{Action, AllByRecursion, Answered, AreDistinct, AreUnderway, Book, Bool, Drain, Entry, Exchange, Faulted, HeldTransaction, In, IsDecision, IsLegalBook, IsPlayed, IsReply, List, Meaning, Never, None, NoneReturns, Option, ExchangeOutcome, Request, Reserve, Some, Source, SpellsRequest}
-use Rattle.mq_world.proofs.Words.{Standing, Step, Transaction, Zone, [], action_of, actions, actions_of, all_at, ap, arith, begin_count, clash, day_of, decides, either, false, fault, frame, history_of, id_of, inl, inr, ledger_id, none_some, option_map, push, refl, reply, reply_body, request_body}
+use Rattle.mq_world.proofs.Words.{TransactionState, Step, Transaction, Zone, [], action_of, actions, actions_of, all_at, ap, arith, begin_count, clash, day_of, decides, either, false, fault, frame, history_of, id_of, inl, inr, ledger_id, none_some, option_map, push, refl, reply, reply_body, request_body}
 use Rattle.mq_world.proofs.Words.{request_frame, requests, slice_get, standing_in, subst, sum_by, sum_by-le-sum_by, sym, true, view, weaker, with_arrival, ℕ, ◌++◌, ◌∙◌, ◌∷◌, ◌≡◌, ◌≤◌}
 use Rattle.mq_world.specs.World.{Site, Run, World, fresh, IsOfOthers, IsFrameOfOthers, IsReplyToOthers, IsStart, IsUp, ReadsOn, begun, after_line, after_end, next_request, with_on_way, with_exchange, after_exchange, after_stop, MayCome, same_source, with_run, with_sent, after_arrival, Next, Reads, ReadsEnd, Sends, Ends, Takes, OthersSend, Stops}
 use Rattle.mq_world.specs.Forgetting.{forgotten}
@@ -309,7 +309,7 @@ reached_sound K R site F start c z (Forgets v D r below) =
 -- ---- from what holds in every state to the law
 
 -- a fresh run let nothing through
-idle : (f : Standing → ℕ) (r : Run) (t n : ℕ) → r ≡ fresh → f Never ≡ 0 → f (standing_in r.past t) ≤ n
+idle : (f : TransactionState → ℕ) (r : Run) (t n : ℕ) → r ≡ fresh → f Never ≡ 0 → f (standing_in r.past t) ≤ n
 idle f r t n e none = let F : Run → Type 0 = λ x. f (standing_in x.past t) ≤ n in subst F (sym e) (omega (arith, none))
 
 -- what holds of the ledgers of all servers
@@ -331,7 +331,7 @@ sound_each {F = F} K site w bs h t = elim (either (site.is_run (run_of t))) [
       let now : F ≤ day (at_of st) → let_by st ≤ sum_by (kept_of t) (w.ledger ∷ bs) = λ on. standing_each s (w.ledger ∷ bs) K.ledgers suits t.txn st
       (was_granted day F K.ledgers.itself s (site.tries s) H P own.steps.underway own.ground t.txn on)
       (entry_suits K.clients K.ledgers s (site.tries s) P H w.sent w.written own t.txn) in
-      let S : Standing → Type 0 = λ x. (k : HeldTransaction) → counting x ≡ Some k → F ≤ day k.moment → let_by x ≤ sum_by (kept_of t) (w.ledger ∷ bs) in
+      let S : TransactionState → Type 0 = λ x. (k : HeldTransaction) → counting x ≡ Some k → F ≤ day k.moment → let_by x ≤ sum_by (kept_of t) (w.ledger ∷ bs) in
       subst S (K.clients.standing s r.past t.txn) (λ k is on. counts_at ((view s r.past).standing t.txn) st _ k (counts_so_far s (site.tries s) r.on_way r.past own.steps.underway own.steps.returns t.txn) is
       (λ same. now (subst (λ m. F ≤ day m) (sym same) on))))
 ]
@@ -355,7 +355,7 @@ sound_on {F = F} K site w bs h l d from t = elim (either (site.is_run (run_of t)
       let a = now (subst (λ x. F ≤ x) (sym (on_at day l d st here)) from) in
       let b = on_all K.ledgers w.ledger.zone (w.ledger ∷ bs) (refl, h.zones) l d s t.txn st each here in
       omega (arith, a, b))) in
-      let S : Standing → Type 0 = λ x. let_on day l d x ≤ sum_by (kept_on l d t) (w.ledger ∷ bs) in
+      let S : TransactionState → Type 0 = λ x. let_on day l d x ≤ sum_by (kept_on l d t) (w.ledger ∷ bs) in
       subst S (K.clients.standing s r.past t.txn) (let_from day l d ((view s r.past).standing t.txn) st _ (counts_so_far s (site.tries s) r.on_way r.past own.steps.underway own.steps.returns t.txn) on))
 ]
 

@@ -3,7 +3,8 @@ use Rattle.mq_world.proofs.Words.{All-from_recursion, AllByRecursion, Answered, 
 use Rattle.mq_world.proofs.Words.{IsRequest, IsRun, IsStamp, IsTry, IsZone, List, MakesAll, Meaning, None, NoneYet, Outside, Reply, ReportLine, Request, Retire, SendsAll, SendsUpTo, Settle, Some, Source, SpellsReply, State, Step, TimedOut, Transaction, [], all_of, ap, arith, cap}
 use Rattle.mq_world.proofs.Words.{clash, clock, codes, count_by, day_of, decides, drained, either, either_of, exchanges_in, false, fault, floor, frame, held, id_of, if◌then◌else◌, inl, inr, ledger_reply, length, list_any, nat_le, nat_lt, nat_tests, ne_eqb, nothing_held, number_is}
 use Rattle.mq_world.proofs.Words.{number_itself, pos, refl, reply_body, request_body, request_frame, requests, reserve_of, same_text, settled_in, slice_get, some_is, subst, sym, told_steps, true, ℕ, ℤ, ◌*◌, ◌++◌, ◌+◌, ◌<ℤ◌, ◌<◌, ◌==◌, ◌||◌, ◌∙◌, ◌∷◌, ◌≡◌, ◌≢◌, ◌≤ℤ◌, ◌≤◌}
-use Rattle.mq_world.proofs.Takes.{entry}
+use Rattle.mq_ledger.proofs.Basics.{none_passes}
+use Rattle.mq_ledger.proofs.Transactions.{entry}
 use Rattle.mq_world.proofs.Ranges.{within}
 use Rattle.std.proofs.lemmas.Int.{ints}
 use Rattle.mq_line.specs.Results.{registration, result_text}
@@ -17,12 +18,10 @@ use Rattle.mq_track.specs.declared.closing.CloseEnd.TheVariants as ending
 use Rattle.mq_world.specs.World.{Site, World, fresh, MayCome, next_request, IsStart, after_line, after_end, with_on_way, after_exchange, after_stop, same_source, with_run, with_sent, after_arrival, reply_from, Next, Reads, ReadsEnd, Sends, Ends, Takes, OthersSend, Stops, Reaches, AtOnce, Later, IsOfOthers, IsFrameOfOthers, source_of}
 use Rattle.mq_world.specs.Happening.{unused, times_written, IsReachable, failed, brought, HasLetOneThrough, WasAnsweredAgain, WasTakenTwice, CameLate, HasStopped, HasRunToItsEnd, WasRetired, WasHeldBack, WentOnThoughForgotten, PassedOnAForgottenDay, IsReachableTogether, WasGrantedByEach, WasSplit, PassedEachLimit}
 use Rattle.mq_world.specs.Law.{let_together}
-use Rattle.mq_world.specs.Running.{ran, OthersGoOn, NobodyYet, OneStep, GoesOnAround, Before, During, IsNew}
+use Rattle.mq_world.specs.Running.{ran, step_of, OthersGoOn, NobodyYet, OneStep, GoesOnAround, Before, During, IsNew}
 use Rattle.mq_world.specs.Forgetting.{forgotten, ReachesForgetting, FromStart, Forgets}
 use Rattle.mq_world.specs.Together.{Together, with_ledger, IsStartTogether, ReachesTogether}
 use Rattle.mq_world.specs.Together as servers
-use Rattle.mq_world.proofs.Runs.{step}
-use Rattle.mq_world.proofs.Basics.{not_any}
 use Rattle.mq_world.proofs.Ways.{joined, with_steps, with_steps_together}
 use Rattle.mq_world.proofs.Worlds.{source_is}
 use Rattle.mq_world.proofs.laws.what_may_happen.Goals as goal
@@ -336,7 +335,7 @@ decides_it q a range decide = record { request_is = refl; decision = (record { b
 
 -- the step of the recipient came to its end: its first exchange failed, and the second one decided
 abbrev pub asked_steps : List Step
-asked_steps = step (Ask 1 noon (codes "u")) false (answered ∷ lost ∷ []) ∷ []
+asked_steps = step_of (Ask 1 noon (codes "u")) false (answered ∷ lost ∷ []) ∷ []
 
 asked_once : IsPlayed here 3 asked_steps
 asked_once =
@@ -351,7 +350,7 @@ to_given_up one_request b le =
     exchanging (settle 2 1) (Old (id_of here 2)) read refl refl refl (settle_range 2 1 (within refl) (within refl)) refl (id_range 2 (within refl)) refl
 
 -- a quiet step sends nothing, and its closing waits
-closed_quietly : IsPlayed here 3 (step (Close 1 ending.Commit) true [] ∷ asked_steps)
+closed_quietly : IsPlayed here 3 (step_of (Close 1 ending.Commit) true [] ∷ asked_steps)
 closed_quietly = ((settle 2 1 ∷ [], SendsUpTo (settle 2 1) [] [] [] NoneYet (tt, refl)), asked_once)
 
 to_at_end : (b : Book) → 1 ≤ b.default → Reaches site (start b) (at_end b)
@@ -370,7 +369,7 @@ to_granted_at moment b is le turn =
     let read = reading here false (recipient_line (codes "v") moment) begin refl refl refl refl refl asked_once in
     exchanging (second_request 2 moment) (granting 2) read refl refl turn (reserve_range 2 2 moment (within refl) (within refl) is) (grants 2 2 moment b le) (granting_range 2 (within refl)) refl
 
-asked_twice : IsPlayed here 3 (step (Ask 1 noon (codes "u")) false (decided (second_request 1 noon) (granting 2) ∷ []) ∷ asked_steps)
+asked_twice : IsPlayed here 3 (step_of (Ask 1 noon (codes "u")) false (decided (second_request 1 noon) (granting 2) ∷ []) ∷ asked_steps)
 asked_twice = ((Some (granting 2), (decides_it (second_request 1 noon) (granting 2) (granting_range 2 (within refl)) refl, tt, omega arith)), asked_once)
 
 to_split : (a b : Book) → 1 ≤ b.default → Reaches site (with_ledger (unused b) (granted a)) (split a b)
@@ -486,10 +485,10 @@ abbrev pub later_client : State
 later_client = record { source = here; tries = 3; spans = record { pause = 0; hold = 0 }; held = (1, let_one) ∷ []; numbers = 1; waiting = [] }
 
 abbrev pub asking : Step
-asking = step (Ask 1 noon (codes "u")) false (answered ∷ [])
+asking = step_of (Ask 1 noon (codes "u")) false (answered ∷ [])
 
 abbrev pub ending_all : Step
-ending_all = step Drain false []
+ending_all = step_of Drain false []
 
 -- what the later client has of a transaction
 found_at : (txn : ℕ) → find later_client.held txn ≡ (if 1 == txn then Some let_one else None)
@@ -520,7 +519,7 @@ texts = codes "config|ready" ∷ login_text ∷ begin_text ∷ recipient_text �
 
 is_line : (bytes : List ℕ) → list_any (λ b. b == 10) bytes ≡ false → length bytes ≤ 65536 → IsLine bytes
 is_line bytes none short = record {
-  one = All-from_recursion (λ b. b ≢ 10) bytes (all_of (λ b. b ≢ 10) bytes (λ b i is. clash (b == 10) (ap (λ x. x == 10) is) (not_any (λ x. x == 10) bytes none b i)));
+  one = All-from_recursion (λ b. b ≢ 10) bytes (all_of (λ b. b ≢ 10) bytes (λ b i is. clash (b == 10) (ap (λ x. x == 10) is) (none_passes (λ x. x == 10) bytes b none i)));
   short = short;
 }
 

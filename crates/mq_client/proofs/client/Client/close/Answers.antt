@@ -1,6 +1,6 @@
 use Rattle.std.proofs.Common.{◌≡◌, ℕ, ◌+◌, List, [], ◌∷◌, ◌++◌, refl, ap, ◌∙◌, subst, rules, arith, None, Some}
 use Rattle.mq_client.proofs.Words.{Close, FramedRequest, Makes, Request, Sends, State, closing_of, find, map-append, requests_of, state_of}
-use Rattle.mq_client.proofs.Telling.{Tells-none}
+use Rattle.mq_lemmas.proofs.Telling.{Tells-none}
 use Rattle.mq_client.proofs.Making.{closed, closed_nothing}
 use Rattle.mq_client.proofs.Keeping.{closed_in_range}
 use Rattle.mq_client.proofs.client.Client.close.Goals as goal

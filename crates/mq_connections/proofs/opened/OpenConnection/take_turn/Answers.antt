@@ -1,8 +1,9 @@
 use Rattle.std.proofs.Common.{◌≡◌, [], ◌∙◌, Err, refl, sym, ap}
 use Rattle.std.proofs.KnownBytes.{Appends-nil, Consumes-nil}
+use Rattle.mq_lemmas.proofs.Options.{some_is}
 use Rattle.mq_server.specs.declared.connection.Progress.TheVariants.{Answered, Ended}
 use Rattle.mq_server.specs.declared.fault.ServeFault.TheVariants.{Store}
-use Rattle.mq_connections.proofs.Turning.{answered_works, calls_as, calls_either, carries_in, carries_none, carries_out, ended_back, ended_some, ended_to, extends_none, no_calls, none_few, shuts_before, shuts_none, still_in, still_out, turned, waits_works}
+use Rattle.mq_connections.proofs.Turning.{answered_works, calls_as, calls_either, carries_in, carries_none, carries_out, ended_back, ended_to, extends_none, no_calls, none_few, shuts_before, shuts_none, still_in, still_out, turned, waits_works}
 use Rattle.mq_connections.proofs.opened.OpenConnection.take_turn.Goals as goal
 
 -- replies waited, and some were written
@@ -73,4 +74,4 @@ pub returns-in-Ended-clause-store : goal.returns-in-Ended-clause-store
 returns-in-Ended-clause-store g c = λ failed. c.answer.ensures.ended (Err Store) (c.in-Ended.is ∙ ap Ended (c.end_turn.ensures.other failed))
 
 pub returns-in-Ended-clause-works : goal.returns-in-Ended-clause-works
-returns-in-Ended-clause-works g c = λ was other is. other (c.end_turn.ensures.store (ended_some c.in-Ended.end (Err Store) (sym (c.answer.ensures.ended c.in-Ended.end c.in-Ended.is) ∙ is)))
+returns-in-Ended-clause-works g c = λ was other is. other (c.end_turn.ensures.store (some_is c.in-Ended.end (Err Store) (sym (c.answer.ensures.ended c.in-Ended.end c.in-Ended.is) ∙ is)))

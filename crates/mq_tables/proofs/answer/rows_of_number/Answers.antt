@@ -1,7 +1,7 @@
 use Rattle.mq_tables.specs.Lent.{id_key}
 use Rattle.mq_tables.proofs.Selected.{is_read}
 use Rattle.mq_tables.proofs.answers.Reads.{answer_select, answer_found}
-use Rattle.mq_tables.proofs.answer.answer_rows.Goals as goal
+use Rattle.mq_tables.proofs.answer.rows_of_number.Goals as goal
 
 pub returns : goal.returns
 returns g c =

@@ -8,14 +8,14 @@ use std::rt::Clock;
 /// A chore of the ledger that a watched one stands around: it asks that one, so no line is logged
 /// of its questions.
 #[derive(Drop)]
-pub struct Within<K> {
+pub struct InnerChore<K> {
     pub chore: K,
 }
 
-impl<L: Ledger, C: Clock, G: Log, K: Chore<L>> Chore<WatchedLedger<'_, L, C, G>> for Within<K> {
-    ghost fits = { λ within book. K.fits within.chore book };
+impl<L: Ledger, C: Clock, G: Log, K: Chore<L>> Chore<WatchedLedger<'_, L, C, G>> for InnerChore<K> {
+    ghost fits = { λ inner book. K.fits inner.chore book };
 
-    ghost is_done = { λ within book. K.is_done within.chore book };
+    ghost is_done = { λ inner book. K.is_done inner.chore book };
 
     fn go_on(&mut self, ledger: &mut WatchedLedger<'_, L, C, G>) -> Piece {
         self.chore.go_on(&mut ledger.watch.ledger)

@@ -1,6 +1,6 @@
 use Rattle.std.proofs.Common.{sym, ◌∙◌, subst}
 use Rattle.mq_client.proofs.Words.{IsVerdict}
-use Rattle.mq_client.proofs.client.ask.Goals as goal
+use Rattle.mq_client.proofs.client.send_reserve.Goals as goal
 
 pub returns : goal.returns
 returns g c =
