@@ -1,7 +1,8 @@
 -- What is known of names as their map changes, by the bytes of its keys.
+use Rattle.mq_lemmas.proofs.Keys.{key_cmp, apart, others}
 use Rattle.std.proofs.Common.{◌≡◌, ◌≢◌, ℕ, ◌+◌, List, [], length, Bool, true, false, refl, sym, ap, ◌∙◌, Option, None, Some, inl, inr, ◌⊎◌, ◌<◌, ◌≤◌, arith}
 use Rattle.std.specs.Prelude.{Result, Ok, Err, IfOk, OnOk, OnErr, is_some, if◌then◌else◌}
-use Rattle.std.proofs.lemmas.Bool.{cases_lt}
+use Rattle.std.proofs.lemmas.Bool.{cases_lt, false_from_ne_true}
 use Rattle.std.specs.declared.alloc.Global.{Global}
 use Rattle.std.specs.declared.vec.Vec.{Vec}
 use Rattle.std.specs.declared.cmp.Ordering.{Ordering}
@@ -18,25 +19,10 @@ use Rattle.mq_watch.specs.Known.{known}
 abbrev pub Names : Type 0 → Type 0
 Names T = BTreeMap (Vec ℕ Global) T
 
--- how a login's bytes compare to a key
-abbrev pub key_cmp : List ℕ → Vec ℕ Global → Ordering
-key_cmp l k = slice_cmp nat_cmp l k.items
-
-apart : (l q k : List ℕ) → bytes_eq l q ≡ false → is_eq (slice_cmp nat_cmp l k) ≡ true → is_eq (slice_cmp nat_cmp q k) ≡ false
-apart l q k n y = is_eq-slice_cmp q k ∙ (nat_list_eq_equiv.symm q k ∙ (sym (nat_list_eq_equiv.congr l k q (sym (is_eq-slice_cmp l k) ∙ y)) ∙ n))
-
-others : {K X : Type 0} (eq : K → K → Bool) (test : K → Bool) (old new : List (K × X)) → KeepsOthers eq test old new → (other : K → Bool) → IsKeyTest eq other → AreApart test other → lookup other new ≡ lookup other old
-unfolding KeepsOthers
-others eq test old new h = h
-
-not_true : (b : Bool) → (b ≡ true → ⊥) → b ≡ false
-not_true true not = absurd (not refl)
-not_true false not = refl
-
 -- what is known of another login stays
 pub known_beside : {T : Type 0} (m n : Names T) (l : List ℕ) (w : Option T) → UpdatesBy (λ x y. slice_cmp nat_cmp x.items y.items) (key_cmp l) m n w → (q : List ℕ) → q ≢ l → known n q ≡ known m q
 known_beside m n l w h q not =
-    let no : bytes_eq l q ≡ false = not_true (bytes_eq l q) (λ y. not (sym ((bytes_decides l q).0 y))) in
+    let no : bytes_eq l q ≡ false = false_from_ne_true (bytes_eq l q) (λ y. not (sym ((bytes_decides l q).0 y))) in
     others _ _ m.entries n.entries h.3 (is_at (key_cmp q)) (λ a b. (eq_by_cmp_equiv nat_list_cmp_total).congr q a.items b.items) (λ k. apart l q k.items no)
 
 -- and of this one what was kept
@@ -57,11 +43,11 @@ stays (Ok a) m n k w updates same q not = known_beside m n k w updates q not
 stays (Err e) m n k w updates same q not = known_same m n same q
 
 -- what is known of others after room was made for a login, and it was kept or not
-pub beside_kept : {T A E : Type 0} (r : Result A E) (was m n : Names T) (k : List ℕ) (w : Option T)
-    → (btree_map_len was < 100000 → m ≡ was) → (100000 ≤ btree_map_len was → (q : List ℕ) → known m q ≡ None)
+pub beside_kept : {T A E : Type 0} (r : Result A E) (was m n : Names T) (k : List ℕ) (w : Option T) (full : ℕ)
+    → (btree_map_len was < full → m ≡ was) → (full ≤ btree_map_len was → (q : List ℕ) → known m q ≡ None)
     → OnOk r (UpdatesBy (λ x y. slice_cmp nat_cmp x.items y.items) (key_cmp k) m n w) → OnErr r (n.entries ≡ m.entries)
-    → (q : List ℕ) → q ≢ k → (known n q ≡ known was q) ⊎ ((100000 ≤ btree_map_len was) × (known n q ≡ None))
-beside_kept {T = T} r was m n k w room again updates same q not = elim (cases_lt (btree_map_len was) 100000) [
+    → (q : List ℕ) → q ≢ k → (known n q ≡ known was q) ⊎ ((full ≤ btree_map_len was) × (known n q ≡ None))
+beside_kept {T = T} r was m n k w full room again updates same q not = elim (cases_lt (btree_map_len was) full) [
   | inl few ↦ inl (stays r m n k w updates same q not ∙ ap (λ (x : Names T). known x q) (room few))
   | inr many ↦ inr (many, stays r m n k w updates same q not ∙ again many q)
 ]

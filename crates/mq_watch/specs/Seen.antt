@@ -18,7 +18,7 @@ use Rattle.mq_ledger.specs.Limits.{cap}
 use Rattle.mq_watch.specs.Asked.{IsAnswered}
 use Rattle.mq_watch.specs.Hours.{IsOff, IsOver, nearest_moment, seconds_at}
 use Rattle.mq_watch.specs.Known.{IsKnownAt, known}
-use Rattle.mq_watch.specs.Nearing.{IsLeft, IsNear, IsOpen, four_fifths, standing}
+use Rattle.mq_watch.specs.Nearing.{IsLeft, IsNear, IsOpen, four_fifths}
 use Rattle.mq_watch.specs.Notices.{nothing, verdict}
 use Rattle.mq_watch.specs.Storms.{Asks, Counts}
 use Rattle.mq_watch.specs.declared.askers.Asker.{Asker}
@@ -126,11 +126,11 @@ IsNearLimit login day usage _ = ⊥
 
 -- A ledger said what a login has used on a day: that is told where it nears its limit and there is memory to note so.
 pub record SeesUse (usage : Usage) (login : List ℕ) (day : ℕ) (old new : Nearing) (seen : Option Notice) : Type 0 where
-  pub told : IsSome seen → IsNear usage.used usage.cap × (standing new.logins login ≡ Some (record { day = day; near = None }))
-  pub lost : IsNear usage.used usage.cap → IsNone seen → IsLeft old.logins new.logins login
+  pub told : IsSome seen → IsNear usage.used usage.cap × (known new.logins login ≡ Some (record { day = day; near = None }))
+  pub lost : IsNear usage.used usage.cap → IsNone seen → IsLeft old.logins new.logins login login
   pub far : (IsNear usage.used usage.cap → ⊥) → (seen ≡ None)
-      × (IsLeft old.logins new.logins login ⊎ (standing new.logins login ≡ Some (record { day = day; near = Some (four_fifths usage.cap) })))
-  pub others : (l : List ℕ) → l ≢ login → IsLeft old.logins new.logins l
+      × (IsLeft old.logins new.logins login login ⊎ (known new.logins login ≡ Some (record { day = day; near = Some (four_fifths usage.cap) })))
+  pub others : (l : List ℕ) → l ≢ login → IsLeft old.logins new.logins login l
   pub says : IfSome seen (IsNearLimit login day usage)
 
 abbrev pub SeesSaid : Result (Option Usage) LedgerFault → List ℕ → ℕ → Nearing → Nearing → Option Notice → Type 0
@@ -140,8 +140,8 @@ SeesSaid (Err fault) login day old new seen = (seen ≡ Some FailedQuestion) × 
 
 -- A login was granted so much on a day: the ledger is asked exactly where the login may near its limit.
 pub record SeesGranted (login : List ℕ) (day used : ℕ) (asked asked' : Option (List ReportedCall)) (old new : Nearing) (seen : Option Notice) : Type 0 where
-  pub closed : (IsOpen (standing old.logins login) day used → ⊥) → (seen ≡ None) × (new ≡ old) × (asked' ≡ asked)
-  pub open_ : IsOpen (standing old.logins login) day used → (said : Result (Option Usage) LedgerFault)
+  pub closed : (IsOpen (known old.logins login) day used → ⊥) → (seen ≡ None) × (new ≡ old) × (asked' ≡ asked)
+  pub open_ : IsOpen (known old.logins login) day used → (said : Result (Option Usage) LedgerFault)
       × IsAnswered login day asked asked' said × SeesSaid said login day old new seen
 
 -- what is told of a login's use is what a history has
@@ -164,8 +164,8 @@ SeesAgain login day asked asked' was lowered question =
 -- question says whether the limit changed it.
 pub record SeesSet (before : Option ℕ) (cap : ℕ) (login : List ℕ) (day : ℕ) (asked asked' : Option (List ReportedCall)) (old new : Nearing)
     (lowered : Option ℕ) (question : Option Notice) : Type 0 where
-  pub gone : standing new.logins login ≡ None
-  pub others : (l : List ℕ) → l ≢ login → standing new.logins l ≡ standing old.logins l
+  pub gone : known new.logins login ≡ None
+  pub others : (l : List ℕ) → l ≢ login → known new.logins l ≡ known old.logins l
   pub above : ((was : ℕ) → before ≡ Some was → cap < was → ⊥) → (lowered ≡ None) × (question ≡ None) × (asked' ≡ asked)
   pub below : (was : ℕ) → before ≡ Some was → cap < was → SeesAgain login day asked asked' was lowered question
 

@@ -3,7 +3,8 @@ ghost use Rattle.std.specs.Prelude.{◌≡◌, ◌≢◌, ◌↔◌, ◌<◌, �
 ghost use Rattle.std.specs.Prelude.{false};
 ghost use Rattle.std.specs.BTreeMap.{btree_map_len};
 ghost use Rattle.mq_request.specs.Range.{IsAmount};
-ghost use Rattle.mq_watch.specs.Nearing.{IsLeft, IsNear, IsOpen, four_fifths, standing};
+ghost use Rattle.mq_watch.specs.Known.{known};
+ghost use Rattle.mq_watch.specs.Nearing.{IsLeft, IsNear, IsOpen, four_fifths, full_at};
 
 use mq_request::Login;
 use std::alloc::Global;
@@ -21,15 +22,15 @@ pub struct Usage {
     pub cap: u32,
 }
 
-/// How a login stood when its ledger was asked.
+/// What was noted of a login when its ledger was asked last.
 #[derive(Clone, Copy, Drop)]
-pub struct Stand {
+pub struct LoginNote {
     day: u32,
     /// It nears its limit of that day once it has used so much. None where that was logged.
     near: Option<u32>,
 }
 
-impl Stand {
+impl LoginNote {
     /// Whether the login may near its limit on a day on which it has used so much.
     fn is_open(&self, day: u32, used: u32) -> bool
         ensures { IsTrue result ↔ IsOpen (Some self.now) day used }
@@ -59,13 +60,13 @@ fn near_at(cap: u32) -> u32
 #[derive(Drop)]
 pub struct Nearing {
     alloc: Global,
-    logins: BTreeMap<Vec<u8>, Stand>,
+    logins: BTreeMap<Vec<u8>, LoginNote>,
 }
 
 impl Nearing {
     /// Nothing is known yet.
     pub fn new(alloc: Global) -> Nearing
-        ensures { (l : List ℕ) → standing result.logins l ≡ None }
+        ensures { (l : List ℕ) → known result.logins l ≡ None }
     {
         Nearing {
             alloc,
@@ -75,10 +76,10 @@ impl Nearing {
 
     /// Whether a login may near its limit on a day on which it has used so much.
     pub fn is_open(&self, login: &Login, day: u32, used: u32) -> bool
-        ensures { IsTrue result ↔ IsOpen (standing self.now.logins login.now) day used }
+        ensures { IsTrue result ↔ IsOpen (known self.now.logins login.now) day used }
     {
         match self.logins.get(login.as_slice()) {
-            Some(stand) => stand.is_open(day, used),
+            Some(note) => note.is_open(day, used),
             None => true,
         }
     }
@@ -89,17 +90,18 @@ impl Nearing {
     pub fn is_due(&mut self, login: &Login, day: u32, usage: Usage) -> bool
         requires { IsAmount usage.cap }
         ensures due { IsTrue result → IsNear usage.used usage.cap
-            × IsOpen (standing self.old.logins login.now) day usage.used
-            × (standing self.new.logins login.now ≡ Some (record { day = day; near = None })) }
-        ensures kept { IsOpen (standing self.old.logins login.now) day usage.used
+            × IsOpen (known self.old.logins login.now) day usage.used
+            × (known self.new.logins login.now ≡ Some (record { day = day; near = None })) }
+        ensures kept { IsOpen (known self.old.logins login.now) day usage.used
             → (IsNear usage.used usage.cap → ⊥) →
-            (result ≡ false) × (IsLeft self.old.logins self.new.logins login.now
-            ⊎ (standing self.new.logins login.now ≡ Some
+            (result ≡ false) × (IsLeft self.old.logins self.new.logins login.now login.now
+            ⊎ (known self.new.logins login.now ≡ Some
             (record { day = day; near = Some (four_fifths usage.cap) }))) }
         ensures lost { IsNear usage.used usage.cap → result ≡ false
-            → IsLeft self.old.logins self.new.logins login.now }
-        ensures others { (l : List ℕ) → l ≢ login.now → IsLeft self.old.logins self.new.logins l }
-        ensures closed { (IsOpen (standing self.old.logins login.now) day usage.used → ⊥) →
+            → IsLeft self.old.logins self.new.logins login.now login.now }
+        ensures others { (l : List ℕ) → l ≢ login.now
+            → IsLeft self.old.logins self.new.logins login.now l }
+        ensures closed { (IsOpen (known self.old.logins login.now) day usage.used → ⊥) →
             (result ≡ false) × (self.new ≡ self.old) }
     {
         if !self.is_open(login, day, usage.used) {
@@ -107,11 +109,12 @@ impl Nearing {
         }
         let near = near_at(usage.cap);
         if near <= usage.used {
-            return self.keep(login, Stand { day, near: None });
+            return self.keep(login, LoginNote { day, near: None });
         }
+        // (where there is no memory, the ledger is asked again at the next recipient)
         let _ = self.keep(
             login,
-            Stand {
+            LoginNote {
                 day,
                 near: Some(near),
             },
@@ -119,37 +122,52 @@ impl Nearing {
         false
     }
 
-    /// Keeps how a login stands, where there is memory, and says whether there was.
-    fn keep(&mut self, login: &Login, stand: Stand) -> bool
-        ensures kept { IsTrue result → standing self.new.logins login.now ≡ Some stand }
-        ensures lost { result ≡ false → IsLeft self.old.logins self.new.logins login.now }
-        ensures others { (l : List ℕ) → l ≢ login.now → IsLeft self.old.logins self.new.logins l }
+    /// Keeps the note of a login, where there is memory, and says whether there was.
+    fn keep(&mut self, login: &Login, note: LoginNote) -> bool
+        ensures kept { IsTrue result → known self.new.logins login.now ≡ Some note }
+        ensures lost { result ≡ false → IsLeft self.old.logins self.new.logins login.now login.now }
+        ensures others { (l : List ℕ) → l ≢ login.now
+            → IsLeft self.old.logins self.new.logins login.now l }
         ensures few { btree_map_len self.new.logins ≤ 100000 }
     {
-        self.make_room();
+        self.make_room(login);
         match Vec::from_slice(self.alloc, login.as_slice()) {
-            Ok(key) => self.logins.insert(key, stand).is_ok(),
+            Ok(key) => self.logins.insert(key, note).is_ok(),
             Err(_) => false,
         }
     }
 
-    /// Forgets all logins where so many are known that no further one has room.
-    fn make_room(&mut self)
-        ensures room { btree_map_len self.old.logins < 100000 → self.new ≡ self.old }
-        ensures again { 100000 ≤ btree_map_len self.old.logins → (l : List ℕ)
-            → standing self.new.logins l ≡ None }
-        ensures few { btree_map_len self.new.logins < 100000 }
+    /// Whether so many logins are known that this one has no room. One that is known takes none.
+    fn is_full(&self, login: &Login) -> bool
+        ensures { IsTrue result ↔ full_at self.now.logins login.now
+            ≤ btree_map_len self.now.logins }
     {
-        if LOGINS <= self.logins.len() {
+        match self.logins.get(login.as_slice()) {
+            Some(_) => LOGINS < self.logins.len(),
+            None => LOGINS <= self.logins.len(),
+        }
+    }
+
+    /// Forgets all logins where so many are known that this one has no room.
+    fn make_room(&mut self, login: &Login)
+        ensures room { btree_map_len self.old.logins < full_at self.old.logins login.now
+            → self.new ≡ self.old }
+        ensures again { full_at self.old.logins login.now ≤ btree_map_len self.old.logins
+            → (l : List ℕ) → known self.new.logins l ≡ None }
+        ensures further { known self.new.logins login.now ≡ None
+            → btree_map_len self.new.logins < 100000 }
+        ensures few { btree_map_len self.new.logins ≤ 100000 }
+    {
+        if self.is_full(login) {
             self.logins.clear();
         }
     }
 
     /// Forgets a login, whose limit was set.
     pub fn forget(&mut self, login: &Login)
-        ensures gone { standing self.new.logins login.now ≡ None }
-        ensures others { (l : List ℕ) → l ≢ login.now → standing self.new.logins l
-            ≡ standing self.old.logins l }
+        ensures gone { known self.new.logins login.now ≡ None }
+        ensures others { (l : List ℕ) → l ≢ login.now → known self.new.logins l
+            ≡ known self.old.logins l }
     {
         self.logins.remove(login.as_slice());
     }

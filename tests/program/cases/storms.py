@@ -304,17 +304,19 @@ def many_logins(world, checks):
         others = ask_all([reserve(n, login=b"%d" % n) for n in range(1, KNOWN)])
         lines = [
             ask_all([reserve(KNOWN + n, login=login, count=count)])
-            for n, (login, count) in enumerate([(b"w", 8), (b"w", 1), (b"x", 1), (b"w", 1)])
+            for n, (login, count) in enumerate(
+                [(b"w", 8), (b"1", 7), (b"w", 1), (b"x", 1), (b"w", 1)]
+            )
         ]
         today = int(time.time()) // DAY
         near = [
-            [(WARN, "127.0.0.1", f"login w has used {used} of its limit of 10 on day {today}")]
-            for used in (8, 10)
+            [(WARN, "127.0.0.1", f"login {name} has used {used} of its limit of 10 on day {today}")]
+            for name, used in (("w", 8), ("1", 8), ("w", 10))
         ]
         checks.equal(
             f"a login that nears its limit beside {KNOWN - 1:,} others, and after one more",
             (others, lines),
-            ([], [near[0], [], [], near[1]]),
+            ([], [near[0], near[1], [], [], near[2]]),
         )
         others = ask_all(
             [reserve(2 * KNOWN + n, login=b"r%d" % n, count=11) for n in range(25_000)]
