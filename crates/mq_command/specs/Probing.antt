@@ -16,6 +16,8 @@ use Rattle.mq_command.specs.declared.ask.AskFault.{AskFault}
 use Rattle.mq_command.specs.declared.ask.AskFault.TheVariants.{Unavailable, Memory}
 use Rattle.mq_command.specs.declared.probe.HostFault.{HostFault}
 use Rattle.mq_command.specs.declared.probe.HostFault.TheVariants.{Retired, Unanswered}
+use Rattle.mq_command.specs.declared.probe.ProbeEnd.{ProbeEnd}
+use Rattle.mq_command.specs.declared.probe.ProbeEnd.TheVariants as ends
 use Rattle.mq_link.specs.declared.link.ReportedExchange.{ReportedExchange}
 
 -- What asking once leads to: a reply that answers came, or none did. Memory may be refused before the exchange, or for
@@ -69,10 +71,15 @@ taken_lines server host = answers_line server ++ codes "requests of host " ++ es
 abbrev pub settings_line : List ℕ
 settings_line = codes "settings are right\n"
 
--- What saying so prints: a line where the server answers, and nothing where it doesn't; then the status is 1.
-abbrev pub PrintsAnswer : List ℕ → Option (List ℕ) → Option (List ℕ) → Result (Unit {0}) AskFault → ℕ → Type 0
-PrintsAnswer server old new (Ok _) status = PrintsLine (answers_line server) old new status
-PrintsAnswer server old new (Err fault) status = (status ≡ 1) × Keeps old new
+-- What asking and saying so leads to: a line is printed where the server answers, and nothing where it doesn't.
+abbrev pub EndsProbe : List ℕ → ProbeEnd → Option (List ReportedExchange) → Option (List ReportedExchange) → Option (List ℕ) → Option (List ℕ) → Type 0
+EndsProbe server (ends.Answered status) told told' old new = Probes told told' (Ok tt) × PrintsLine (answers_line server) old new status
+EndsProbe server (ends.Unanswered fault) told told' old new = Probes told told' (Err fault) × Keeps old new
+
+-- 1 where it doesn't answer, or where that couldn't be printed, else 0
+abbrev pub probe_status : ProbeEnd → ℕ
+probe_status (ends.Answered status) = status
+probe_status (ends.Unanswered fault) = 1
 
 -- What a check of settings that are right leads to: their line, then whether the server takes their host's requests; where
 -- the line can't be printed the server isn't asked.

@@ -38,6 +38,6 @@ pub use note::note_of;
 pub use order::{NUMBERS, OrderFault, run_fresh, run_limit, run_retire};
 pub use output::{OutputFault, write_whole};
 pub use printed::{is_login_text, login_of_text, login_text};
-pub use probe::{HostFault, run_check, run_host_probe, run_probe};
+pub use probe::{HostFault, ProbeEnd, run_check, run_host_probe, run_probe};
 pub use report::{ReportFault, print_columns, run_report, run_top};
 pub use stop::{StopOrder, has_sent, run_stop};

@@ -3,15 +3,15 @@
 ghost use Rattle.std.specs.Prelude.{◌≡◌, IfOk, Result as AnyResult, string_bytes};
 ghost use Rattle.mq_request.specs.Range.{IsHost, IsRequest, IsRun};
 ghost use Rattle.mq_command.specs.Orders.{Prints};
-ghost use Rattle.mq_command.specs.Probing.{AsksHost, AsksOnce, Checks, PrintsAnswer, Probes};
-ghost use Rattle.mq_command.specs.Probing.{answers_line, next_run};
+ghost use Rattle.mq_command.specs.Probing.{AsksHost, AsksOnce, Checks, EndsProbe, Probes};
+ghost use Rattle.mq_command.specs.Probing.{answers_line, next_run, probe_status};
 ghost use Rattle.mq_command.specs.Probing.{host_question, host_verdict, taken_lines};
-ghost use Rattle.mq_command.specs.declared.ask.AskFault.{AskFault as AnyAskFault};
 ghost use Rattle.mq_command.specs.declared.probe.HostFault.{HostFault as AnyHostFault};
+ghost use Rattle.mq_command.specs.declared.probe.ProbeEnd.TheVariants.{Answered};
 
 use crate::ask::{AskFault, try_once};
 use crate::printed::login_text;
-use crate::telling::{say, tell, tell_line};
+use crate::telling::{say, tell_line, tell_text};
 use mq_frame::encode_request;
 use mq_link::Link;
 use mq_request::bounds::{FIRST_MOMENT, LAST_ORDINAL, LAST_RUN};
@@ -31,6 +31,27 @@ pub enum HostFault {
     Retired(u64),
     #[error("{0}")]
     Unanswered(AskFault),
+}
+
+/// What comes of asking once whether a server answers.
+#[derive(Clone, Copy, Debug, PartialEq)]
+pub enum ProbeEnd {
+    /// It answers. The exit status is 0 where that was printed, else 1.
+    Answered(u8),
+    /// It isn't known to answer. Why was said; the exit status is 1.
+    Unanswered(AskFault),
+}
+
+impl ProbeEnd {
+    /// The exit status, 0 or 1.
+    pub fn status(self) -> u8
+        ensures { result ≡ probe_status self }
+    {
+        match self {
+            ProbeEnd::Answered(status) => status,
+            ProbeEnd::Unanswered(_fault) => 1,
+        }
+    }
 }
 
 /// Sends a request once, and gives the reply that answers it.
@@ -141,22 +162,25 @@ fn taken_lines(alloc: Global, server: &str, host: &Host) -> Result<String, Alloc
 }
 
 /// Asks the server once, and prints on `output` that it answers, or says on `errors` why it
-/// doesn't. `server` is how it is named there. The result is the exit status, 0 or 1.
+/// doesn't, or why that can't be printed. `server` is how it is named there.
 pub fn run_probe<L: Link, W: Write, E: Write>(
     alloc: Global,
     link: &mut L,
     server: &str,
     output: &mut W,
     errors: &mut E,
-) -> u8
-    ensures probes { (ended : AnyResult (Unit {0}) AnyAskFault)
-        × Probes (L.told link.old) (L.told link.new) ended
-        × PrintsAnswer server.now (W.contents output.old) (W.contents output.new) ended result }
-    ensures quiet { result ≡ 0 → errors.new ≡ errors.old }
+) -> ProbeEnd
+    ensures probes { EndsProbe server.now result (L.told link.old) (L.told link.new)
+        (W.contents output.old)
+        (W.contents output.new) }
+    ensures quiet { result ≡ Answered 0 → errors.new ≡ errors.old }
 {
     match probe(alloc, link) {
-        Ok(()) => tell_line(answers_line(alloc, server), output, errors),
-        Err(fault) => say(errors, &fault),
+        Ok(()) => ProbeEnd::Answered(tell_line(answers_line(alloc, server), output, errors)),
+        Err(fault) => {
+            let _status = say(errors, &fault);
+            ProbeEnd::Unanswered(fault)
+        }
     }
 }
 
@@ -210,7 +234,7 @@ pub fn run_check<L: Link, W: Write, E: Write>(
         (W.contents output.new) result }
     ensures quiet { result ≡ 0 → errors.new ≡ errors.old }
 {
-    let printed = tell(Ok(()), "settings are right\n", output, errors);
+    let printed = tell_text("settings are right\n", output, errors);
     if printed != 0 {
         return printed;
     }

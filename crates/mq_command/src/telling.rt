@@ -17,6 +17,18 @@ pub fn say<E: Write, F: fmt::Display>(errors: &mut E, fault: &F) -> u8
     1
 }
 
+/// Prints a text, or says on `errors` that it can't be printed. The result is the exit status, 0 or
+/// 1.
+pub fn tell_text<W: Write, E: Write>(text: &str, output: &mut W, errors: &mut E) -> u8
+    ensures prints { PrintsLine text.now (W.contents output.old) (W.contents output.new) result }
+    ensures quiet { result ≡ 0 → errors.new ≡ errors.old }
+{
+    if write_whole(output, text.as_bytes()).is_err() || output.flush().is_err() {
+        return say(errors, &OutputFault::Write);
+    }
+    0
+}
+
 /// Prints the word of an order that was carried out, or says on `errors` why it wasn't. The result
 /// is the exit status, 0 or 1.
 pub fn tell<W: Write, E: Write>(
@@ -30,12 +42,7 @@ pub fn tell<W: Write, E: Write>(
     ensures quiet { result ≡ 0 → errors.new ≡ errors.old }
 {
     match sent {
-        Ok(()) => {
-            if write_whole(output, word.as_bytes()).is_err() || output.flush().is_err() {
-                return say(errors, &OutputFault::Write);
-            }
-            0
-        }
+        Ok(()) => tell_text(word, output, errors),
         Err(fault) => say(errors, &fault),
     }
 }
@@ -53,7 +60,7 @@ pub fn tell_line<W: Write, E: Write>(
     ensures quiet { result ≡ 0 → errors.new ≡ errors.old }
 {
     match line {
-        Ok(line) => tell(Ok(()), line.as_str(), output, errors),
+        Ok(line) => tell_text(line.as_str(), output, errors),
         Err(_) => say(errors, &OutputFault::Memory),
     }
 }

@@ -43,7 +43,7 @@ pub use clock::{elapsed, run_number};
 pub use dialing::{Dial, Dialer};
 pub use fault::ProcessFault;
 pub use moment::{day, moment_or_now};
-pub use probing::{Question, ask_once, probe};
+pub use probing::{Question, ask_once, ask_status, probe};
 pub use refusing::{end_process, refuse};
 pub use servers::{ask_each, ask_until, check_addresses};
 pub use settings::{filter_settings, server_settings};

@@ -1,6 +1,7 @@
 //! Whether a quota server answers, and whether it takes a host's requests.
 ghost use Rattle.std.specs.Prelude.{◌≡◌, ℕ, List, Option, IfErr, IfOk};
 ghost use Rattle.std.specs.Net.Text.{socket_text};
+ghost use Rattle.mq_command.specs.Probing.{EndsProbe};
 ghost use Rattle.mq_process.specs.Links.{AsksOver};
 ghost use Rattle.mq_process.specs.Questions.{IsQuestion, Puts};
 
@@ -8,13 +9,16 @@ use crate::asking::TIMEOUT;
 use crate::dialing::Dial;
 use crate::fault::ProcessFault;
 use log::sink::Console;
-use log::{LevelFilter, Logged};
-use mq_command::{run_check, run_host_probe, run_probe};
+use log::{LevelFilter, Log, Logged};
+use mq_command::{ProbeEnd, run_check, run_host_probe, run_probe};
 use mq_link::{Link, LoggedLink};
 use mq_request::Host;
 use std::io;
 use std::io::Write;
 use std::net::SocketAddr;
+
+/// Why a server doesn't answer is logged at this level.
+const LEVEL: LevelFilter = LevelFilter::Error;
 
 /// What is asked for. A time is the clock's, in milliseconds since 1970, 1 to 281,474,976,710,655.
 #[derive(Clone, Copy)]
@@ -25,6 +29,37 @@ pub enum Question<'a> {
     Host(&'a Host, u64),
     /// The same of the host and the server that a filter's settings name, which are right.
     Check(&'a Host, u64),
+}
+
+/// A link for one try to the server at this address, with a log of its troubles.
+fn link_once<'a, D: Dial, G: Log>(
+    dial: &D,
+    address: SocketAddr,
+    timeout: u64,
+    log: &'a G,
+) -> LoggedLink<'a, D::Link, G>
+    ensures { D.leads result address timeout }
+{
+    LoggedLink::new(dial.link(address, timeout), log, 1)
+}
+
+/// Asks the server at this address once whether it answers, and prints that it does, or says on
+/// `errors` why it doesn't, or why that can't be printed. It fails with `Memory` before it asks.
+pub fn ask_status<R: Print + Eprint + AllocGlobal, D: Dial, E: Write>(
+    rt: &R,
+    dial: &D,
+    address: SocketAddr,
+    errors: &mut E,
+) -> Result<ProbeEnd, ProcessFault>
+    ensures asks { IfOk result (λ end. AsksOver D.leads D.Link.told address TIMEOUT
+        (EndsProbe (socket_text address) end)) }
+    ensures memory { IfErr result (λ fault. fault ≡ ProcessFault.Memory) }
+{
+    let name = address.to_string(rt.alloc())?;
+    let logged = Logged::new(rt, LEVEL, Console(rt));
+    let mut link = link_once(dial, address, TIMEOUT, &logged);
+    let mut output = io::writer(rt);
+    Ok(run_probe(rt.alloc(), &mut link, name.as_str(), &mut output, errors))
 }
 
 /// Asks the server at this address once, and prints what it answers. The status is 1 where it
@@ -62,8 +97,8 @@ pub fn ask_once<R: Print + Eprint + AllocGlobal, D: Dial, E: Write>(
     ensures memory { IfErr result (λ fault. fault ≡ ProcessFault.Memory) }
 {
     let server = address.to_string(rt.alloc())?;
-    let logged = Logged::new(rt, LevelFilter::Error, Console(rt));
-    let mut link = LoggedLink::new(dial.link(address, timeout), &logged, 1);
+    let logged = Logged::new(rt, LEVEL, Console(rt));
+    let mut link = link_once(dial, address, timeout, &logged);
     Ok(put(rt, &mut link, server.as_str(), question, errors))
 }
 
@@ -83,7 +118,7 @@ fn put<R: Print + AllocGlobal, K: Link, E: Write>(
     let alloc = rt.alloc();
     let mut output = io::writer(rt);
     match question {
-        Question::Status => run_probe(alloc, link, server, &mut output, errors),
+        Question::Status => run_probe(alloc, link, server, &mut output, errors).status(),
         Question::Host(host, now) => {
             run_host_probe(alloc, link, server, host, now, &mut output, errors)
         }

@@ -1,5 +1,5 @@
 //! `status`: whether the quota server answers, and what its ledger holds where it doesn't.
-ghost use Rattle.std.specs.Prelude.{◌≡◌, ℕ, IfOk};
+ghost use Rattle.std.specs.Prelude.{◌≡◌, ℕ, IfOk, None};
 ghost use Rattle.sqlite.specs.Files.{file_state};
 ghost use Rattle.sqlite.specs.Held.{state};
 ghost use Rattle.sqlite.specs.WalFiles.{image_at};
@@ -7,6 +7,8 @@ ghost use Rattle.mq_store.specs.Soundness.{HasKept, IsSound};
 ghost use Rattle.mq_program.specs.Describing.{Describes, DescribesFile};
 ghost use Rattle.mq_program.specs.Opened.{MeansFile, path_in};
 ghost use Rattle.mq_process.specs.Settings.{AreInRange};
+ghost use Rattle.mq_command.specs.declared.ask.AskFault.TheVariants.{Memory, Unavailable};
+ghost use Rattle.mq_command.specs.declared.probe.ProbeEnd.TheVariants.{Answered, Unanswered};
 
 use crate::auditing::print;
 use crate::describing::describe_ledger;
@@ -16,7 +18,8 @@ use crate::last_night::last_night;
 use crate::store::{ledger_of_settings, let_go, log_cause, path_of};
 use log::sink::Console;
 use log::{Log, Logged};
-use mq_process::{Dialer, Question, StatusArguments, probe, server_settings};
+use mq_command::{AskFault, ProbeEnd};
+use mq_process::{Dialer, StatusArguments, ask_status, server_settings};
 use mq_settings::{Place, ServerSettings};
 use mq_store::SqlLedger;
 use sqlite::{Alter, FileFrom, FileStore, Start};
@@ -30,7 +33,8 @@ const NOT_RUNNING: u8 = 3;
 
 /// `status` of settings: asks their quota server once, and prints that it answers. Where it
 /// doesn't, and no server has the file of its ledger open, prints what that holds; the status is 3
-/// then. Last it prints which days the server forgot last.
+/// then. Last it prints which days the server forgot last. The file isn't looked at where the
+/// server answers, also if that can't be printed, or where memory runs out; the status is 1 then.
 ///
 /// `start` stands for what the file of the settings and its log hold before the call.
 pub fn status<R: Databases + Clock + Net + Print + Eprint, E: Write, S: Start>(
@@ -40,21 +44,31 @@ pub fn status<R: Databases + Clock + Net + Print + Eprint, E: Write, S: Start>(
     errors: &mut E,
 ) -> Result<u8, ProgramFault> {
     let settings = server_settings(rt, given.config)?;
-    let status = probe(
-        rt,
-        &Dialer::new(rt),
-        settings.listen,
-        Question::Status,
-        errors,
-    )?;
+    let end = ask_status(rt, &Dialer::new(rt), settings.listen, errors)?;
     let output = &mut io::writer(rt);
-    if status == 0 {
-        print_last_night(rt, &settings.store, output)?;
-        return Ok(0);
+    if let Some(status) = status_after(end) {
+        if status == 0 {
+            print_last_night(rt, &settings.store, output)?;
+        }
+        return Ok(status);
     }
     let_go(describe_file(rt, &settings, start, output))?;
     print_last_night(rt, &settings.store, output)?;
     Ok(NOT_RUNNING)
+}
+
+/// The exit status where the ledger's file isn't looked at: where the server answers, or where
+/// memory ran out, so that it may have answered.
+fn status_after(end: ProbeEnd) -> Option<u8>
+    ensures answered { (status : ℕ) → end ≡ Answered status → result ≡ Some status }
+    ensures memory { end ≡ Unanswered Memory → result ≡ Some 1 }
+    ensures unavailable { end ≡ Unanswered Unavailable → result ≡ None }
+{
+    match end {
+        ProbeEnd::Answered(status) => Some(status),
+        ProbeEnd::Unanswered(AskFault::Memory) => Some(1),
+        ProbeEnd::Unanswered(AskFault::Unavailable) => None,
+    }
 }
 
 /// Prints what the last night of the ledger in this place did, where that is noted.

@@ -16,6 +16,7 @@ from ends import (
     SILENCE,
     Script,
     Server,
+    as_user,
     bad_address,
     crowded_port,
     fault,
@@ -236,7 +237,7 @@ def inits_by_root(world, checks):
         ("by root, of a folder here", [], 0o700, owner),
         (
             "by another user",
-            ["setpriv", f"--reuid={other}", f"--regid={other}", "--clear-groups"],
+            as_user(other),
             0o777,
             (other, other),
         ),
@@ -417,8 +418,10 @@ def asked_of(world, answer):
 def of_file(path, address, terms, counts, answers):
     """How `status` ends that reads a file, since nobody answers at the address, by its zone and
     default, and what it counts there."""
-    start = f"a start takes up to about {answers // 27_000 + 1} s and {answers // 1_100 + 14} MB\n"
-    said = f"ledger {path}: version 3, {os.path.getsize(path)} bytes\n{terms}\n{counts}\n{start}"
+    bytes_of = os.path.getsize(path)
+    seconds, megabytes = answers // 27_000 + 1, bytes_of // 333_333 + 14
+    start = f"a start takes up to about {seconds} s and {megabytes} MB\n"
+    said = f"ledger {path}: version 3, {bytes_of} bytes\n{terms}\n{counts}\n{start}"
     return 3, said.encode(), f"{unreached(address)}mailquota: quota service unavailable\n"
 
 
@@ -446,6 +449,13 @@ def statuses_of_a_file(world, checks):
             "status of a file that a server serves",
             world.run("status", "--config", settings(path, server.address)),
             answers(server.address),
+        )
+        with open("/dev/full", "wb") as device:
+            came = world.run("status", "--config", settings(path, server.address), output=device)
+        checks.equal(
+            "status of a file that a server serves, to a full device",
+            (came[0], came[2]),
+            (1, "mailquota: write failed\n"),
         )
         with nobody_there() as address:
             came = world.run("status", "--config", settings(path, address))
@@ -830,9 +840,13 @@ def devices_that_are_full(world, checks):
     path = f"{world.folder}/full"
     with Server(world) as server, open("/dev/full", "wb") as device:
         config = world.filter_file(server.address)
+        served = world.new_file(
+            toml({"listen": server.address, "store": "memory", "default": 3, "offset": 0})
+        )
         for what, words in [
             ("init", ["init", "--config", ledger_settings(world, path)]),
             ("status", ["status", "--server", server.address]),
+            ("status --config", ["status", "--config", served]),
             ("filter --check", ["filter", "--config", config, "--check"]),
         ]:
             came = world.run(*words, output=device)

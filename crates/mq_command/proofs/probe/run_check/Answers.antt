@@ -9,4 +9,4 @@ whole line old new status none (inr (one, front)) = absurd (let never = sym none
 pub returns-clause-checks : goal.returns-clause-checks
 returns-clause-checks g c =
     let (ended, asked, prints) = c.run_host_probe.ensures.probes in
-    inr (_, ended, whole settings_line _ _ _ c.if-printed-ne0.false c.tell-printed.ensures.prints, asked, prints)
+    inr (_, ended, whole settings_line _ _ _ c.if-printed-ne0.false c.tell_text-printed.ensures.prints, asked, prints)
