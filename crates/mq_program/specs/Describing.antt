@@ -14,6 +14,7 @@ use Rattle.mq_store.specs.declared.auditing.RowCounts.{RowCounts}
 use Rattle.mq_store.specs.Soundness.{book_in}
 use Rattle.mq_program.specs.declared.describing.LedgerCounts.{LedgerCounts}
 use Rattle.mq_program.specs.Forgetting.{CountsLimits}
+use Rattle.mq_program.specs.Memory.{megabytes_over}
 use Rattle.mq_program.specs.Opened.{AreCountsIn, KeepsBook}
 
 -- They are how many answers the ledger has, the days and transactions that were found as it was opened, and its limits.
@@ -23,12 +24,9 @@ pub record AreCounts (zone : Zone) (default : ℕ) (db : Database) (found : RowC
   pub transactions : counts.transactions ≡ found.transactions
   pub limits : CountsLimits db counts.limits
 
--- the seconds and megabytes that a start takes at most, by what was measured
+-- the seconds that a start takes at most over so many answers, by what was measured
 abbrev pub start_seconds : ℕ → ℕ
 start_seconds answers = answers / 27000 + 1
-
-abbrev pub start_megabytes : ℕ → ℕ
-start_megabytes answers = answers / 1100 + 14
 
 -- the path of the file, the version of its tables, and its bytes
 abbrev pub file_line : List ℕ → ℕ → List ℕ
@@ -60,7 +58,7 @@ start_line seconds megabytes =
 abbrev pub ledger_text : List ℕ → ℕ → Zone → ℕ → LedgerCounts → List ℕ
 ledger_text path bytes zone default counts =
     file_line path bytes ++ terms_line zone default
-    ++ counts_line counts.answers counts.days counts.transactions counts.limits ++ start_line (start_seconds counts.answers) (start_megabytes counts.answers)
+    ++ counts_line counts.answers counts.days counts.transactions counts.limits ++ start_line (start_seconds counts.answers) (megabytes_over bytes)
 
 -- the lines of the ledger with these rows were printed, with its counts
 abbrev pub Describes : List ℕ → ℕ → Zone → ℕ → Database → RowCounts → Option (List ℕ) → Option (List ℕ) → Type 0

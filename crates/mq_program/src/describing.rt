@@ -5,11 +5,13 @@ ghost use Rattle.sqlite.specs.Held.{state};
 ghost use Rattle.mq_store.specs.Soundness.{HasKept, IsSound};
 ghost use Rattle.mq_program.specs.Describing.{AreCounts, Describes, DescribesFront, counts_line};
 ghost use Rattle.mq_program.specs.Describing.{file_line, ledger_text};
-ghost use Rattle.mq_program.specs.Describing.{offset_line, start_line, start_megabytes};
+ghost use Rattle.mq_program.specs.Describing.{offset_line, start_line};
 ghost use Rattle.mq_program.specs.Describing.{start_seconds, terms_line};
+ghost use Rattle.mq_program.specs.Memory.{megabytes_over};
 
 use crate::auditing::print;
 use crate::fault::ProgramFault;
+use crate::memory::megabytes_over;
 use mq_ledger::{Ledger, Zone};
 use mq_request::EscapedText;
 use mq_rows::VERSION;
@@ -37,14 +39,6 @@ fn start_seconds(answers: u64) -> u64
     ensures { result ≡ start_seconds answers }
 {
     answers / 27_000 + 1
-}
-
-/// The megabytes that a start takes at most over so many answers, by the last figures: 90 for each
-/// 100,000.
-fn start_megabytes(answers: u64) -> u64
-    ensures { result ≡ start_megabytes answers }
-{
-    answers / 1_100 + 14
 }
 
 /// Counts what a ledger has. Nothing is written.
@@ -123,12 +117,12 @@ fn start_line(alloc: Global, seconds: u64, megabytes: u64) -> Result<String, All
     format!(in alloc; "a start takes up to about {seconds} s and {megabytes} MB\n")
 }
 
-/// The line that says what a start over so many answers takes at most.
-fn start_over(alloc: Global, answers: u64) -> Result<String, AllocError>
+/// The line that says what a start over so many answers in a file of so many bytes takes at most.
+fn start_over(alloc: Global, answers: u64, bytes: u64) -> Result<String, AllocError>
     ensures { IfOk result (λ line. string_bytes line ≡ start_line (start_seconds answers)
-        (start_megabytes answers)) }
+        (megabytes_over bytes)) }
 {
-    start_line(alloc, start_seconds(answers), start_megabytes(answers))
+    start_line(alloc, start_seconds(answers), megabytes_over(bytes))
 }
 
 /// The lines of a ledger in the file at a path, of so many bytes.
@@ -152,7 +146,7 @@ fn ledger_text(
     let mut text = file_line(alloc, path, bytes)?;
     text.push_str(terms_line(alloc, zone, default)?.as_str())?;
     text.push_str(counts_line(alloc, answers, days, transactions, limits)?.as_str())?;
-    text.push_str(start_over(alloc, answers)?.as_str())?;
+    text.push_str(start_over(alloc, answers, bytes)?.as_str())?;
     Ok(text)
 }
 

@@ -1,6 +1,6 @@
 """A start over a file that may not fit into the memory that the process may have: the server says
-so first, and starts all the same. The groups of the system are files of this test, in a name space
-of their own, so it wants root."""
+so first, with the figure that `status` has too, and starts all the same. The groups of the system
+are files of this test, in a name space of their own, so it wants root."""
 import os
 import re
 import subprocess
@@ -8,7 +8,7 @@ import subprocess
 import wire
 from cases.figures import taken
 from cases.retiring import of_version, written
-from ends import listening_port, toml, wait_until
+from ends import ledger_settings, listening_port, toml, wait_until
 
 LINE = re.compile(r"\[WARN  mq_program::memory\] (.*)")
 # in a name space of its own: this file for that of the process's group, this folder for the
@@ -57,6 +57,12 @@ def run(world, checks):
         "a start with keep, one byte less",
         lines_of_start(world, path, own, below, f"{less}\n", keep=2),
         [warned % less],
+    )
+    _, told, _ = world.run("status", "--config", ledger_settings(world, path))
+    checks.equal(
+        "status says as much of the same file",
+        told.splitlines()[-1:],
+        [b"a start takes up to about 1 s and %d MB" % most],
     )
 
 
