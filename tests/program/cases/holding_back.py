@@ -473,8 +473,8 @@ def what_check_says(world, checks):
             {"pause": 5},
             "pause 5 s, hold 0 s\n",
             (
-                "[WARN  mq_remote::subcommands::filter] a pause of 5 s hardly helps: 3 tries may"
-                " take 2000 ms each\n"
+                "[WARN  mq_remote::subcommands::filter] a pause of 5 s hardly helps: 3 tries"
+                " that time out take 2000 ms each or more\n"
             ),
         ),
         ("hold alone", {"hold": 60}, "pause 0 s, hold 60 s\n", ""),

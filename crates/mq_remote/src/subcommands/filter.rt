@@ -92,7 +92,9 @@ fn check_server<R: Clock + Print + Eprint + AllocGlobal, D: Dial, E: Write>(
     Ok(status)
 }
 
-/// Whether there is a pause, and one that is over before the tries of one request may be.
+/// Whether there is a pause, and one that is shorter than the tries of one request take at least
+/// where each runs out of time. A try does so once its connecting, its writing or its reading takes
+/// the timeout, each of which may take as long.
 fn is_short(settings: &FilterSettings) -> bool
     ensures { IsTrue result ↔ ((0 < settings.now.pause)
         × (settings.now.pause * 1000 < settings.now.tries * settings.now.timeout)) }
@@ -113,7 +115,7 @@ fn tell_spans<R: Print + Eprint>(rt: &R, settings: &FilterSettings) {
     if is_short(settings) {
         let (tries, timeout) = (settings.tries, settings.timeout);
         let logged = Logged::new(rt, LevelFilter::Warn, Console(rt));
-        warn!(logged; "a pause of {pause} s hardly helps: {tries} tries may take {timeout} ms each");
+        warn!(logged; "a pause of {pause} s hardly helps: {tries} tries that time out take {timeout} ms each or more");
     }
 }
 
