@@ -85,6 +85,12 @@ def limit(ahead):
     return "clock", ahead
 
 
+def at(moment):
+    """The same of a program whose clock shows this moment, or less than a second more, as it
+    begins."""
+    return limit(int(moment - time.time()) + 1)
+
+
 class Clock:
     """The clocks of a program that runs under `limit`."""
 

@@ -238,11 +238,24 @@ def fault(text, output=b"", log=""):
     return 1, output, f"{log}mailquota: {text}\n"
 
 
+def as_user(user):
+    """The words before a program that root runs as this user, who is in no other group."""
+    return ["setpriv", f"--reuid={user}", f"--regid={user}", "--clear-groups"]
+
+
+def wrong_tables(version):
+    """Why a file is refused that says of itself that it has the tables of this version."""
+    return (
+        f"tables of version {version}, but one is missing, is one too many or has wrong contents"
+    )
+
+
 # What the system says.
 NOBODY_LISTENS, NO_FILE = (
     "Connection refused (os error 111)",
     "No such file or directory (os error 2)",
 )
+NOT_ALLOWED = "Permission denied (os error 13)"
 # What the store says of a file that another process has open, and of one that is no database.
 LOCKED, NO_DATABASE = "database is locked", "file is not a database that obeys its schema"
 

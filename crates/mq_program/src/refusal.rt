@@ -99,7 +99,10 @@ fn log_foreign<G: Log, S: Alter>(log: &G, path: &str, connection: &mut Connectio
 /// Logs what is wrong with tables that say of themselves that they have this version.
 fn log_version<G: Log>(log: &G, path: &str, version: i64) {
     if (1..=i64::from(VERSION)).contains(&version) {
-        error!(log; "{path}: tables of version {version}, but one is missing or there is one too many");
+        error!(
+            log;
+            "{path}: tables of version {version}, but one is missing, is one too many or has wrong contents"
+        );
     } else {
         error!(log; "{path}: tables of version {version}, this program knows 1 to {VERSION}");
     }

@@ -14,6 +14,7 @@ from ends import (
     of_settings,
     of_store,
     refusal,
+    wrong_tables,
 )
 from sums import renew
 from wire import granted, limit, release, reserve, settle, usage
@@ -251,7 +252,7 @@ def refused(world, checks):
             later,
             {},
             "store is not this ledger",
-            refusal(later, "tables of version 2, but one is missing or there is one too many"),
+            refusal(later, wrong_tables(2)),
         ),
         ("no file", none, {}, "store can't be opened", of_store(none, NO_FILE)),
         (

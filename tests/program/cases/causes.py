@@ -28,6 +28,7 @@ from ends import (
     toml,
     unreached,
     wait_until,
+    wrong_tables,
 )
 
 BY_RULE = {"offset": None, "rule": CENTRAL_EUROPE}
@@ -211,7 +212,7 @@ def versions(world, checks):
             f"tables of version {version}, {statements[0]}",
             other,
             NOT_OURS,
-            f"tables of version {version}, but one is missing or there is one too many",
+            wrong_tables(version),
         )
 
 

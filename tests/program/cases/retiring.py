@@ -37,6 +37,7 @@ from ends import (
     ledger_settings,
     refusal,
     unavailable,
+    wrong_tables,
 )
 from rows import COLUMNS, answers_of, rows_in, same_rows
 from smtpd import Smtpd, result
@@ -115,6 +116,11 @@ FIVE_TABLES = [
 ]
 RULE_TABLE = "CREATE TABLE rule (id INTEGER PRIMARY KEY, bytes BLOB NOT NULL) STRICT"
 RETIRED_TABLE = "CREATE TABLE retired (host BLOB PRIMARY KEY, run INTEGER NOT NULL) STRICT"
+TEXT_FOR_A_RULE = [
+    "DROP TABLE rule",
+    "CREATE TABLE rule (id INTEGER PRIMARY KEY, bytes TEXT)",
+    "INSERT INTO rule VALUES (1, 'UTC0')",
+]
 TEXTS_FOR_FLOORS = [
     "DROP TABLE retired",
     "CREATE TABLE retired (host TEXT, run TEXT)",
@@ -492,52 +498,67 @@ def refused(world, checks):
     with Server(world, words=["--create"], store=f"{world.folder}/third") as server:
         server.ask(wire.reserve(1) + wire.retire(1, run=2))
 
-    def missing(version):
-        return f"tables of version {version}, but one is missing or there is one too many"
-
     for place, (what, path, zone, cause) in enumerate(
         [
             (
                 "version 1 with a table rule",
                 written(world, "first-rule", *first, RULE_TABLE),
                 {},
-                missing(1),
+                wrong_tables(1),
             ),
             (
                 "version 1 with a table retired",
                 written(world, "first-retired", *first, RETIRED_TABLE),
                 {},
-                missing(1),
+                wrong_tables(1),
             ),
             (
                 "version 2 with a table retired",
                 written(world, "second-retired", *second, RETIRED_TABLE),
                 BY_RULE,
-                missing(2),
+                wrong_tables(2),
             ),
             (
                 "version 2 without a table rule",
                 written(world, "second-rule", *second, "DROP TABLE rule"),
                 BY_RULE,
-                missing(2),
+                wrong_tables(2),
+            ),
+            (
+                "version 2 without a row of its rule",
+                written(world, "second-row", *second, "DELETE FROM rule"),
+                BY_RULE,
+                wrong_tables(2),
+            ),
+            (
+                "version 2 with a text for a rule",
+                written(world, "second-text", *second, *TEXT_FOR_A_RULE),
+                BY_RULE,
+                wrong_tables(2),
+            ),
+            (
+                "version 3 with a text for a rule",
+                edited(world, f"{world.folder}/third", "third-text", *TEXT_FOR_A_RULE),
+                {},
+                wrong_tables(3),
             ),
             (
                 "version 3 without a table rule",
                 edited(world, f"{world.folder}/third", "third-rule", "DROP TABLE rule"),
                 {},
-                missing(3),
+                wrong_tables(3),
             ),
             (
                 "version 3 without a table retired",
                 edited(world, f"{world.folder}/third", "third-retired", "DROP TABLE retired"),
                 {},
-                missing(3),
+                wrong_tables(3),
             ),
             (
                 "version 3 with texts for floors",
                 edited(world, f"{world.folder}/third", "third-texts", *TEXTS_FOR_FLOORS),
                 {},
-                missing(3),
+                wrong_tables(3),
             ),
             (
                 "version 4",

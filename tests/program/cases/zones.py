@@ -11,7 +11,7 @@ import zones
 from books import Books
 from cases.audits import edited
 from cases.rules import CENTRAL_EUROPE, NO_RULES, RULES
-from ends import IS_THERE, Server, fault, ledger_settings, refusal
+from ends import IS_THERE, Server, fault, ledger_settings, refusal, wrong_tables
 from random_inputs import differs
 from rows import same_rows
 from wire import granted, page, page_reply, reserve, row
@@ -282,7 +282,7 @@ def tables_of_other_versions(world, checks):
                 "no table of the rule",
                 "DROP TABLE rule",
                 NOT_OURS,
-                "tables of version 3, but one is missing or there is one too many",
+                wrong_tables(3),
             ),
         ]
     ):
