@@ -11,7 +11,7 @@ use std::net::{Net, TcpListener, TcpStream};
 use std::rt::{Clock, Env};
 
 /// Runs the program by the words of the process and gives its exit status: 0 done, 1 fault, 2
-/// usage.
+/// usage, and 3, of `status` by settings alone, where no server runs.
 ///
 /// `start` stands for what the file of a server's ledger and its log hold before the call, and
 /// `new` for what a file that is just made and its log hold.

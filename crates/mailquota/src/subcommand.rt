@@ -14,7 +14,7 @@ use std::net::{Net, TcpListener, TcpStream};
 use std::rt::Clock;
 
 /// Runs a subcommand, prints on `errors` why it isn't done, and gives the exit status: 0 done, 1
-/// fault, 2 usage.
+/// fault, 2 usage, and 3, of `status` by settings alone, where no server runs.
 ///
 /// `start` stands for what the file of a server's ledger and its log hold before the call, and
 /// `new` for what a file that is just made and its log hold.
