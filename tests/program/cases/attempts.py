@@ -20,6 +20,7 @@ from cases.nights import (
     DEFAULT,
     KEEP,
     NOTED,
+    NOT_OPENED,
     SWITCHED,
     about,
     asked,
@@ -52,7 +53,6 @@ from ends import (
 from rows import same_rows
 from smtpd import Smtpd, result
 
-NOT_OPENED = "store can't be opened"
 # reserves of a ledger that is soon read
 FEW = 12
 
@@ -92,8 +92,9 @@ def nights_until_the_next(world, checks):
             )
 
         def lines():
+            # (without how long it took)
             return [
-                it
+                it.partition(" forgotten, in")[0]
                 for it in server.all_log_lines()
                 if "mq_nights" in it or "are forgotten" in it
             ]
@@ -124,9 +125,7 @@ def nights_until_the_next(world, checks):
             f"[INFO  mq_nights::evening] forgetting the days before {day + 1 - KEEP}",
             f"[INFO  mq_program::nights] ledger {path}: the days before {day + 1 - KEEP} are",
         ]
-        good = waits_for(DAY * (day + 1) + 18_180, 6)
-        came = [it.partition(" forgotten, in")[0] for it in lines()]
-        checks.equal(f"{what}: the log once it can be made", (good, came), (True, wanted))
+        logs("once it can be made", waits_for(DAY * (day + 1) + 18_180, 6), wanted)
         good = wait_until(lambda: asked(server, [wire.usage()]) and has_note(path))
         with open(f"{path}.night", encoding="ascii") as file:
             said = file.read().partition(", in ")[0]
@@ -140,12 +139,9 @@ def nights_until_the_next(world, checks):
         checks.equal(f"{what}: a reserve then", asked(server, later), [books.serve(later[0])])
         clock.pass_to(DAY * (day + 2) + 10_740)
         asked(server, [wire.usage()] * 20)
-        came = [it.partition(" forgotten, in")[0] for it in lines()]
-        checks.equal(f"{what}: the log up to the next", came, wanted)
+        logs("up to the next", True, wanted)
         wanted += [it.replace(str(day + 1 - KEEP), str(day + 2 - KEEP)) for it in wanted[-2:]]
-        good = waits_for(DAY * (day + 2) + 10_860, 8)
-        came = [it.partition(" forgotten, in")[0] for it in lines()]
-        checks.equal(f"{what}: the log of the next", (good, came), (True, wanted))
+        logs("of the next", waits_for(DAY * (day + 2) + 10_860, 8), wanted)
         server.process.kill()
         server.status()
     same_rows(checks, what, path, books.remembered(day + 2 - KEEP))

@@ -9,9 +9,11 @@ import clocks
 from cases.rules import CENTRAL_EUROPE
 from cases.stopping import LAST_DAY, caps, not_today, nothing_sent
 from ends import (
+    NOT_ALLOWED,
     NO_FILE,
     SECONDS,
     Server,
+    as_user,
     fault,
     ledger_settings,
     loopback_of_6,
@@ -103,7 +105,7 @@ def with_settings(world, *words, server=None, filter_=None, user=None):
         APART,
         "sh",
         folder,
-        *(["setpriv", f"--reuid={user}", f"--regid={user}", "--clear-groups"] if user else []),
+        *(as_user(user) if user else []),
     ]
     came = subprocess.run(
         [*apart, world.program, *words],
@@ -462,7 +464,7 @@ def settings_of_others(world, checks):
                 ),
                 fault(
                     "settings can't be read",
-                    log=of_settings(f"{PLACE}/server.toml", "Permission denied (os error 13)"),
+                    log=of_settings(f"{PLACE}/server.toml", NOT_ALLOWED),
                 ),
             )
 
@@ -616,7 +618,7 @@ def by_a_clock(world, checks):
 
 def run_at(world, moment, *words):
     """What a command comes to whose clock shows this moment."""
-    return world.run(*words, limit=clocks.limit(int(moment - time.time())))
+    return world.run(*words, limit=clocks.at(moment))
 
 
 def told_on(world, server, day, moment, zone):

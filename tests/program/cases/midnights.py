@@ -6,7 +6,6 @@ A zone here is how many seconds a day begins before UTC's.
 """
 import os
 import re
-import time
 
 import clocks
 from cases.stopping import caps, not_today
@@ -40,11 +39,6 @@ def run(world, checks):
 def begin_of(day, east):
     """The first second of a day."""
     return SECONDS_OF_DAY * day - east
-
-
-def clock_at(moment):
-    """The limit of a program whose clock shows this moment as it begins."""
-    return clocks.limit(int(moment - time.time()) + 1)
 
 
 # ---- commands
@@ -81,7 +75,7 @@ def days_of_commands(world, checks, what, east, zone):
             limit, stop, resume = (f"{of}-{name}" for of in ("limit", "stop", "resume"))
 
             def at(*words):
-                return world.run(*words, limit=clock_at(moment))
+                return world.run(*words, limit=clocks.at(moment))
 
             def limits_of(login):
                 return caps(server, login.encode(), today - 1, today, today + 1)
@@ -141,7 +135,7 @@ def days_of_a_server(world, checks, what, east, zone):
         ("before it", midnight - BEFORE, DAY - 1),
         ("from it on", midnight, DAY),
     ):
-        with Server(world, default=9, limit=clock_at(moment), **zone) as server:
+        with Server(world, default=9, limit=clocks.at(moment), **zone) as server:
             for n, day in enumerate(range(DAY - 3, DAY + 3), start=1):
                 # (the first second of a day, or its last)
                 at = begin_of(day, east) + (0 if n % 2 else SECONDS_OF_DAY - 1)
@@ -174,7 +168,7 @@ def nights_at_three(world, checks, what, east, zone):
 
     def begun(moment):
         """The log of days of a server that begins at this moment, and whether there is a note."""
-        with Server(world, limit=clock_at(moment), **settings) as server:
+        with Server(world, limit=clocks.at(moment), **settings) as server:
             # (it looks after each round of requests)
             for _ in range(3):
                 server.ask(page(day=DAY))

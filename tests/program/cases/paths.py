@@ -11,6 +11,7 @@ from cases.nights import (
     DEFAULT,
     KEEP,
     NOTED,
+    NOT_OPENED,
     SWITCHED,
     asked,
     filled,
@@ -26,9 +27,11 @@ from cases.nights import (
 )
 from ends import (
     IS_THERE,
+    NOT_ALLOWED,
     NO_FILE,
     Server,
     World,
+    as_user,
     copied,
     fault,
     ledger_settings,
@@ -44,11 +47,23 @@ from ends import (
 )
 from rows import same_rows
 
-NOT_OPENED, UNREADABLE = "store can't be opened", "settings can't be read"
-NOT_ALLOWED = "Permission denied (os error 13)"
+UNREADABLE = "settings can't be read"
 LOOP = "Too many levels of symbolic links (os error 40)"
 UNABLE = "unable to open database file"
 USER = 60_001
+# each that reads settings
+COMMANDS = (
+    ["server"],
+    ["init"],
+    ["audit"],
+    ["limits"],
+    ["forget", "--before", "1", "--into", "new"],
+    ["status"],
+    ["day"],
+    ["report"],
+    ["filter"],
+    ["filter", "--check"],
+)
 
 
 def run(world, checks):
@@ -175,18 +190,7 @@ def settings_of_links(world, checks):
     os.symlink("no-such-file", f"{folder}/nothing")
     os.symlink("itself", f"{folder}/itself")
     for name, cause in (("nothing", NO_FILE), ("itself", LOOP)):
-        for word, *words in (
-            ["server"],
-            ["init"],
-            ["audit"],
-            ["limits"],
-            ["forget", "--before", "1", "--into", "new"],
-            ["status"],
-            ["day"],
-            ["report"],
-            ["filter"],
-            ["filter", "--check"],
-        ):
+        for word, *words in COMMANDS:
             checks.equal(
                 f"settings that are a link to {name}: {' '.join([word, *words])}",
                 world.run(word, "--config", name, *words, folder=folder),
@@ -332,8 +336,7 @@ def user_of(world):
     """The world of a user who isn't root, and has this world's folder."""
     os.chmod(world.folder, 0o711)
     path = world.new_file(
-        f"#!/bin/sh\nexec setpriv --reuid={USER} --regid={USER} --clear-groups {world.program}"
-        ' "$@"\n'
+        f'#!/bin/sh\nexec {" ".join(as_user(USER))} {world.program} "$@"\n'
     )
     os.chmod(path, 0o755)
     user = World(path, world.folder)
@@ -491,21 +494,10 @@ def settings_of_others(world, checks, user):
     ]:
         os.chmod(hidden, mode)
         os.chmod(folder, of_folder)
-        for words in (
-            ["server"],
-            ["init"],
-            ["audit"],
-            ["limits"],
-            ["forget", "--before", "1", "--into", f"{world.folder}/unmade"],
-            ["status"],
-            ["day"],
-            ["report"],
-            ["filter"],
-            ["filter", "--check"],
-        ):
+        for words in COMMANDS:
             checks.equal(
                 f"{what}: {' '.join(words[:2])}",
-                user.run(*words, "--config", hidden),
+                user.run(*words, "--config", hidden, folder=world.folder),
                 fault(UNREADABLE, log=of_settings(hidden, NOT_ALLOWED)),
             )
     os.chmod(folder, 0o755)
