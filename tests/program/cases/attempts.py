@@ -101,7 +101,10 @@ def nights_until_the_next(world, checks):
 
         def waits_for(moment, count):
             clock.pass_to(moment)
-            return wait_until(lambda: asked(server, [wire.usage()]) and len(lines()) >= count)
+            good = wait_until(lambda: asked(server, [wire.usage()]) and len(lines()) >= count)
+            # (an answer: since it logged it has looked at its clock, from when on it is an hour)
+            asked(server, [wire.usage()])
+            return good
 
         def logs(at, good, wanted):
             checks.equal(f"{what}: the log {at}", (good, lines()), (True, wanted))

@@ -634,10 +634,11 @@ def differs_line(day, newest):
 
 
 def clocks_that_differ(world, checks):
+    """Days are overdue at any hour, also before 03:00, but the clock and the newest day differ."""
     for what, newest in [("four days ago", today() - 4), ("in five days", today() + 5)]:
         path, what = f"{world.folder}/clock{newest}", f"a newest day {what}"
         books, frames = Books(0, DEFAULT), [
-            request(number, newest - number % 9) for number in range(1, 40)
+            request(number, newest - number % 10) for number in range(1, 40)
         ]
         assert made_of(world, path, frames) == [books.serve(it) for it in frames]
         with nightly(world, path) as server:
@@ -1064,6 +1065,8 @@ def takes_its_own_time(world, checks):
         clock.pass_to(DAY * day + 10_860)
         # (it looks after each round of requests)
         wait_until(lambda: asked(server, [wire.usage()]) and warnings(server))
+        # (an answer: since it warned it has looked at its clock, from when on it is an hour)
+        asked(server, [wire.usage()])
         resource.prlimit(server.process.pid, resource.RLIMIT_FSIZE, (NO_LIMIT, NO_LIMIT))
         clock.pass_to(DAY * day + 10_860 + 3_660)
         wait_until(lambda: asked(server, [wire.usage()]) and has_note(path))
