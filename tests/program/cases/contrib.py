@@ -45,6 +45,7 @@ def run(world, checks):
     a_backup(world, checks)
     a_backup_by_its_recipe(world, checks)
     backups_by_other_spellings(world, checks)
+    a_backup_to_a_name_with_a_slash(world, checks)
     backups_that_fail(world, checks)
     how_long_the_server_stands(world, checks)
     a_group_that_is_killed(world, checks)
@@ -508,6 +509,28 @@ def a_backup_by_its_recipe(world, checks):
             server.ask(b"".join(frames)),
             b"".join(kept),
         )
+
+
+def a_backup_to_a_name_with_a_slash(world, checks):
+    """As a shell completes a folder's name."""
+    path, settings = f"{world.folder}/slash", {"default": 3, "offset": 0}
+    with Server(world, words=["--create"], store=path, **settings) as server:
+        server.ask(wire.reserve(1))
+        its = {"listen": server.address, "store": path, **settings}
+        backup = Backup(world, server, path, its)
+        backup.words[2] += "/"
+        status, _, errors = backup.run()
+        checks.equal(
+            "a backup to a name with a slash at its end: status, and what it says",
+            (status, errors),
+            (0, ""),
+        )
+        checks.equal(
+            "a backup to a name with a slash at its end: what is there",
+            (backup.left(), sorted(os.listdir(backup.into) if status == 0 else [])),
+            (["copy"], ["ledger", "ledger-wal", "server.toml"]),
+        )
+        shutil.rmtree(backup.folder)
 
 
 def backups_by_other_spellings(world, checks):
