@@ -69,7 +69,8 @@ SERVER = {
     },
     "Install": {"WantedBy": ["multi-user.target"]},
 }
-# smtpd ends with status 0 where its filter ends, and starts also where a retire fails
+# smtpd ends with status 0 where its filter ends, and starts also where a retire fails, but not with
+# settings that it can't use
 RESTARTS = {
     "Unit": {
         "Wants": ["network-online.target"],
@@ -77,7 +78,7 @@ RESTARTS = {
         "StartLimitIntervalSec": ["0"],
     },
     "Service": {
-        "ExecStartPre": ["-/usr/sbin/mailquota retire"],
+        "ExecStartPre": ["/usr/sbin/smtpd -n", "-/usr/sbin/mailquota retire"],
         "Restart": ["always"],
         "RestartSec": ["1"],
     },
