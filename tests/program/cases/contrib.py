@@ -1036,10 +1036,8 @@ def with_a_ledger(world, name, frames):
     """A machine whose ledger has what these frames ask, and the ledger's folder."""
     folder = f"{world.folder}/{name}"
     config, lib = f"{folder}/etc/mailquota/server.toml", f"{folder}/lib/mailquota"
-    # (the test may not be root: who runs it stands for the server's user)
-    su = f'for it; do last=$it; done; sh -c "$last --config {config}"'
     machine = Machine(
-        world, name, mailquota=f'exec {world.program} "$@" --config {config}', su=su, systemctl=""
+        world, name, mailquota=f'exec {world.program} "$@" --config {config}', systemctl=""
     )
     os.makedirs(lib)
     machine.write(

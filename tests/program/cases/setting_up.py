@@ -60,6 +60,7 @@ def run(world, checks):
     refused_inits(world, checks)
     inits_by_root(world, checks)
     inits_through_a_link(world, checks)
+    forgets_by_root(world, checks)
     statuses(world, checks)
     statuses_by_script(world, checks)
     statuses_of_a_file(world, checks)
@@ -301,6 +302,33 @@ def inits_through_a_link(world, checks):
             for it in os.listdir(folder)
         },
         {it: owner for it in ("ledger", "ledger-wal")},
+    )
+
+
+def forgets_by_root(world, checks):
+    """Where systemd makes the server's user only while it runs, root forgets by hand: the new file
+    belongs to the folder's owner, with its log."""
+    if os.geteuid():
+        checks.skip("a new file that root makes without old days", "who tests isn't root")
+        return
+    owner, folder = (60_001, 60_002), f"{world.folder}/forgets"
+    os.mkdir(folder)
+    os.chown(folder, *owner)
+    config = ledger_settings(world, f"{folder}/ledger")
+    world.run("init", "--config", config)
+    checks.equal(
+        "a new file that root makes without old days",
+        world.run("forget", "--config", config, "--before", "1", "--into", f"{folder}/new"),
+        (0, b"kept answers=0 of 0, limits=0\n", ""),
+    )
+    found = {}
+    for it in os.listdir(folder):
+        its = os.stat(f"{folder}/{it}")
+        found[it] = its.st_uid, its.st_gid, stat.S_IMODE(its.st_mode)
+    checks.equal(
+        "a new file that root makes without old days: whose each file is",
+        found,
+        {it: (*owner, 0o600) for it in ("ledger", "ledger-wal", "new", "new-wal")},
     )
 
 
