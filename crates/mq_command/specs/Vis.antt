@@ -40,7 +40,7 @@ vis_text login = codes "smtpd reports this login, in the form of --login-text, a
 
 -- what is noted of a login with capitals
 abbrev pub capital_text : List ℕ → List ℕ
-capital_text login = codes "the filter one-spelling refuses capitals, and lets only " ++ escaped (map lower login) ++ codes " send"
+capital_text login = codes "filter-one-spelling refuses capitals, and lets only " ++ escaped (map lower login) ++ codes " send"
 
 -- what is noted of a login, if anything is
 abbrev pub note_of : List ℕ → Option (List ℕ)

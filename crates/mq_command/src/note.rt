@@ -120,7 +120,7 @@ fn capital_text(alloc: Global, login: &[u8]) -> Result<String, AllocError>
 {
     let mut text = String::from_str(
         alloc,
-        "the filter one-spelling refuses capitals, and lets only ",
+        "filter-one-spelling refuses capitals, and lets only ",
     )?;
     let shown = lowered(alloc, login)?;
     text.push_str(EscapedText(shown.as_slice()).to_string(alloc)?.as_str())?;
@@ -129,7 +129,7 @@ fn capital_text(alloc: Global, login: &[u8]) -> Result<String, AllocError>
 }
 
 /// What is to be noted of a login that smtpd doesn't report so, if anything is: how it reports one
-/// with bytes that it encodes by vis(3), and which login the example filter `one-spelling` lets
+/// with bytes that it encodes by vis(3), and which login `filter-one-spelling` lets
 /// send of one with capitals.
 pub fn note_of(alloc: Global, login: &[u8]) -> Result<Option<String>, AllocError>
     ensures { IfOk result (λ note. option_map (λ text. string_bytes text) note

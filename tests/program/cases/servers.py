@@ -499,7 +499,7 @@ def wrong_words(world, checks):
 
 def notes(world, checks):
     """What is noted of a login is said once, however many servers are asked."""
-    noted = "mailquota: note: the filter one-spelling refuses capitals, and lets only alice send\n"
+    noted = "mailquota: note: filter-one-spelling refuses capitals, and lets only alice send\n"
     with Server(world) as first, Server(world) as second:
         for name, more in [
             ("limit", ["--from", "1", "--cap", "1"]),

@@ -696,7 +696,7 @@ def note_of(login):
         )
     if any(0x41 <= byte <= 0x5A for byte in login):
         return (
-            "mailquota: note: the filter one-spelling refuses capitals, and lets only"
+            "mailquota: note: filter-one-spelling refuses capitals, and lets only"
             f" {shown(login.lower())} send\n"
         )
     return ""
@@ -743,7 +743,7 @@ def notes(world, checks):
     with Server(world) as server:
         for login, lowered in [("Alice", "alice"), ("A\\x", "a\\x5cx"), ("ZaZ@B.org", "zaz@b.org")]:
             note = (
-                "mailquota: note: the filter one-spelling refuses capitals, and lets only"
+                "mailquota: note: filter-one-spelling refuses capitals, and lets only"
                 f" {lowered} send\n"
             )
             checks.equal(
