@@ -9,7 +9,7 @@ use Rattle.mq_store.specs.declared.days.ReservedDays.{ReservedDays}
 use Rattle.mq_nights.specs.declared.due.DueDays.{DueDays}
 use Rattle.mq_nights.specs.declared.due.DueDays.TheVariants.{Nothing, Differs, Before}
 
--- the day that it was three hours ago, and none before the first: so a day begins at 03:00
+-- the day that it was three hours ago, and none before the first: so a day begins three hours after midnight, mostly at 03:00
 abbrev pub night_of : Days → ℕ → ℕ
 night_of zone moment = day_of zone (max (moment - 10800) FIRST_MOMENT)
 

@@ -6,7 +6,7 @@ ghost use Rattle.mq_request.specs.Range.{IsAmount};
 ghost use Rattle.mq_ledger.specs.declared.entry.Entry.{Entry as AnyEntry};
 ghost use Rattle.mq_store.specs.Soundness.{book_in, HasKept, IsSound};
 ghost use Rattle.mq_store.specs.Taking.{book_of};
-ghost use Rattle.mq_nights.specs.Nights.{FindsDue, HasRenewed, IsUnderWay};
+ghost use Rattle.mq_nights.specs.Nights.{FindsDue, HasRenewed, IsUnderWay, RestsAnHour};
 
 use crate::lookout::{Lookout, Sight};
 use crate::parts::Parts;
@@ -190,8 +190,9 @@ impl<'a, C: Clock, G: Log, N: Alter + Drop, P: Parts<N> + Drop> Evening<'a, C, G
 
     /// The new ledger, where a renewal has begun, whether it is through or not.
     pub fn into_renewed(self) -> Option<RenewedLedger<N>>
-        ensures { MatchOption self.entry.renewal (result ≡ None)
+        ensures made { MatchOption self.entry.renewal (result ≡ None)
             (λ r. IfSome result (λ n. (n.ledger ≡ r.made) × (n.day ≡ r.day))) }
+        ensures night { IfSome result (λ n. n.night ≡ self.entry.lookout.done) }
     {
         let Evening {
             clock: _,
@@ -213,10 +214,30 @@ impl<'a, C: Clock, G: Log, N: Alter + Drop, P: Parts<N> + Drop> Evening<'a, C, G
         })
     }
 
+    /// It looks again in an hour, also in the same night.
+    fn rest_an_hour(&mut self) -> Piece
+        ensures rests { RestsAnHour self.new.lookout.done result }
+        ensures keep { self.new.lookout.keep ≡ self.old.lookout.keep }
+        ensures renewal { self.new.renewal ≡ self.old.renewal }
+    {
+        Piece::Later(self.lookout.rest_an_hour())
+    }
+
+    /// Gives a renewal up that failed. Another one may begin in an hour.
+    fn give_up(&mut self) -> Piece
+        ensures gone { self.new.renewal ≡ None }
+        ensures rests { RestsAnHour self.new.lookout.done result }
+    {
+        self.renewal = None;
+        self.parts.discard();
+        self.rest_an_hour()
+    }
+
     /// Begins a renewal of a ledger of this zone and default.
     fn begin(&mut self, zone: Zone, default: u32, day: u32) -> Piece
         requires { IsAmount default }
         ensures more { result ≡ Piece.Done → ⊥ }
+        ensures rests { self.new.renewal ≡ None → RestsAnHour self.new.lookout.done result }
         ensures lent { IfSome self.new.renewal (λ r. (r.made.zone ≡ zone)
             × (r.made.default ≡ default) × (r.day ≡ day)) }
         ensures begun { IfSome self.new.renewal (λ r. P.is_fresh → (H : List AnyEntry) →
@@ -225,7 +246,7 @@ impl<'a, C: Clock, G: Log, N: Alter + Drop, P: Parts<N> + Drop> Evening<'a, C, G
     {
         self.renewal = begin_renewal(self.alloc, self.log, &mut self.parts, zone, default, day);
         if self.renewal.is_none() {
-            return Piece::Later(self.lookout.rest_an_hour());
+            return self.rest_an_hour();
         }
         info!(self.log; "forgetting the days before {day}");
         self.began = Instant::now(self.clock).ok();
@@ -294,11 +315,7 @@ impl<'a, C: Clock, G: Log, N: Alter + Drop, P: Parts<N> + Drop, S: Alter> Chore<
         };
         match renew(self.log, renewal, ledger) {
             Ok(is_through) => piece_of(is_through),
-            Err(_) => {
-                self.renewal = None;
-                self.parts.discard();
-                Piece::Later(self.lookout.rest_an_hour())
-            }
+            Err(_) => self.give_up(),
         }
     }
 }

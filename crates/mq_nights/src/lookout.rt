@@ -5,7 +5,7 @@ ghost use Rattle.sqlite.specs.Held.{state};
 ghost use Rattle.mq_request.specs.Range.{IsMoment};
 ghost use Rattle.mq_store.specs.Soundness.{book_in, HasKept, IsSound};
 ghost use Rattle.mq_nights.specs.Due.{IsDue};
-ghost use Rattle.mq_nights.specs.Nights.{FindsDue};
+ghost use Rattle.mq_nights.specs.Nights.{FindsDue, Sees};
 
 use crate::due::{DueDays, night_of, what_is_due};
 use log::{Log, warn};
@@ -14,6 +14,7 @@ use mq_link::deadline_after;
 use mq_request::is_moment;
 use mq_store::SqlLedger;
 use sqlite::Alter;
+use std::fmt::Display;
 use std::rt::Clock;
 use std::time::{Duration, Instant, SystemTime, UNIX_EPOCH};
 
@@ -78,6 +79,37 @@ pub fn due_at<S: Alter>(
     let night = night_of(ledger.zone(), moment);
     let reserved = ledger.days()?;
     Ok(what_is_due(keep, night, reserved))
+}
+
+/// Logs why days stay at this moment, where clock and newest day differ or the ledger's store
+/// failed.
+fn log_due<S: Alter, G: Log>(
+    log: &G,
+    ledger: &SqlLedger<S>,
+    moment: u64,
+    due: &Result<DueDays, LedgerFault>,
+)
+    requires { IsMoment moment }
+{
+    match due {
+        Ok(DueDays::Differs { newest }) => {
+            let today = ledger.zone().day_at(moment);
+            warn!(
+                log;
+                "nothing is forgotten: it is day {today}, and something was reserved on day {newest} last"
+            );
+        }
+        Err(fault) => match ledger.cause() {
+            Some(cause) => log_failed_look(log, &cause),
+            None => log_failed_look(log, fault),
+        },
+        Ok(_) => {}
+    }
+}
+
+/// Logs why it isn't known which days are due.
+fn log_failed_look<G: Log, T: Display>(log: &G, why: &T) {
+    warn!(log; "days to be forgotten: {why}; next attempt in an hour");
 }
 
 /// Looks whether days of a ledger are due to be forgotten: at once, and then each night once.
@@ -169,24 +201,24 @@ impl<'a, C: Clock, G: Log> Lookout<'a, C, G> {
         if self.done == Some(night) {
             return Sight::Nothing(self.rest_to_quarter(night, moment));
         }
-        match due_at(ledger, self.keep, moment) {
+        let due = due_at(ledger, self.keep, moment);
+        log_due(self.log, ledger, moment, &due);
+        self.see(night, moment, due)
+    }
+
+    /// What is seen where this is due, at a moment of a night. The night has nothing left to do
+    /// then, but after a fault it looks again in an hour.
+    fn see(&mut self, night: u32, moment: u64, due: Result<DueDays, LedgerFault>) -> Sight
+        ensures keep { self.new.keep ≡ self.old.keep }
+        ensures sees { Sees night moment due self.new.done result }
+    {
+        match due {
             Ok(DueDays::Before(day)) => {
                 self.done = Some(night);
                 Sight::Before(day)
             }
-            Ok(DueDays::Nothing) => Sight::Nothing(self.rest_to_quarter(night, moment)),
-            Ok(DueDays::Differs { newest }) => {
-                let today = ledger.zone().day_at(moment);
-                warn!(
-                    self.log;
-                    "nothing is forgotten: it is day {today}, and something was reserved on day {newest} last"
-                );
-                Sight::Nothing(self.rest_to_quarter(night, moment))
-            }
-            Err(fault) => {
-                warn!(self.log; "days to be forgotten: {fault}; next attempt in an hour");
-                Sight::Nothing(self.rest_an_hour())
-            }
+            Ok(_) => Sight::Nothing(self.rest_to_quarter(night, moment)),
+            Err(_) => Sight::Nothing(self.rest_an_hour()),
         }
     }
 
@@ -219,7 +251,7 @@ impl<'a, C: Clock, G: Log> Lookout<'a, C, G> {
         match moment_of_clock(self.clock) {
             Some(moment) => self.look_at(ledger, moment),
             None => {
-                warn!(self.log; "days to be forgotten: no clock; next attempt in an hour");
+                log_failed_look(self.log, &"no clock");
                 Sight::Nothing(self.rest_an_hour())
             }
         }

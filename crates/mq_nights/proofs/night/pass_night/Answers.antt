@@ -36,7 +36,7 @@ returns-clause-renewed_lent g c = λ k s.
     night_on c.outcome_of.result _ _ (λ n p.
     let t = taken c.serve_connections-ended.new.chore.chore.renewal c.into_renewed.result n
     (λ r. (r.made.zone ≡ later.zone) × (r.made.default ≡ later.default) × (g.P.Parts.is_fresh → HasRenewed later r.day (state g.N.Store r.made.connection)))
-    (λ r n. (n.ledger ≡ r.made) × (n.day ≡ r.day)) p.1 (e.done k s fitted p.0) c.into_renewed.ensures in
+    (λ r n. (n.ledger ≡ r.made) × (n.day ≡ r.day)) p.1 (e.done k s fitted p.0) c.into_renewed.ensures.made in
     (subst (λ x. x.zone ≡ l.zone) (sym t.2.0) (t.1.0 ∙ e.leaves.same_zone), subst (λ x. x.default ≡ l.default) (sym t.2.0) (t.1.1 ∙ e.leaves.same_default)))
     c.outcome_of.ensures.renewed
 
@@ -52,7 +52,7 @@ returns-clause-remembered g c = λ k s.
     night_on c.outcome_of.result _ _ (λ n p fresh.
     let t = taken c.serve_connections-ended.new.chore.chore.renewal c.into_renewed.result n
     (λ r. (r.made.zone ≡ later.zone) × (r.made.default ≡ later.default) × (g.P.Parts.is_fresh → HasRenewed later r.day (state g.N.Store r.made.connection)))
-    (λ r n. (n.ledger ≡ r.made) × (n.day ≡ r.day)) p.1 (e.done k s fitted p.0) c.into_renewed.ensures in
+    (λ r n. (n.ledger ≡ r.made) × (n.day ≡ r.day)) p.1 (e.done k s fitted p.0) c.into_renewed.ensures.made in
     subst (λ x. HasKept (state g.N.Store x.connection) → IsRemembered l.zone l.default n.day old (state g.N.Store x.connection)) (sym t.2.0)
     (remembered_by l.zone m.zone l.default m.default t.0.day n.day old (state g.N.Store t.0.made.connection) e.leaves.same_zone e.leaves.same_default t.2.1 (t.1.2 fresh)))
     c.outcome_of.ensures.renewed
@@ -68,7 +68,7 @@ returns-clause-crash g c = λ k s.
     night_on c.outcome_of.result _ _ (λ n p fresh.
     let t = taken c.serve_connections-ended.new.chore.chore.renewal c.into_renewed.result n
     (λ r. (r.made.zone ≡ later.zone) × (r.made.default ≡ later.default) × (g.P.Parts.is_fresh → HasRenewed later r.day (state g.N.Store r.made.connection)))
-    (λ r n. (n.ledger ≡ r.made) × (n.day ≡ r.day)) p.1 (e.done k s fitted p.0) c.into_renewed.ensures in
+    (λ r n. (n.ledger ≡ r.made) × (n.day ≡ r.day)) p.1 (e.done k s fitted p.0) c.into_renewed.ensures.made in
     subst (λ x. HasCleanDisk (state g.N.Store x.connection) → (db : Trees) → (state g.N.Store x.connection).may_leave db → db ≡ (state g.N.Store x.connection).now.trees) (sym t.2.0)
     (t.1.2 fresh).whole)
     c.outcome_of.ensures.renewed
