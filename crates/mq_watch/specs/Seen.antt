@@ -47,7 +47,8 @@ abbrev pub IsFarDay : List ℕ → ℕ → ℕ → Notice → Type 0
 IsFarDay host day today (FarDay h d t) = (h.now ≡ host) × (d ≡ day) × (t ≡ today)
 IsFarDay host day today _ = ⊥
 
--- A host reserves for a moment: that is told, once an hour, exactly where its day is far from the server's.
+-- A host reserves for a moment: that is told only where its day is far from the server's and the moment half a day or more
+-- away, once an hour at most.
 pub record SeesDay (day : ℕ → ℕ) (host : List ℕ) (moment now : ℕ) (old new : NamedHosts) (seen : Option Notice) : Type 0 where
   pub off : IsOff day moment (nearest_moment now) → Names old host now (is_some seen) new
   pub on : (IsOff day moment (nearest_moment now) → ⊥) → (seen ≡ None) × (new ≡ old)
@@ -138,7 +139,7 @@ SeesSaid (Ok (Some usage)) login day old new seen = SeesUse usage login day old 
 SeesSaid (Ok None) login day old new seen = (seen ≡ None) × (new ≡ old)
 SeesSaid (Err fault) login day old new seen = (seen ≡ Some FailedQuestion) × (new ≡ old)
 
--- A login was granted so much on a day: the ledger is asked exactly where the login may near its limit.
+-- A login was granted so much on a day: the ledger is asked only where the login may near its limit.
 pub record SeesGranted (login : List ℕ) (day used : ℕ) (asked asked' : Option (List ReportedCall)) (old new : Nearing) (seen : Option Notice) : Type 0 where
   pub closed : (IsOpen (known old.logins login) day used → ⊥) → (seen ≡ None) × (new ≡ old) × (asked' ≡ asked)
   pub open_ : IsOpen (known old.logins login) day used → (said : Result (Option Usage) LedgerFault)

@@ -13,8 +13,8 @@ Asks (Some (One first)) address other now =
     ⊎ ((first ≢ address) × (((other ≡ Some first) × (now ≡ Some Several)) ⊎ ((other ≡ None) × (now ≡ Some (One first)))))
 Asks (Some Several) address other now = (other ≡ None) × (now ≡ Some Several)
 
--- A login is refused: it is counted, and is to be logged exactly where it was refused 1,000 times before in this hour; one that
--- was logged, or finds no memory, isn't counted.
+-- A login is refused: it is counted, and is to be logged where it was refused 1,000 times before in this hour; or it was logged,
+-- or finds no memory, and isn't counted.
 abbrev pub Counts : Option ℕ → Bool → Option ℕ → Type 0
 Counts before due now =
     ((now ≡ Some (unwrap_or before 0 + 1)) × (IsTrue due ↔ unwrap_or before 0 ≡ 1000)) ⊎ ((now ≡ before) × (due ≡ false))

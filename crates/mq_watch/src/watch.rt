@@ -49,6 +49,8 @@ impl<L: Ledger> Watch<L> {
             (day_of (L.book self.old.ledger).zone) self.old.peer result.answer now
             (L.told self.new.ledger)
             self.old.notes self.new.notes result.seen request.now }
+        ensures usage { L.has_kept self.new.ledger → L.is_sound self.old.ledger
+            → TellsUse (L.book self.new.ledger) request.now result.seen.main }
 
         // As `Ledger` says of `apply`.
         ensures in_range { IfOk result.answer IsReply }
@@ -89,6 +91,8 @@ impl<L: Ledger> Watch<L> {
         ensures seen { SeesPut (day_of (L.book self.old.ledger).zone) self.old.peer result.answer
             now (L.told self.new.ledger)
             self.old.notes self.new.notes result.seen request.now }
+        ensures usage { L.has_kept self.new.ledger → L.is_sound self.old.ledger
+            → TellsUse (L.book self.new.ledger) request.now result.seen.main }
 
         // As `Ledger` says of `apply`.
         ensures in_range { IfOk result.answer IsReply }

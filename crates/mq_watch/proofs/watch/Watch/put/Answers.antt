@@ -1,5 +1,5 @@
 use Rattle.std.proofs.Common.{Err, ap, ◌∙◌, inl, inr}
-use Rattle.mq_watch.proofs.Looks.{seen_put}
+use Rattle.mq_watch.proofs.Looks.{seen_put, tells_after}
 use Rattle.mq_watch.proofs.Questions.{calls_after, calls_before, calls_it}
 use Rattle.mq_watch.proofs.watch.Watch.put.Goals.{in-Ok, in-Err}
 use Rattle.mq_watch.proofs.watch.Watch.put.Goals as goal
@@ -23,4 +23,13 @@ returns-clause-seen g c = elim c.match-before.branch [
   | in-Err w ↦ seen_put _ _ _ _ _ _ _ _ _ _ _ _ _ _ c.look-seen.ensures.sees
       (rw w.self-is c.cap_before-before.ensures.asked.zone)
       (rw w.self-is c.cap_before-before.ensures.peer) (rw w.self-is c.cap_before-before.ensures.notes)
+]
+
+pub returns-clause-usage : goal.returns-clause-usage
+returns-clause-usage g c = λ kept sound. elim c.match-before.branch [
+  | in-Ok w ↦ tells_after _ _ _ _ c.look-seen.ensures.asked c.look-seen.ensures.usage kept (λ k.
+      let then = rw w.self-is at k in
+      rw w.self-is (w.apply-answer.ensures.sound then (c.cap_before-before.ensures.asked.sound (w.apply-answer.ensures.kept then) sound)))
+  | in-Err w ↦ tells_after _ _ _ _ c.look-seen.ensures.asked c.look-seen.ensures.usage kept (λ k.
+      rw w.self-is (c.cap_before-before.ensures.asked.sound (rw w.self-is at k) sound))
 ]
