@@ -12,10 +12,10 @@ ghost use Rattle.mq_command.specs.declared.probe.ProbeEnd.TheVariants.{Answered,
 
 use crate::auditing::print;
 use crate::describing::describe_ledger;
-use crate::fault::{ProgramFault, or_memory};
+use crate::fault::ProgramFault;
 use crate::host::Databases;
 use crate::last_night::last_night;
-use crate::store::{ledger_of_settings, let_go, log_cause, path_of};
+use crate::store::{ledger_of_settings, let_go, log_cause, path_of, unopened};
 use log::sink::Console;
 use log::{Log, Logged};
 use mq_command::{AskFault, ProbeEnd};
@@ -23,7 +23,7 @@ use mq_process::{Dialer, StatusArguments, ask_status, server_settings};
 use mq_settings::{Place, ServerSettings};
 use mq_store::SqlLedger;
 use sqlite::{Alter, FileFrom, FileStore, Start};
-use std::io::Write;
+use std::io::{ErrorKind, Write};
 use std::net::Net;
 use std::rt::{Clock, Files};
 use std::{fs, io};
@@ -134,7 +134,7 @@ fn describe_whole<R: Files + AllocGlobal, G: Log, S: Alter + Drop, W: Write>(
         → HasKept (state S.Store ledger.connection)) }
 {
     let mut ledger = ledger;
-    let bytes = bytes_of(rt, path)?;
+    let bytes = bytes_of(rt, log, path)?;
     match describe_ledger(rt.alloc(), &mut ledger, path, bytes, output) {
         Ok(()) => Ok(ledger),
         Err(fault) => {
@@ -144,10 +144,11 @@ fn describe_whole<R: Files + AllocGlobal, G: Log, S: Alter + Drop, W: Write>(
     }
 }
 
-/// How many bytes the file at a path has.
-fn bytes_of(rt: &impl Files, path: &str) -> Result<u64, ProgramFault> {
+/// How many bytes the file at a path has. The cause of `ProgramFault::Store` is logged.
+fn bytes_of<G: Log>(rt: &impl Files, log: &G, path: &str) -> Result<u64, ProgramFault> {
     match fs::metadata(rt, path) {
         Ok(found) => Ok(found.len()),
-        Err(cause) => Err(or_memory(&cause, ProgramFault::Store)),
+        Err(cause) if cause.kind() == ErrorKind::OutOfMemory => Err(ProgramFault::Memory),
+        Err(cause) => Err(unopened(log, path, cause)),
     }
 }
