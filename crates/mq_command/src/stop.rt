@@ -195,9 +195,9 @@ fn stopped_text(
 /// is the exit status, 0 or 1.
 ///
 /// A login that sent nothing on that day and the two before isn't stopped, unless it is known to be
-/// meant. No limit that it sets is above the one that the login had on that day. The server takes
-/// none below what is used on a later day: where the login used something later, that is its limit
-/// up to then, and `output` says so; after that day it is 0.
+/// meant. No limit that it sets is above the one that the login had on the limit's own first day.
+/// The server takes none below what is used on a later day: where the login used something later,
+/// that is its limit up to then, and `output` says so; after that day it is 0.
 ///
 /// Limits that were set from a day after the next stay in force from that day on. Where the login
 /// is stopped they are looked for, a day at a time, on up to 399 days and on the last day of all.

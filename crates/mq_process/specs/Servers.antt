@@ -4,7 +4,8 @@ use Rattle.std.specs.Net.Grammar.{IsSocketText}
 use Rattle.std.specs.declared.net.SocketAddr.{SocketAddr}
 
 -- The servers at these addresses were asked in turn, each once, in this order, whatever the ones before said. The status is
--- the greatest of the one so far, of what they said and, unless one is asked alone, of what came of printing which one it is.
+-- the greatest of the one so far, of what they said and, unless one is asked alone, of one more for each: what came of printing
+-- which one it is.
 pub data AsksEach {F : Type 0} (Asks : F → SocketAddr → ℕ → F → Type 0) (is_alone : Bool) (last : F) (status : ℕ)
     : F → List (List ℕ) → ℕ → Type 0 where
   no_server : AsksEach Asks is_alone last status last [] status

@@ -15,8 +15,8 @@ abbrev pub today_of : Option Zone → ℕ → ℕ
 today_of (Some zone) moment = day_of zone moment
 today_of None moment = moment / 86400
 
--- whether a day can be today: by the zone, or in some zone where none is known, since a zone's day is UTC's, the one before or
--- the one after
+-- whether a day can be today: by the zone, or where none is known in any whose clock is less than a day from UTC's: there it is
+-- UTC's day, the one before or the one after
 abbrev pub is_today : Option Zone → ℕ → ℕ → Bool
 is_today (Some zone) moment day = day == day_of zone moment
 is_today None moment day = nat_le day (moment / 86400 + 1) && nat_le (moment / 86400) (day + 1)

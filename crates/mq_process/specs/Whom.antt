@@ -16,8 +16,8 @@ Listens remaining address = (settings : ServerSettings) × ReadsServer remaining
 abbrev pub AsksAsFilter : {F : Type 0} → (F → Option (List ℕ)) → SocketAddr → Type 0
 AsksAsFilter remaining address = (settings : FilterSettings) × ReadsFilter remaining (Ok settings) × (address ≡ settings.server)
 
--- The address that settings have: of the server's settings that the words name, else of those in their place, else, where none
--- are there, of the filter's settings in theirs.
+-- The address that settings have: of the server's settings that the words name, else of those in their place, or of the
+-- filter's settings in theirs; it doesn't say which of the two go first.
 abbrev pub FindsAddress : {F X : Type 0} → (F → Option (List ℕ)) → Option X → Result SocketAddr ProcessFault → Type 0
 FindsAddress remaining (Some file) (Ok address) = Listens remaining address
 FindsAddress remaining None (Ok address) = Listens remaining address ⊎ AsksAsFilter remaining address

@@ -31,8 +31,8 @@ fn today_of(zone: Option<&Zone>, moment: u64) -> u32
     }
 }
 
-/// Whether a day can be today: by the zone, or in some zone where none is known, since these are a
-/// day apart at most.
+/// Whether a day can be today: by the zone, or where none is known in any whose clock is less than
+/// a day from UTC's.
 fn is_today(zone: Option<&Zone>, moment: u64, day: u32) -> bool
     requires { IsMoment moment }
     ensures { result ≡ is_today (option_map (λ z. z.now) zone.entry) moment day }

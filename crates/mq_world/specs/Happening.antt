@@ -99,7 +99,7 @@ pub record WasTakenTwice (site : Site) (start w : World) : Type 0 where
   pub written : times_written reply w ≡ 2
   pub once : requests w.ledger.history ≡ request ∷ []
 
--- a reply to another run, whose exchange had ended by then, came to a run's exchange and decided nothing
+-- a reply to another run, whose exchange has ended, came to a run's exchange and decided nothing
 pub record CameLate (site : Site) (start w : World) : Type 0 where
   pub run : Source
   pub other : Source
