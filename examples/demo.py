@@ -140,6 +140,9 @@ class Day:
 
 
 def play(day, frame):
+    # (the day, which is UTC's, is to last)
+    while time.time() % 86_400 > 86_340:
+        time.sleep(1)
     today = day.run("day", "--config", day.config)
     order = ["--host", "admin", "--login"]
     shown("init", day.run("init", "--config", day.config), f"made {day.folder}/ledger")

@@ -203,10 +203,18 @@ def wait_until(holds):
     return True
 
 
-def wait_past_midnight(offset=0):
-    """Waits, where the day at an offset ends within a minute, until the next one has begun."""
-    while (time.time() + 60 * offset) % 86_400 > 86_340:
+def wait_past_midnight(offset=0, seconds=60):
+    """Waits, where the day at an offset ends within so many seconds, until the next one has
+    begun."""
+    while (time.time() + 60 * offset) % 86_400 > 86_400 - seconds:
         time.sleep(1)
+
+
+def wait_past_a_night(offset=0, seconds=120):
+    """Waits, where at an offset midnight or 03:00 comes within so many seconds, until that is over:
+    from then on other days are to be forgotten."""
+    for begins in (offset, offset - 180):
+        wait_past_midnight(begins, seconds)
 
 
 def soon(what, enough):

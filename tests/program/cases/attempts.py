@@ -47,7 +47,7 @@ from ends import (
     read_all,
     refusal,
     unavailable,
-    wait_past_midnight,
+    wait_past_a_night,
     wait_until,
 )
 from rows import same_rows
@@ -58,14 +58,17 @@ FEW = 12
 
 
 def run(world, checks):
-    wait_past_midnight()
-    nights_until_the_next(world, checks)
-    a_switch_and_its_repair(world, checks)
-    a_forget_again(world, checks)
-    a_backup_again(world, checks)
-    an_older_file_again(world, checks)
-    orders_again(world, checks)
-    there_and_back(world, checks)
+    for case in (
+        nights_until_the_next,
+        a_switch_and_its_repair,
+        a_forget_again,
+        a_backup_again,
+        an_older_file_again,
+        orders_again,
+        there_and_back,
+    ):
+        wait_past_a_night()
+        case(world, checks)
 
 
 # ---- nights

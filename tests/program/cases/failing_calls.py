@@ -35,6 +35,7 @@ from ends import (
     of_store,
     refusal,
     unreached,
+    wait_past_a_night,
     wait_until,
 )
 
@@ -58,8 +59,10 @@ def run(world, checks):
     of_a_forget(world, checks, source)
     of_requests(world, checks, source)
     of_sockets(world, checks)
-    of_a_night(world, checks)
-    of_a_repair(world, checks)
+    # (the others have no day of the clock)
+    for case in (of_a_night, of_a_repair):
+        wait_past_a_night()
+        case(world, checks)
 
 
 def places(calls, name, first=0):

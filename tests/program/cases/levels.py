@@ -40,7 +40,7 @@ from cases.nights import (
     nightly,
     today,
 )
-from ends import SILENCE, Script, copied, of_store, wait_past_midnight, wait_until
+from ends import SILENCE, Script, copied, of_store, wait_past_a_night, wait_until
 from wire import frame, granted, identity, number, usage
 
 # what the lines of a level begin with
@@ -54,11 +54,14 @@ IS_FOLDER = "Is a directory (os error 21)"
 
 
 def run(world, checks):
-    wait_past_midnight()
-    nights_of_a_server(world, checks)
-    a_switch_and_its_repair(world, checks)
-    pauses_of_a_filter(world, checks)
-    moves_of_a_filter(world, checks)
+    for case in (
+        nights_of_a_server,
+        a_switch_and_its_repair,
+        pauses_of_a_filter,
+        moves_of_a_filter,
+    ):
+        wait_past_a_night()
+        case(world, checks)
 
 
 def of_level(level, lines):

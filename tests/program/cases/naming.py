@@ -32,6 +32,7 @@ from ends import (
     read_all,
     send_no_more,
     unreached,
+    wait_past_midnight,
     wait_until,
 )
 
@@ -53,13 +54,17 @@ def run(world, checks):
         near_by_the_day(world, checks, zone, settings)
         caps_of_the_day(world, checks, zone, settings)
         far_by_the_day(world, checks, zone, settings)
-    by_turns(world, checks)
-    over_ipv6(world, checks)
-    lines_of_one_reserve(world, checks)
-    at_once(world, checks)
-    refused_by_turns(world, checks)
-    bad_bytes_by_turns(world, checks)
-    causes_of_a_start(world, checks)
+    for case in (
+        by_turns,
+        over_ipv6,
+        lines_of_one_reserve,
+        at_once,
+        refused_by_turns,
+        bad_bytes_by_turns,
+        causes_of_a_start,
+    ):
+        wait_past_midnight()
+        case(world, checks)
 
 
 def today(zone):

@@ -9,6 +9,7 @@ docs/OPERATING.md has for it.
 """
 import collections
 import contextlib
+import copy
 import fcntl
 import itertools
 import os
@@ -41,7 +42,7 @@ from ends import (
     fault,
     ledger_settings,
     of_store,
-    wait_past_midnight,
+    wait_past_a_night,
     wait_until,
     without_time,
 )
@@ -66,35 +67,38 @@ CHANGES, KILLS = (18, 296, 77, 82, 87), 8
 
 
 def run(world, checks):
-    wait_past_midnight()
-    a_new_ledger(world, checks)
-    forgets_at_a_start(world, checks)
-    keeps_as_long_as_may_be(world, checks)
-    repairs(world, checks)
-    leaves_what_is_locked(world, checks)
-    leaves_no_earlier_name(world, checks)
-    counts_on(world, checks)
-    clocks_that_differ(world, checks)
-    differs_before_three(world, checks)
-    no_new_file(world, checks)
-    notes_of_nights(world, checks)
-    a_note_of_the_small_hours(world, checks)
-    tries_again_in_an_hour(world, checks)
-    takes_its_own_time(world, checks)
-    warns_once_over_a_night(world, checks)
-    a_switch_that_fails(world, checks)
-    catches_up(world, checks)
-    of_thousands(world, checks)
-    on_the_disk_in_order(world, checks)
-    beside_a_renewal(world, checks)
-    killed_at_a_rename(world, checks)
-    killed_at_a_change(world, checks)
-    wrong_clocks(world, checks)
-    at_other_times(world, checks)
-    ten_nights(world, checks)
-    random_histories(world, checks)
-    on_full_disks(world, checks)
-    a_slow_host(world, checks)
+    for case in (
+        a_new_ledger,
+        forgets_at_a_start,
+        keeps_as_long_as_may_be,
+        repairs,
+        leaves_what_is_locked,
+        leaves_no_earlier_name,
+        counts_on,
+        clocks_that_differ,
+        differs_before_three,
+        no_new_file,
+        notes_of_nights,
+        a_note_of_the_small_hours,
+        tries_again_in_an_hour,
+        takes_its_own_time,
+        warns_once_over_a_night,
+        a_switch_that_fails,
+        catches_up,
+        of_thousands,
+        on_the_disk_in_order,
+        beside_a_renewal,
+        killed_at_a_rename,
+        killed_at_a_change,
+        wrong_clocks,
+        at_other_times,
+        ten_nights,
+        random_histories,
+        on_full_disks,
+        a_slow_host,
+    ):
+        wait_past_a_night()
+        case(world, checks)
 
 
 def today():
@@ -936,9 +940,9 @@ def notes_of_nights(world, checks):
     """The note of a night has today's number by the ledger's zone, where that isn't UTC's, and as
     long a time as the log. One that can't be written is logged, and so is a log that can't be
     removed, which would stand beside the former ledger."""
+    # (twelve hours west and east have one midnight)
+    wait_past_a_night(720)
     offset = 720 if int(time.time()) % DAY >= DAY // 2 else -720
-    wait_past_midnight(offset)
-    wait_past_midnight(offset - 180)
     there = (int(time.time()) + 60 * offset) // DAY
     first = min((int(time.time()) + 60 * offset - 10_800) // DAY, there) - KEEP
     frames = [
@@ -1196,21 +1200,21 @@ def killed_at_a_change(world, checks, kills=KILLS):
     """The server is killed as it is about to write or cut a file, to rename or to remove one: at so
     many of these calls, or at each."""
     source = f"{world.folder}/to-be-killed"
-    filled(world, source)
+    books = filled(world, source)
     count = changes_of_a_night(world, source)
     places = range(count) if kills is None else {count * kill // kills for kill in range(kills)}
-    left = collections.Counter(killed_at(world, checks, source, place) for place in sorted(places))
+    left = collections.Counter(
+        killed_at(world, checks, source, books, place) for place in sorted(places)
+    )
     what = f"killed at {len(places)} of {count} changes of files: what was left"
     checks.holds(what, len(left) > 1, "files of several steps", sorted(left.items()))
 
 
-def killed_at(world, checks, source, place):
+def killed_at(world, checks, source, books, place):
     """The files that a server leaves which is killed at the change after so many. The next one
     answers as if nothing had been."""
     what, path = f"killed at change {place}", f"{world.folder}/killed{place}"
-    books = Books(0, DEFAULT)
-    for frame in requests(60):
-        books.serve(frame)
+    books = copy.deepcopy(books)
     limit = "killed", ",".join(map(str, [*CHANGES, place]))
     with nightly(world, copied(source, path), limit=limit) as server:
         client = Client(server)
@@ -1555,18 +1559,16 @@ def on_full_disks(world, checks):
         return
     # (so the requests that come meanwhile need no room)
     source = f"{world.folder}/roomy"
-    filled(world, source, FILLING)
-    ends = [on_a_full_disk(world, checks, source, room) for room in ROOMS]
+    books = filled(world, source, FILLING)
+    ends = [on_a_full_disk(world, checks, source, books, room) for room in ROOMS]
     good = 0 < sum(ends) < len(ends)
     checks.holds("nights on full disks: which forgot days", good, "some, and not all", ends)
 
 
-def on_a_full_disk(world, checks, source, room):
+def on_a_full_disk(world, checks, source, books, room):
     """Whether days are forgotten where a disk has so many bytes beyond the ledger."""
     size = os.path.getsize(source) + os.path.getsize(f"{source}-wal")
-    what, books = f"a disk with room for {room:,} bytes", Books(0, DEFAULT)
-    for frame in requests(FILLING):
-        books.serve(frame)
+    what, books = f"a disk with room for {room:,} bytes", copy.deepcopy(books)
     with Disk(world, size + room) as disk:
         path = copied(source, f"{disk.folder}/ledger")
         with nightly(world, path) as server:

@@ -8,7 +8,7 @@ import re
 import stat
 
 from cases.contrib import Machine, text_of
-from ends import TOP, Server, toml
+from ends import TOP, Server, toml, wait_past_midnight
 from pages import blocks_of
 from smtpd import Smtpd, clock
 
@@ -343,6 +343,7 @@ def quick_start(world, checks):
 def the_first_550(world, checks, machine, server, block):
     """The limit of 2, then three recipients, then the report, below whose columns a terminal has
     them; and that a stolen password sends nothing more."""
+    wait_past_midnight()
     sets, printed, *report = block
     came = machine.run([sets])
     checks.equal("README's first limit", came, (0, f"{printed}\n", ""))

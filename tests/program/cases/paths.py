@@ -42,7 +42,7 @@ from ends import (
     toml,
     unavailable,
     unreached,
-    wait_past_midnight,
+    wait_past_a_night,
     wait_until,
 )
 from rows import same_rows
@@ -67,19 +67,22 @@ COMMANDS = (
 
 
 def run(world, checks):
-    wait_past_midnight()
-    relative(world, checks)
-    settings_of_links(world, checks)
-    over_a_folder(world, checks)
-    over_a_link(world, checks)
-    links_beside_a_ledger(world, checks)
+    for case in (
+        relative,
+        settings_of_links,
+        over_a_folder,
+        over_a_link,
+        links_beside_a_ledger,
+    ):
+        wait_past_a_night()
+        case(world, checks)
     if os.geteuid():
         checks.skip("paths of another user", "who tests isn't root")
         return
     user = user_of(world)
-    folders_of_others(world, checks, user)
-    nights_of_others(world, checks, user)
-    settings_of_others(world, checks, user)
+    for case in (folders_of_others, nights_of_others, settings_of_others):
+        wait_past_a_night()
+        case(world, checks, user)
 
 
 # ---- relative paths

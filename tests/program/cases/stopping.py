@@ -885,7 +885,9 @@ def bad_words(world, checks):
 def today_alone(world, checks):
     """`stop` takes today alone, unless it is forced: by the settings' zone, or without them a day
     that is today in some zone."""
-    wait_past_midnight()
+    # (the midnights of all offsets below, in the order in which they come)
+    for minutes in (-1_439, 0, 1_439, 720):
+        wait_past_midnight(minutes)
     now = int(time.time())
     today = now // 86_400
     with Server(world, default=9) as server:

@@ -19,22 +19,26 @@ LINE = re.compile(r"\[(ERROR|WARN|INFO) +mq_watch::watched\] connection of (\S+)
 
 
 def run(world, checks):
-    near(world, checks)
-    near_at_each_cap(world, checks)
-    near_once(world, checks)
-    near_again_after_a_limit(world, checks)
-    near_after_a_start(world, checks)
-    lowered(world, checks)
-    limits_of_all_kinds(world, checks)
-    retires(world, checks)
-    clocks(world, checks)
-    two_lines_of_a_host(world, checks)
-    by_the_zone(world, checks)
-    two_peers_by_turns(world, checks)
-    names_as_long_as_any(world, checks)
-    limits_as_great_as_any(world, checks)
-    at_each_level(world, checks)
-    random_requests(world, checks)
+    for case in (
+        near,
+        near_at_each_cap,
+        near_once,
+        near_again_after_a_limit,
+        near_after_a_start,
+        lowered,
+        limits_of_all_kinds,
+        retires,
+        clocks,
+        two_lines_of_a_host,
+        by_the_zone,
+        two_peers_by_turns,
+        names_as_long_as_any,
+        limits_as_great_as_any,
+        at_each_level,
+        random_requests,
+    ):
+        wait_past_midnight()
+        case(world, checks)
 
 
 def today():
