@@ -222,7 +222,9 @@ def over_a_folder(world, checks):
         (0, True),
     )
     with nightly(world, f"{link}/ledger") as server:
-        good = wait_until(lambda: is_through(server) or warned_of(server))
+        good = wait_until(
+            lambda: is_through(server) and has_note(f"{link}/ledger") or warned_of(server)
+        )
         checks.equal(f"{what}: days leave, and warnings", (good, warned_of(server)), (True, []))
     checks.equal(
         f"{what}: files then, and the link",
@@ -308,7 +310,8 @@ def links_beside_a_ledger(world, checks):
         for end in ends:
             os.symlink(other, path + end)
         with nightly(world, path) as server:
-            wait_until(lambda: has_note(path) or warned_of(server))
+            # (where one is prevented, that is two lines)
+            wait_until(lambda: has_note(path) or len(warned_of(server)) > 1)
             came = is_through(server), warned_of(server)
         prevented = [
             of_store(f"{path}.old", "not a plain file").rstrip(),

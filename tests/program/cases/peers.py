@@ -516,6 +516,8 @@ def ends(world, checks):
             (0, wanted),
         )
     with Server(world, connections=0, words=["--endless"], log="info") as server:
+        # (it says that it listens before it answers)
+        server.ask(usage())
         wanted = [
             begun("memory"),
             (

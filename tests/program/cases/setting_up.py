@@ -338,6 +338,8 @@ def statuses(world, checks):
         config = world.new_file(
             toml({"listen": address, "store": "memory", "default": 3, "offset": 0})
         )
+        # (it says that it listens before it answers)
+        server.ask(ASKED)
         lines = server.log_lines()
         for words in (["--server", address], ["--config", config]):
             checks.equal(f"status {words[0]}", world.run("status", *words), answers(address))
