@@ -11,7 +11,7 @@ import time
 import wire
 from books import Books
 from cases.audits import audit
-from cases.contrib import Backup
+from cases.contrib import LATE, Backup
 from cases.damage import sound
 from cases.filters import PROCEED, SERVICE
 from cases.forgetting import forget, left_by_a_server
@@ -273,7 +273,7 @@ def a_backup_again(world, checks):
     with Server(world, words=["--create"], store=path, **settings) as server:
         server.ask(wire.reserve(1) + wire.settle(2))
         copies = 'cp -p "$1" "$2/ledger"'
-        changes = [(copies, f"if [ -e {slow} ]; then sleep 60; fi; {copies}")]
+        changes = [(copies, f"if [ -e {slow} ]; then sleep 60; fi; {copies}"), LATE]
         its = {"listen": server.address, "store": path, **settings}
         backup = Backup(world, server, path, its, changes)
         checks.equal(

@@ -227,6 +227,11 @@ def with_programs(folder):
     return {**os.environ, "PATH": f"{folder}/bin{os.pathsep}{os.environ['PATH']}"}
 
 
+# A script of a backup is changed so where others of the same server follow: what continues that,
+# should the script be killed, does so once they are over.
+LATE = ("$((seconds + 5))", "60")
+
+
 class Backup:
     """The script of a backup over this server's ledger, with a systemctl that says which process
     the server is."""
@@ -551,7 +556,7 @@ def backups_by_other_spellings(world, checks):
                 ),
             ),
         ):
-            backup = Backup(world, server, path, {})
+            backup = Backup(world, server, path, {}, [LATE])
             backup.words[3] = world.new_file(toml(settings) + text)
             # (the server, which is another user's, reads them where they are copied back)
             os.chmod(backup.words[3], 0o644)
@@ -636,6 +641,9 @@ def backups_that_fail(world, checks):
     with Server(world, words=["--create"], store=path, **settings) as server:
         its = {"listen": server.address, "store": path, **settings}
 
+        def changed(*changes):
+            return Backup(world, server, path, its, [*changes, LATE])
+
         def fails(what, backup, wanted, *words):
             came = backup.run(*words)
             checks.equal(f"a backup, {what}", (came[0], came[1], wanted in came[2]), (1, "", True))
@@ -647,25 +655,19 @@ def backups_that_fail(world, checks):
             shutil.rmtree(backup.folder)
 
         slow = ('cp -p "$1" "$2/ledger"', "sleep 60")
-        fails(
-            "that takes too long", Backup(world, server, path, its, [slow]), "no copy in 1 s", "1"
-        )
-        fails(
-            "that takes too long, by its own seconds",
-            Backup(world, server, path, its, [slow]),
-            "no copy in 2 s",
-        )
+        fails("that takes too long", changed(slow), "no copy in 1 s", "1")
+        fails("that takes too long, by its own seconds", changed(slow), "no copy in 2 s")
         goes_on = (
             'cp -p "$1" "$2/ledger"',
             f'kill -CONT {server.process.pid}; cp -p "$1" "$2/ledger"',
         )
         fails(
             "while which somebody continues the server",
-            Backup(world, server, path, its, [goes_on]),
+            changed(goes_on),
             "went on before the copy was whole",
         )
         unreadable = ('"$mailquota" status --config "$part/copy.toml"', "(exit 1)")
-        backup = Backup(world, server, path, its, [unreadable])
+        backup = changed(unreadable)
         checks.equal(
             "a backup, whose status can't be told: status, and nothing is left",
             (backup.run()[0], backup.left()),
@@ -674,13 +676,13 @@ def backups_that_fail(world, checks):
         shutil.rmtree(backup.folder)
         fails(
             "of a server with another default",
-            Backup(world, server, path, {**its, "default": 4}),
+            Backup(world, server, path, {**its, "default": 4}, [LATE]),
             "store has another default",
         )
         fails(
             "of a server that doesn't run", Backup(world, None, path, its), "the server doesn't run"
         )
-        backup = Backup(world, server, path, its)
+        backup = changed()
         os.mkdir(backup.into)
         came = backup.run()
         checks.equal(
@@ -689,12 +691,13 @@ def backups_that_fail(world, checks):
             ((1, "", f"mailquota-backup: {backup.into} is there already\n"), ["copy"]),
         )
         shutil.rmtree(backup.folder)
-        for number in (signal.SIGTERM, signal.SIGKILL):
-            interrupted(world, checks, server, Backup(world, server, path, its, [slow]), number)
+        interrupted(world, checks, server, changed(slow), signal.SIGTERM)
+        # (after it what continues the server is to do so soon)
+        interrupted(world, checks, server, Backup(world, server, path, its, [slow]), signal.SIGKILL)
         for number in (signal.SIGHUP, signal.SIGINT, signal.SIGTERM):
-            ended(checks, server, Backup(world, server, path, its, [slow]), number)
+            ended(checks, server, changed(slow), number)
         # (as one leaves it that SIGKILL ends)
-        backup = Backup(world, server, path, its)
+        backup = changed()
         os.mkdir(f"{backup.into}.part")
         shutil.copy(world.new_file("half of a ledger"), f"{backup.into}.part/ledger")
         checks.equal(
@@ -750,8 +753,7 @@ def how_long_the_server_stands(world, checks):
     """It stands still for the seconds that the script is given, and no longer."""
     path, settings = f"{world.folder}/stands", {"default": 3, "offset": 0}
     with Server(world, words=["--create"], store=path, **settings) as server:
-        # (what continues the server where the script is killed would do so in the next go)
-        changes = [('cp -p "$1" "$2/ledger"', "sleep 60"), ("$((seconds + 5))", "60")]
+        changes = [('cp -p "$1" "$2/ledger"', "sleep 60"), LATE]
         backup = Backup(
             world, server, path, {"listen": server.address, "store": path, **settings}, changes
         )
