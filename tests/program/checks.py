@@ -18,9 +18,10 @@ class Checks:
     def __init__(self):
         self.passed = 0
         self.failed = 0
+        self.skipped = 0
 
-    @staticmethod
-    def skip(what, why):
+    def skip(self, what, why):
+        self.skipped += 1
         print(f"--  {what}: not tried, {why}", flush=True)
 
     def equal(self, what, came, wanted):

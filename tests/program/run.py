@@ -205,7 +205,8 @@ def run_group(group, program, only=None):
                 f"{group}: it comes to its end", False, "no exception", traceback.format_exc()
             )
             traceback.print_exc()
-    print(f"-- {group}: {time.monotonic() - start:.1f} s")
+    skipped = f", {checks.skipped} not tried" if checks.skipped else ""
+    print(f"-- {group}: {time.monotonic() - start:.1f} s{skipped}")
     print(f"{checks.passed} passed, {checks.failed} failed", flush=True)
     return 1 if checks.failed or not checks.passed else 0
 
