@@ -24,10 +24,13 @@ from cases.filters import (
     answer,
     of_session,
 )
-from ends import SILENCE, Script, crowded_port, nobody_there
+from ends import SILENCE, Script, crowded_port, nobody_there, soon
 from wire import frame, granted, number, reserve
 
 BOB = b"0123456789abcdef"
+# milliseconds within which a script's answer comes on a machine that has much else to do, and for
+# which a silent one is waited
+ANSWERED = 1_500
 WHY = "[ERROR mq_link::logged] quota server ADDRESS: no answer in time"
 PAUSE = (
     "[WARN  mq_client::pauses] no answer in time: nothing is asked for 30 seconds, recipients are"
@@ -84,7 +87,9 @@ def scripted(world, text, script, **settings):
 def a_silent_server(world, checks):
     """Sixty recipients at once wait for one timeout in all."""
     text = INPUT + RCPT * 59
-    output, heard, log, took = scripted(world, text, [SILENCE] * 60, tries=1, timeout=300, pause=30)
+    (output, heard, log, took), _ = soon(
+        lambda: scripted(world, text, [SILENCE] * 60, tries=1, timeout=300, pause=30), 6
+    )
     checks.equal("a silent server, 60 recipients, a pause: the lines", output, answer(SERVICE) * 60)
     checks.equal("a silent server, 60 recipients, a pause: the frames", heard, [RESERVE])
     checks.equal("a silent server, 60 recipients, a pause: the log", log, [WHY, PAUSE])
@@ -109,7 +114,7 @@ def a_silent_server(world, checks):
         took,
     )
     output, heard, log, _ = scripted(
-        world, INPUT + RCPT, [SILENCE, b""], tries=2, timeout=300, pause=30
+        world, INPUT + RCPT, [SILENCE, b""], tries=2, timeout=ANSWERED, pause=30
     )
     checks.equal(
         "a silent server, then one that closes: the lines, the frames",
@@ -121,7 +126,7 @@ def a_silent_server(world, checks):
         INPUT + RCPT,
         [SILENCE, GRANTED, granted(2, 2, **MX1)],
         tries=2,
-        timeout=300,
+        timeout=ANSWERED,
         pause=30,
     )
     checks.equal(
@@ -133,9 +138,9 @@ def a_silent_server(world, checks):
 
 def a_connect_that_waits(world, checks):
     with crowded_port() as address:
-        start = time.monotonic()
-        came = world.filter(address, INPUT + RCPT * 9, tries=1, timeout=300, pause=30)
-        took = time.monotonic() - start
+        came, took = soon(
+            lambda: world.filter(address, INPUT + RCPT * 9, tries=1, timeout=300, pause=30), 2.7
+        )
     checks.equal(
         "a connect that waits, 10 recipients, a pause: the lines",
         came[:2],
@@ -193,7 +198,7 @@ def the_end_of_a_pause(world, checks):
     for what, second in [("30 seconds later", begins + 30), ("of a second before", begins - 1)]:
         text = INPUT + at(RCPT, begins + 29) + at(RCPT, second)
         output, heard, log, _ = scripted(
-            world, text, [SILENCE, granted(2, 1, **MX1)], tries=1, timeout=300, pause=30
+            world, text, [SILENCE, granted(2, 1, **MX1)], tries=1, timeout=ANSWERED, pause=30
         )
         checks.equal(
             f"a pause ends at a line {what}: the lines, the frames",
@@ -212,7 +217,7 @@ def two_pauses(world, checks):
     begins = 1_576_146_010
     text = INPUT + b"".join(at(RCPT, begins + later) for later in (1, 30, 31, 32, 60))
     output, heard, log, _ = scripted(
-        world, text, [SILENCE, SILENCE, granted(3, 1, **MX1)], tries=1, timeout=300, pause=30
+        world, text, [SILENCE, SILENCE, granted(3, 1, **MX1)], tries=1, timeout=ANSWERED, pause=30
     )
     checks.equal(
         "two pauses, and an answer: the lines, the frames",
@@ -229,7 +234,7 @@ def two_pauses(world, checks):
         text,
         [SILENCE, SILENCE, granted(3, 1, **MX1)],
         tries=1,
-        timeout=300,
+        timeout=ANSWERED,
         pause=30,
         log="info",
     )[2]
@@ -245,10 +250,10 @@ def two_pauses(world, checks):
         text,
         [SILENCE, granted(2, 1, **MX1), SILENCE, granted(4, 2, **MX1)],
         tries=1,
-        timeout=300,
+        timeout=ANSWERED,
         pause=30,
     )
-    # (that the second outage begins and ends within a second of the first has no line of its own)
+    # (an outage that begins within a second of the one before has no line of its own)
     of_pauses = [line for line in log if "pauses]" in line]
     checks.equal(
         "two outages: what the log has of their pauses",
@@ -262,7 +267,7 @@ def a_pause_of_many(world, checks):
     begins = 1_576_146_010
     text = INPUT + RCPT * 2_000 + at(RCPT, begins + 30)
     script = [SILENCE, granted(2, 1, **MX1)]
-    log = scripted(world, text, script, tries=1, timeout=300, pause=30)[2]
+    log = scripted(world, text, script, tries=1, timeout=ANSWERED, pause=30)[2]
     checks.equal("a pause of 2,000 recipients: the last line", log[-1:], [AGAIN + "2000"])
 
 
@@ -271,7 +276,7 @@ def full_after_a_pause(world, checks):
     begins = 1_576_146_010
     text = INPUT + at(RCPT, begins + 1) + at(RCPT, begins + 30)
     output, heard, log, _ = scripted(
-        world, text, [SILENCE, numbered(FULL, 2)], tries=1, timeout=300, pause=30
+        world, text, [SILENCE, numbered(FULL, 2)], tries=1, timeout=ANSWERED, pause=30
     )
     checks.equal(
         "a pause, and a 550: the lines, the frames",
@@ -297,7 +302,7 @@ def closings(world, checks):
     bob = of_session(AUTH.replace(b"alice", b"bob") + BEGIN, BOB)
     text = INPUT + bob + of_session(RCPT, BOB) + COMMIT
     output, heard, log, _ = scripted(
-        world, text, [GRANTED, SILENCE, numbered(SETTLED, 3)], tries=1, timeout=300, pause=30
+        world, text, [GRANTED, SILENCE, numbered(SETTLED, 3)], tries=1, timeout=ANSWERED, pause=30
     )
     checks.equal(
         "a commit in a pause: the lines", output, answer(PROCEED) + answer(SERVICE, session=BOB)
@@ -312,7 +317,7 @@ def closings(world, checks):
         text,
         [GRANTED, SILENCE, numbered(SETTLED, 3)],
         tries=1,
-        timeout=300,
+        timeout=ANSWERED,
         pause=30,
         log="info",
     )[2]
@@ -326,7 +331,7 @@ def closings(world, checks):
         [unanswered],
     )
     output, heard, log, _ = scripted(
-        world, text, [GRANTED, SILENCE, b"", b""], tries=1, timeout=300, pause=30
+        world, text, [GRANTED, SILENCE, b"", b""], tries=1, timeout=ANSWERED, pause=30
     )
     checks.equal(
         "a commit in a pause is sent at the end alone: the kinds of the frames",
@@ -338,7 +343,7 @@ def closings(world, checks):
         INPUT + bob + COMMIT + at(of_session(RCPT, BOB), 1_576_146_011),
         [GRANTED, SILENCE, SETTLED],
         tries=1,
-        timeout=300,
+        timeout=ANSWERED,
         pause=30,
     )
     checks.equal(
@@ -405,7 +410,13 @@ def a_full_login_in_a_pause(world, checks):
         + at(bobs, begins + 30)
     )
     output, heard, log, _ = scripted(
-        world, text, [FULL, SILENCE, granted(3, 1, **MX1)], tries=1, timeout=300, pause=30, hold=60
+        world,
+        text,
+        [FULL, SILENCE, granted(3, 1, **MX1)],
+        tries=1,
+        timeout=ANSWERED,
+        pause=30,
+        hold=60,
     )
     refused, granted_ = answer(SERVICE, session=BOB), answer(PROCEED, session=BOB)
     checks.equal(

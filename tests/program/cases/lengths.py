@@ -5,6 +5,7 @@ What is expected follows from the rules: a line that is passed over changes noth
 settings neither, and how bytes are cut into pieces means nothing.
 """
 import contextlib
+import itertools
 import os
 import socket
 import subprocess
@@ -372,6 +373,17 @@ def pieces_to_a_filter(world, checks):
             )
 
 
+def cuts(length, size):
+    """Where a reply of this length is cut into pieces of a size. Small ones are some hundred bytes
+    at its begin, about the lengths at which a buffer grows, and at its end: a command waits for all
+    of it no longer than 2 s."""
+    places = range(0, length, size)
+    if size < 500:
+        near = [0, *(1 << power for power in range(9, 15)), length]
+        places = [it for it in places if any(abs(it - place) < 200 for place in near)]
+    return [*places, length]
+
+
 def pieces_of_a_reply(world, checks):
     """A full page of logins of 255 bytes reaches `report` in pieces."""
     logins = long_logins(100)
@@ -391,8 +403,8 @@ def pieces_of_a_reply(world, checks):
                     peer.setsockopt(socket.IPPROTO_TCP, socket.TCP_NODELAY, 1)
                     while peer.recv(65_536):
                         pass
-                    for start in range(0, len(reply), size):
-                        peer.sendall(reply[start : start + size])
+                    for start, end in itertools.pairwise(cuts(len(reply), size)):
+                        peer.sendall(reply[start:end])
                         if size > 500:
                             time.sleep(0.001)
             output, errors = process.communicate()
