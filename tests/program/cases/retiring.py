@@ -461,7 +461,8 @@ def killed_within_a_retire(world, checks):
         with Server(world, store=path, default=books.default) as server:
             asking = threading.Thread(target=answers, args=(server, retire), daemon=True)
             asking.start()
-            time.sleep(2 * took * turn / KILLS_OF_A_RETIRE)
+            # (most within the time that it took, and some long after, should it take longer now)
+            time.sleep(6 * took * (turn / KILLS_OF_A_RETIRE) ** 2)
             server.process.kill()
             server.status()
             asking.join()
