@@ -157,13 +157,15 @@ def installed(world, checks):
             dict(sorted(found.items())),
             INSTALLED,
         )
-        # (INSTALL and OPERATING speak of the package)
+        # (INSTALL and OPERATING speak of the package, and smtpd isn't of it)
         own = [it for it in found if it != "sbin/mailquota" and not it.endswith(".md")]
         texts = {it: open(f"{tree}{prefix}/{it}", encoding="utf-8").read() for it in own}
         wrong = [
             it
             for it, text in texts.items()
-            if re.search(r'(?<!\w)/usr/(sbin|libexec|share/doc)/|proc-exec "filter-', text)
+            if re.search(
+                r'(?<!\w)/usr/(sbin/mailquota|libexec/|share/doc/)|proc-exec "filter-', text
+            )
         ]
         checks.equal(
             f"make install PREFIX={prefix}: files that name the package's folders", wrong, []
