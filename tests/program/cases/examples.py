@@ -164,7 +164,7 @@ def installed(world, checks):
             it
             for it, text in texts.items()
             if re.search(
-                r'(?<!\w)/usr/(sbin/mailquota|libexec/|share/doc/)|proc-exec "filter-', text
+                r'(?<!\w)/usr/(sbin/(?!smtpd )|libexec/|share/doc/)|proc-exec "filter-', text
             )
         ]
         checks.equal(

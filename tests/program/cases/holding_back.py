@@ -31,6 +31,8 @@ BOB = b"0123456789abcdef"
 # milliseconds within which a script's answer comes on a machine that has much else to do, and for
 # which a silent one is waited
 ANSWERED = 1_500
+# of a filter that pauses after its first try of a request
+ONE_TRY = {"tries": 1, "timeout": ANSWERED, "pause": 30}
 WHY = "[ERROR mq_link::logged] quota server ADDRESS: no answer in time"
 PAUSE = (
     "[WARN  mq_client::pauses] no answer in time: nothing is asked for 30 seconds, recipients are"
@@ -197,9 +199,7 @@ def the_end_of_a_pause(world, checks):
     begins = 1_576_146_010
     for what, second in [("30 seconds later", begins + 30), ("of a second before", begins - 1)]:
         text = INPUT + at(RCPT, begins + 29) + at(RCPT, second)
-        output, heard, log, _ = scripted(
-            world, text, [SILENCE, granted(2, 1, **MX1)], tries=1, timeout=ANSWERED, pause=30
-        )
+        output, heard, log, _ = scripted(world, text, [SILENCE, granted(2, 1, **MX1)], **ONE_TRY)
         checks.equal(
             f"a pause ends at a line {what}: the lines, the frames",
             (output, heard),
@@ -217,7 +217,7 @@ def two_pauses(world, checks):
     begins = 1_576_146_010
     text = INPUT + b"".join(at(RCPT, begins + later) for later in (1, 30, 31, 32, 60))
     output, heard, log, _ = scripted(
-        world, text, [SILENCE, SILENCE, granted(3, 1, **MX1)], tries=1, timeout=ANSWERED, pause=30
+        world, text, [SILENCE, SILENCE, granted(3, 1, **MX1)], **ONE_TRY
     )
     checks.equal(
         "two pauses, and an answer: the lines, the frames",
@@ -233,9 +233,7 @@ def two_pauses(world, checks):
         world,
         text,
         [SILENCE, SILENCE, granted(3, 1, **MX1)],
-        tries=1,
-        timeout=ANSWERED,
-        pause=30,
+        **ONE_TRY,
         log="info",
     )[2]
     later = PAUSE.replace("WARN ", "INFO ").removesuffix(", recipients are answered 451")
@@ -249,9 +247,7 @@ def two_pauses(world, checks):
         world,
         text,
         [SILENCE, granted(2, 1, **MX1), SILENCE, granted(4, 2, **MX1)],
-        tries=1,
-        timeout=ANSWERED,
-        pause=30,
+        **ONE_TRY,
     )
     # (an outage that begins within a second of the one before has no line of its own)
     of_pauses = [line for line in log if "pauses]" in line]
@@ -267,7 +263,7 @@ def a_pause_of_many(world, checks):
     begins = 1_576_146_010
     text = INPUT + RCPT * 2_000 + at(RCPT, begins + 30)
     script = [SILENCE, granted(2, 1, **MX1)]
-    log = scripted(world, text, script, tries=1, timeout=ANSWERED, pause=30)[2]
+    log = scripted(world, text, script, **ONE_TRY)[2]
     checks.equal("a pause of 2,000 recipients: the last line", log[-1:], [AGAIN + "2000"])
 
 
@@ -275,9 +271,7 @@ def full_after_a_pause(world, checks):
     """An answer by the limit ends a pause as any other does."""
     begins = 1_576_146_010
     text = INPUT + at(RCPT, begins + 1) + at(RCPT, begins + 30)
-    output, heard, log, _ = scripted(
-        world, text, [SILENCE, numbered(FULL, 2)], tries=1, timeout=ANSWERED, pause=30
-    )
+    output, heard, log, _ = scripted(world, text, [SILENCE, numbered(FULL, 2)], **ONE_TRY)
     checks.equal(
         "a pause, and a 550: the lines, the frames",
         (output, heard),
@@ -302,7 +296,7 @@ def closings(world, checks):
     bob = of_session(AUTH.replace(b"alice", b"bob") + BEGIN, BOB)
     text = INPUT + bob + of_session(RCPT, BOB) + COMMIT
     output, heard, log, _ = scripted(
-        world, text, [GRANTED, SILENCE, numbered(SETTLED, 3)], tries=1, timeout=ANSWERED, pause=30
+        world, text, [GRANTED, SILENCE, numbered(SETTLED, 3)], **ONE_TRY
     )
     checks.equal(
         "a commit in a pause: the lines", output, answer(PROCEED) + answer(SERVICE, session=BOB)
@@ -316,9 +310,7 @@ def closings(world, checks):
         world,
         text,
         [GRANTED, SILENCE, numbered(SETTLED, 3)],
-        tries=1,
-        timeout=ANSWERED,
-        pause=30,
+        **ONE_TRY,
         log="info",
     )[2]
     unanswered = (
@@ -330,9 +322,7 @@ def closings(world, checks):
         [line for line in log if "tries]" in line],
         [unanswered],
     )
-    output, heard, log, _ = scripted(
-        world, text, [GRANTED, SILENCE, b"", b""], tries=1, timeout=ANSWERED, pause=30
-    )
+    output, heard, log, _ = scripted(world, text, [GRANTED, SILENCE, b"", b""], **ONE_TRY)
     checks.equal(
         "a commit in a pause is sent at the end alone: the kinds of the frames",
         [it[2] for it in heard],
@@ -342,9 +332,7 @@ def closings(world, checks):
         world,
         INPUT + bob + COMMIT + at(of_session(RCPT, BOB), 1_576_146_011),
         [GRANTED, SILENCE, SETTLED],
-        tries=1,
-        timeout=ANSWERED,
-        pause=30,
+        **ONE_TRY,
     )
     checks.equal(
         "a commit without an answer in time: the lines",
@@ -413,9 +401,7 @@ def a_full_login_in_a_pause(world, checks):
         world,
         text,
         [FULL, SILENCE, granted(3, 1, **MX1)],
-        tries=1,
-        timeout=ANSWERED,
-        pause=30,
+        **ONE_TRY,
         hold=60,
     )
     refused, granted_ = answer(SERVICE, session=BOB), answer(PROCEED, session=BOB)

@@ -25,7 +25,7 @@ from cases.filters import (
     holds_only,
     of_session,
 )
-from cases.holding_back import AGAIN, ANSWERED, BOB, WHY, at
+from cases.holding_back import AGAIN, BOB, ONE_TRY, WHY, at
 from cases.nights import (
     DAY,
     DEFAULT,
@@ -188,7 +188,7 @@ def pauses_of_a_filter(world, checks):
     for level in LEVELS:
         with Script([SILENCE, SILENCE, granted(3, 1, **MX1), released]) as server:
             status, output, errors = world.filter(
-                server.address, text + RESET_LINE, tries=1, timeout=ANSWERED, pause=30, log=level
+                server.address, text + RESET_LINE, **ONE_TRY, log=level
             )
         checks.equal(
             f'two pauses with log = "{level}": the answers',

@@ -224,6 +224,12 @@ def refused_inits(world, checks):
         checks.equal("the server goes on", server.ask(reserve(1))[2], 0x81)
 
 
+def whose(folder):
+    """The owner, the group and the mode of each file in a folder."""
+    found = {it: os.stat(f"{folder}/{it}") for it in os.listdir(folder)}
+    return {it: (its.st_uid, its.st_gid, stat.S_IMODE(its.st_mode)) for it, its in found.items()}
+
+
 def inits_by_root(world, checks):
     """What root makes belongs to its folder's owner, with which the server runs; what others make
     is theirs, whosever the folder is."""
@@ -264,17 +270,9 @@ def inits_by_root(world, checks):
             (run.returncode, run.stdout, run.stderr),
             (0, f"made {path}\n", ""),
         )
-        found = {
-            it: (
-                os.stat(f"{folder}/{it}").st_uid,
-                os.stat(f"{folder}/{it}").st_gid,
-                stat.S_IMODE(os.stat(f"{folder}/{it}").st_mode),
-            )
-            for it in os.listdir(folder)
-        }
         checks.equal(
             f"a ledger made {name}: whose it is, and its log",
-            found,
+            whose(folder),
             {it: (*is_of, 0o600) for it in ("ledger", "ledger-wal")},
         )
 
@@ -297,11 +295,8 @@ def inits_through_a_link(world, checks):
     )
     checks.equal(
         "a ledger made by root through a link: whose it is, and its log",
-        {
-            it: (os.stat(f"{folder}/{it}").st_uid, os.stat(f"{folder}/{it}").st_gid)
-            for it in os.listdir(folder)
-        },
-        {it: owner for it in ("ledger", "ledger-wal")},
+        whose(folder),
+        {it: (*owner, 0o600) for it in ("ledger", "ledger-wal")},
     )
 
 
@@ -321,13 +316,9 @@ def forgets_by_root(world, checks):
         world.run("forget", "--config", config, "--before", "1", "--into", f"{folder}/new"),
         (0, b"kept answers=0 of 0, limits=0\n", ""),
     )
-    found = {}
-    for it in os.listdir(folder):
-        its = os.stat(f"{folder}/{it}")
-        found[it] = its.st_uid, its.st_gid, stat.S_IMODE(its.st_mode)
     checks.equal(
         "a new file that root makes without old days: whose each file is",
-        found,
+        whose(folder),
         {it: (*owner, 0o600) for it in ("ledger", "ledger-wal", "new", "new-wal")},
     )
 
