@@ -13,7 +13,7 @@ MANDIR = $(PREFIX)/share/man
 DOCDIR = $(PREFIX)/share/doc/mailquota
 CONFDIR = /etc/mailquota
 
-.PHONY: all build demo try check edits bodies program-tests refusals smtpd takeover deb dist package-tests install clean
+.PHONY: all build demo check edits bodies program-tests refusals smtpd takeover deb dist package-tests install clean
 
 all: build
 
@@ -21,13 +21,10 @@ all: build
 build:
 	@RT=$(RT) python3 scripts/build.py
 
-# A day over loopback: a server over a file, the filters of two hosts, a limit, a kill, a stop. It ends by itself.
-demo: build
-	@python3 examples/demo.py $(PROGRAM) examples/one-reserve.hex
-
-# The same day, in minutes: of a program that is built without proofs. It is for trying alone, so it has another place and isn't installed.
-try:
-	@RT=$(RT) python3 scripts/try.py
+# A day over loopback: a server over a file, the filters of two hosts, a limit, a kill, a stop. It ends by itself. Where `make build`
+# made no program of the tree as it is, it is of one that is built without proofs, in minutes, and lies elsewhere.
+demo:
+	@RT=$(RT) python3 scripts/demo.py
 
 # docs/GATE.md says what it does. What passed on this machine isn't tried again, but with ANEW=1. The last line is 'N passed, M failed'.
 ANEW ?=

@@ -1,10 +1,11 @@
 #!/usr/bin/env python3
 """Proves and compiles the crates that the program stands on.
 
-It says with which crate it begins, which is done, of how many, and how long that took; what rattle
-says of a crate stands in crates/NAME/out/build.log. A crate is proved again where its files, those
-of a crate below it, or the kit have changed; where nothing has, it does nothing. RT in the
-environment is the command rt, whose kit proves.
+It says with which crate it begins, which is done, of how many, how long that took, and how long the
+others take, by gate/minutes.txt and how quick it was so far; at a terminal its last line says so all
+the time. What rattle says of a crate stands in crates/NAME/out/build.log. A crate is proved again
+where its files, those of a crate below it, or the kit have changed; where nothing has, it does
+nothing. RT in the environment is the command rt, whose kit proves.
 
 A crate is proved over the statements of those below it, without their proofs, as rt ci has it: a
 check then loads a fraction of them, and any two crates can be proved at once. These libraries stand
@@ -20,6 +21,7 @@ import argparse
 import hashlib
 import os
 import re
+import selectors
 import shutil
 import signal
 import subprocess
@@ -28,22 +30,29 @@ import time
 
 sys.dont_write_bytecode = True
 
-from kit import KIT, PARTS, RATTLE, RT, below as all_below, rows_of, words_of
+from kit import (
+    KIT,
+    PARTS,
+    RATTLE,
+    TOP,
+    below as all_below,
+    kit_version,
+    rows_of,
+    without_kit,
+    words_of,
+)
+from schedule import Schedule, Work, minutes_of
+from version import add_to_version, word_of
 
-TOP = os.path.dirname(os.path.dirname(os.path.realpath(__file__)))
 PROGRAM = "mailquota"
 BINARY = f"{TOP}/crates/{PROGRAM}/out/{PROGRAM}"
+MINUTES = f"{TOP}/gate/minutes.txt"
 # the memory that a check is given, in kilobytes
 MEMORY = 4_000_000
 # How many jobs prove a crate, where not one for each processor along the longest chain, and one
 # elsewhere: each job does part of the work of the others again, and while other crates are ready,
 # two or three jobs of each are better than four of one.
 JOBS = {"mq_request": 2, "mq_frame": 2, "mq_ledger": 2, "mq_rows": 2, "mq_tables": 2, "mq_store": 3}
-
-
-# The file of the program's crate with the version that it prints, and the version there.
-VERSION_FILE = "src/version.rt"
-VERSION = re.compile(r'(?<=: &str = ")([^"]+)(?=")')
 
 
 def folder(name):
@@ -69,31 +78,6 @@ def stamp(name):
     return f"{folder(name)}/out/build/done"
 
 
-def commit():
-    """The commit that this tree is of: by git, or by the file COMMIT of an archive that `make dist`
-    made. None where neither is there, and where a file is changed."""
-    if not os.path.exists(f"{TOP}/.git"):
-        if not os.path.exists(f"{TOP}/COMMIT"):
-            return None
-        with open(f"{TOP}/COMMIT", encoding="ascii") as file:
-            return file.read().strip()
-    git = lambda *words: subprocess.run(
-        ["git", "-C", TOP, *words],
-        stdin=subprocess.DEVNULL,
-        capture_output=True,
-        text=True,
-        check=True,
-    ).stdout.strip()
-    try:
-        return (
-            None
-            if git("status", "--porcelain", "--untracked-files=no")
-            else git("rev-parse", "HEAD")
-        )
-    except (FileNotFoundError, subprocess.CalledProcessError):
-        return None
-
-
 def commit_file():
     """A file with the first twelve digits of the commit of the build that is going on; it is empty
     where there is none."""
@@ -112,12 +96,7 @@ def source_of(name):
     with open(commit_file(), encoding="ascii") as file:
         of = file.read()
     if of:
-        with open(f"{copy}/{VERSION_FILE}", "r+", encoding="utf-8") as file:
-            text, count = VERSION.subn(rf"\1 ({of})", file.read())
-            if count != 1:
-                raise ValueError(f"{VERSION_FILE} has {count} versions")
-            file.seek(0)
-            file.write(text)
+        add_to_version(copy, of)
     return copy
 
 
@@ -137,16 +116,10 @@ def files_of(crate):
             yield from (f"{at}/{it}" for it in sorted(names))
 
 
-def write_sums(rows, known):
-    """Writes of each crate the sum of all that its build reads of it, the kit and its line of
-    crates.txt, where that changed. Where what was made of it is gone, it isn't built."""
-    kit = subprocess.run(
-        [RT, "version"], stdin=subprocess.DEVNULL, capture_output=True, check=True
-    ).stdout
-    of = (commit() or "")[:12]
-    os.makedirs(os.path.dirname(commit_file()), exist_ok=True)
-    with open(commit_file(), "w", encoding="ascii") as file:
-        file.write(of)
+def sums_of(rows, known, of):
+    """Of each crate the sum of all that its build reads of it, the kit and its line of crates.txt,
+    and of the program's also the commit."""
+    sums, kit = {}, kit_version()
     for name in known:
         total = hashlib.sha256(kit + repr(rows[name]).encode())
         if name == PROGRAM:
@@ -157,22 +130,60 @@ def write_sums(rows, known):
                     f"{os.path.relpath(path, TOP)}\n".encode()
                     + hashlib.sha256(file.read()).digest()
                 )
+        sums[name] = total.hexdigest()
+    return sums
+
+
+def write_sums(rows, known):
+    """Writes the sum of each crate where that changed. Where what was made of it is gone, it isn't
+    built."""
+    of = word_of(TOP)
+    os.makedirs(os.path.dirname(commit_file()), exist_ok=True)
+    with open(commit_file(), "w", encoding="ascii") as file:
+        file.write(of)
+    for name, total in sums_of(rows, known, of).items():
         os.makedirs(os.path.dirname(sum_file(name)), exist_ok=True)
         if not os.path.exists(made(name)) and os.path.exists(stamp(name)):
             os.remove(stamp(name))
         with open(sum_file(name), "a+", encoding="utf-8") as file:
             file.seek(0)
-            if file.read() != total.hexdigest():
+            if file.read() != total:
                 file.truncate(0)
-                file.write(total.hexdigest())
+                file.write(total)
+
+
+def is_built(rows, known):
+    """Whether the program is there as a build would make it of the tree as it is."""
+    if not all(
+        os.path.exists(it) for name in known for it in (made(name), stamp(name), sum_file(name))
+    ):
+        return False
+    for name, total in sums_of(rows, known, word_of(TOP)).items():
+        with open(sum_file(name), encoding="utf-8") as file:
+            if file.read() != total:
+                return False
+    # (a crate is built after its sum is written, and after those below it)
+    age = {name: os.stat(stamp(name)).st_mtime_ns for name in known}
+    return all(
+        age[name] >= max([os.stat(sum_file(name)).st_mtime_ns, *map(age.get, known[name])])
+        for name in known
+    )
+
+
+def costs(below):
+    """The minutes that each crate takes by gate/minutes.txt; one that isn't there yet takes as many
+    as the others do on average."""
+    known = minutes_of(MINUTES)
+    mean = sum(known.values()) / len(known) if known else 1
+    return {name: max(known.get(name, mean), 0.1) for name in below}
 
 
 def lengths_above(below):
-    """How much text there is from each crate up to the program, along the longest way."""
-    sizes = {name: sum(map(os.path.getsize, files_of(name))) for name in below}
+    """How many minutes there are from each crate up to the program, along the longest way."""
+    minutes = costs(below)
 
     def longest(name):
-        return sizes[name] + max((longest(it) for it in below if name in below[it]), default=0)
+        return minutes[name] + max((longest(it) for it in below if name in below[it]), default=0)
 
     return {name: longest(name) for name in below}
 
@@ -193,21 +204,32 @@ def at_once():
     return max(1, min(len(os.sched_getaffinity(0)), free // MEMORY))
 
 
-def makefile_of(rows, below, lanes):
-    """Which crate waits for which. What the chain waits for soonest stands first, and of that what
-    has the most text above it: make begins in this order."""
+def order_of(rows, below):
+    """The crates in the order in which they are begun: what the chain waits for soonest stands
+    first, and of that what has the most minutes above it. With the chain's crates."""
     lengths = lengths_above(below)
     chain = chain_of(below, lengths)
     # the place in the chain of the first crate that stands on each
     stand = [{name, *all_below(name, rows)} for name in chain]
     needed = {it: next(place for place, found in enumerate(stand) if it in found) for it in below}
-    order = sorted(below, key=lambda it: (needed[it], -lengths[it]))
-    lines = ["all: " + " ".join(map(stamp, order))]
-    for name in order:
-        jobs = min(lanes, JOBS.get(name, lanes if name in chain else 1))
+    return sorted(below, key=lambda it: (needed[it], -lengths[it])), chain
+
+
+def works_of(rows, below, lanes):
+    """What each crate costs, in the order in which they are begun."""
+    order, chain = order_of(rows, below)
+    minutes = costs(below)
+    jobs = lambda name: min(lanes, JOBS.get(name, lanes if name in chain else 1))
+    return {name: Work(minutes[name], jobs(name), below[name]) for name in order}
+
+
+def makefile_of(works):
+    """Which crate waits for which. make begins them in the order of its first line."""
+    lines = ["all: " + " ".join(map(stamp, works))]
+    for name, work in works.items():
         lines += [
-            f"{stamp(name)}: {sum_file(name)} {' '.join(map(stamp, below[name]))}",
-            f"\t@{sys.executable} {TOP}/scripts/build.py --prove {name} {jobs}",
+            f"{stamp(name)}: {sum_file(name)} {' '.join(map(stamp, work.below))}",
+            f"\t@{sys.executable} {TOP}/scripts/build.py --prove {name} {work.jobs}",
         ]
     return "\n".join(lines) + "\n"
 
@@ -281,28 +303,79 @@ def prove(name, jobs):
         tell(f"{name}: done in {time.monotonic() - begun:.0f} s")
 
 
+class Telling:
+    """Hands on what the crates say, with how far the build is. At a terminal that is also the last
+    line, which is written again each second."""
+
+    def __init__(self, schedule):
+        self.schedule, self.is_terminal = schedule, sys.stdout.isatty()
+
+    def clear(self):
+        if self.is_terminal:
+            print("\r\x1b[K", end="", flush=True)
+
+    def tell(self, line, output):
+        name, _, said = line.partition(": ")
+        if said == "begun":
+            self.schedule.begin(name)
+        elif said.startswith("done in "):
+            self.schedule.end(name)
+            line = f"{line}, {self.schedule.said()}"
+        self.clear()
+        print(line, file=output, flush=True)
+
+    def follow(self, process):
+        """Until the process says no more."""
+        parts = {process.stdout.fileno(): b"", process.stderr.fileno(): b""}
+        with selectors.DefaultSelector() as selector:
+            for file in parts:
+                selector.register(file, selectors.EVENT_READ)
+            while parts:
+                for key, _ in selector.select(1):
+                    came = os.read(key.fd, 1 << 16)
+                    *lines, parts[key.fd] = (parts[key.fd] + came).split(b"\n")
+                    output = sys.stdout if key.fd == process.stdout.fileno() else sys.stderr
+                    for line in lines:
+                        self.tell(line.decode(errors="replace"), output)
+                    if not came:
+                        selector.unregister(key.fd)
+                        del parts[key.fd]
+                self.show()
+        self.clear()
+
+    def show(self):
+        if self.is_terminal:
+            said = f"{self.schedule.said()}: {', '.join(self.schedule.running())}"
+            width = shutil.get_terminal_size().columns - 1
+            print(f"\r\x1b[K{said[:width]}", end="", flush=True)
+
+
 def build(rows, known):
     """Builds what isn't built; gives the status."""
     begun, lanes, file = time.monotonic(), at_once(), f"{BINARY}.mk"
     write_sums(rows, known)
+    works = works_of(rows, known, lanes)
     with open(file, "w", encoding="utf-8") as makefile:
-        makefile.write(makefile_of(rows, known, lanes))
+        makefile.write(makefile_of(works))
     make = ["make", "-rs", "-f", file, f"-j{lanes}"]
     environment = {
         key: value
         for key, value in os.environ.items()
         if key not in ("MAKEFLAGS", "MFLAGS", "MAKELEVEL")
     }
-    left = subprocess.run(
+    asked = subprocess.run(
         [*make, "-n"],
         env=environment,
         stdin=subprocess.DEVNULL,
         capture_output=True,
         text=True,
         check=True,
-    ).stdout.count(" --prove ")
+    ).stdout
+    left = re.findall(r" --prove (\w+) \d+$", asked, re.M)
     if not left:
         return 0
+    schedule = Schedule({name: works[name] for name in works if name in left}, lanes)
+    print(schedule.said(), flush=True)
     # (in a process group of its own, so that it can be ended with all that it started, and not in a
     # session, to which Linux gives as much as to all others)
     with subprocess.Popen(
@@ -310,41 +383,36 @@ def build(rows, known):
         env=environment,
         stdin=subprocess.DEVNULL,
         stdout=subprocess.PIPE,
-        text=True,
+        stderr=subprocess.PIPE,
         preexec_fn=os.setpgrp,
     ) as process:
         try:
-            done = 0
-            for line in process.stdout:
-                done += ": done in " in line
-                print(
-                    line.rstrip("\n") + f", {done} of {left}" * (": done in " in line), flush=True
-                )
+            Telling(schedule).follow(process)
         finally:
             try:
                 os.killpg(process.pid, signal.SIGKILL)
             except ProcessLookupError:
                 pass
-    if done < left:
+    if len(schedule.took) < len(left):
         return 1
-    print(f"{left} crates in {(time.monotonic() - begun) / 60:.1f} minutes")
+    print(f"{len(left)} crates in {(time.monotonic() - begun) / 60:.1f} minutes")
     return 0
 
 
-def plan(below):
-    """What a build costs by the minutes of gate/minutes.txt, which are those of one job."""
-    with open(f"{TOP}/gate/minutes.txt", encoding="utf-8") as file:
-        minutes = {
-            line.split()[0]: float(line.split()[1]) for line in file if not line.startswith("#")
-        }
+def plan(rows, below):
+    """Says what a build costs by the minutes of gate/minutes.txt, which are those of one job."""
+    lanes = at_once()
+    works = works_of(rows, below, lanes)
     chain = chain_of(below, lengths_above(below))
     print(
-        f"{sum(map(minutes.get, chain)):.0f} minutes for the crates that wait for one another:"
-        f" {', '.join(chain)}"
+        f"{sum(works[it].minutes for it in chain):.0f} minutes for the crates that wait for one"
+        f" another: {', '.join(chain)}"
     )
     print(
-        f"{sum(map(minutes.get, below)):.0f} minutes of processor time for all {len(below)} crates"
+        f"{sum(it.minutes for it in works.values()):.0f} minutes of processor time for all"
+        f" {len(works)} crates"
     )
+    print(f"{Schedule(works, lanes).minutes_left():.0f} minutes by the clock, {lanes} at once")
     return 0
 
 
@@ -371,7 +439,9 @@ def main():
     asked, rows = parsed(), rows_of(TOP)
     known = crates(rows)
     if asked.plan:
-        return plan(known)
+        return plan(rows, known)
+    if without_kit():
+        return 2
     if asked.prove:
         name, jobs = asked.prove
         return prove(name, int(jobs))

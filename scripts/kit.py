@@ -3,13 +3,33 @@ one over its libraries."""
 import os
 import re
 import shutil
+import sys
 
+TOP = os.path.dirname(os.path.dirname(os.path.realpath(__file__)))
 # the command rt, by whose place the kit is found
 RT = os.environ.get("RT", "rt")
 KIT = os.path.dirname(os.path.dirname(os.path.realpath(shutil.which(RT) or f"/{RT}")))
 RATTLE = f"{KIT}/bin/rattle"
 # What a check reads of a crate.
 PARTS = ("src", "specs", "proofs")
+
+
+def without_kit():
+    """Whether there is no kit, which it says."""
+    if os.access(RATTLE, os.X_OK):
+        return False
+    print(
+        f"there is no Rattle kit: no command '{RT}' of one is on the PATH (README.md says which kits"
+        " there are)",
+        file=sys.stderr,
+    )
+    return True
+
+
+def kit_version():
+    """The kit's name and its logic, as `rt version` prints them."""
+    with open(f"{KIT}/KIT-ID", "rb") as file:
+        return file.read()
 
 
 def rows_of(root):

@@ -18,7 +18,7 @@ import tarfile
 
 sys.dont_write_bytecode = True
 
-from build import commit
+from version import commit_of
 
 TOP = os.path.dirname(os.path.dirname(os.path.realpath(__file__)))
 DIST = f"{TOP}/dist"
@@ -34,11 +34,11 @@ def version():
         return re.match(r"mailquota \(([^)]+)\)", file.read())[1]
 
 
-def run(*words, **environment):
-    """What a command prints; where it fails, what it says is why."""
+def run(*words, tree=TOP, **environment):
+    """What a command prints in a tree; where it fails, what it says is why."""
     come = subprocess.run(
         words,
-        cwd=TOP,
+        cwd=tree,
         env={**os.environ, **environment},
         stdin=subprocess.DEVNULL,
         capture_output=True,
@@ -51,9 +51,9 @@ def run(*words, **environment):
     return come.stdout
 
 
-def make_package():
-    """Has debhelper make the package in dist/. In the environment there is nothing that this run of
-    make was given."""
+def make_deb(tree, *words):
+    """Has debhelper make the package of a tree, by these words for its rules. In the environment
+    there is nothing that this run of make was given."""
     given = {
         "LC_ALL": "C.UTF-8",
         "TZ": "UTC",
@@ -64,9 +64,14 @@ def make_package():
         "DH_VERBOSE": "",
     }
     os.umask(0o022)
-    run("dh_clean", **given)
-    run("make", "-f", "debian/rules", "binary", f"PROGRAM={PROVED}", f"DIST={DIST}", **given)
-    run("dh_clean", **given)
+    run("dh_clean", tree=tree, **given)
+    run("make", "-f", "debian/rules", "binary", *words, tree=tree, **given)
+    run("dh_clean", tree=tree, **given)
+
+
+def make_package():
+    """Makes the package in dist/."""
+    make_deb(TOP, f"PROGRAM={PROVED}", f"DIST={DIST}")
     return f"mailquota_{version()}_amd64.deb"
 
 
@@ -74,7 +79,7 @@ def make_archive():
     """Makes the archive of the commit, which has to be that of the tree."""
     if not os.path.exists(f"{TOP}/.git"):
         raise Wrong("there is no .git: an archive is made of a commit")
-    name, of = f"mailquota-{version()}", commit()
+    name, of = f"mailquota-{version()}", commit_of(TOP)
     if of is None:
         raise Wrong("files are changed, or git gives no commit: an archive is made of a commit")
     # (whatever the settings of this user's git are)
