@@ -13,7 +13,7 @@ MANDIR = $(PREFIX)/share/man
 DOCDIR = $(PREFIX)/share/doc/mailquota
 CONFDIR = /etc/mailquota
 
-.PHONY: all build demo check edits bodies program-tests refusals smtpd takeover deb dist package-tests install clean
+.PHONY: all build demo check edits bodies test refusals smtpd takeover deb dist package-tests install clean
 
 all: build
 
@@ -25,6 +25,10 @@ build:
 # made no program of the tree as it is, it is of one that is built without proofs, in minutes, and lies elsewhere.
 demo:
 	@RT=$(RT) python3 scripts/demo.py
+
+# All that needs no proof, in groups side by side; ONLY=NAME is one group. Over the program that `make demo` plays.
+test:
+	@RT=$(RT) python3 tests/run.py $(ONLY)
 
 # docs/GATE.md says what it does. What passed on this machine isn't tried again, but with ANEW=1. The last line is 'N passed, M failed'.
 ANEW ?=
@@ -38,11 +42,6 @@ edits:
 # Wrong bodies that no contract refuses, each over the case or test that is to fail, in builds without proofs; ONLY=NAME one of them, or a crate's.
 bodies:
 	@RT=$(RT) python3 scripts/bodies.py $(ONLY)
-
-# The program over loopback, as peers, smtpd and administrators use it: Python 3 alone, a minute or two.
-program-tests:
-	@test -x $(PROGRAM) || { echo "run 'make build' first" >&2; exit 1; }
-	@python3 tests/program/run.py $(PROGRAM)
 
 # The program with one allocation refused, a run for each: Python 3 and cc on Linux with glibc; JOBS=N runs at once.
 refusals:

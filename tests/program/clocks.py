@@ -12,6 +12,8 @@ import time
 # Asks the system for the clock in edi, and adds the seconds of the realtime clock (0) or of the
 # monotonic one (1), which stand behind the code.
 CODE = bytes.fromhex("b8e4000000 0f05 89ff 83ff01 770e 488d150b000000 488b0cfa 48010e 31c0 c3 90")
+# The last moment that a request may have: 3000-01-01.
+LAST_MOMENT = 32_503_680_000
 # Runs a program whose realtime clock is ahead: "clock", the seconds that it is, and the words. A
 # process that nobody waits for traces it until its code is in memory, and puts in the other.
 TICKING = f"""import ctypes, os, sys
@@ -89,6 +91,11 @@ def at(moment):
     """The same of a program whose clock shows this moment, or less than a second more, as it
     begins."""
     return limit(int(moment - time.time()) + 1)
+
+
+def late():
+    """The same of a server of which no moment is ahead: it shows the last one that there is."""
+    return at(LAST_MOMENT)
 
 
 class Clock:

@@ -18,7 +18,7 @@ import clocks
 # The top of the repository.
 TOP = os.path.dirname(os.path.dirname(os.path.dirname(os.path.abspath(__file__))))
 # Enough for whatever is to come, also on a machine that has much else to do.
-SECONDS = 150
+SECONDS = 400
 # Milliseconds of the same, where a timeout is a setting.
 LONG = 60_000
 # Runs a program under a limit of the system: its name, its number, and the words. A write beyond a
@@ -253,9 +253,7 @@ def as_user(user):
 
 def wrong_tables(version):
     """Why a file is refused that says of itself that it has the tables of this version."""
-    return (
-        f"tables of version {version}, but one is missing, is one too many or has wrong contents"
-    )
+    return f"tables of version {version}, but one is missing, is one too many or has wrong contents"
 
 
 # What the system says.
@@ -339,6 +337,8 @@ def toml(settings):
     """The text of settings, without those that are None."""
 
     def spelled(value):
+        if isinstance(value, bool):
+            return str(value).lower()
         return f'"{value}"' if isinstance(value, str) else str(value)
 
     return "".join(
@@ -354,13 +354,21 @@ def ledger_settings(world, path, **more):
 
 
 def copied(source, path):
-    """A copy of a ledger's file at this path, with its log where it has one; gives the path."""
+    """A copy of a ledger's file at this path, with its log where it has one, and without what a
+    server reserved beside an earlier one; gives the path."""
     for end in ("", "-wal"):
         if os.path.exists(source + end):
             shutil.copy(source + end, path + end)
         elif os.path.exists(path + end):
             os.remove(path + end)
+    if os.path.exists(f"{path}.ballast"):
+        os.remove(f"{path}.ballast")
     return path
+
+
+def files_in(folder):
+    """The names in a folder, in their order, but those of servers' reserves."""
+    return sorted(it for it in os.listdir(folder) if not it.endswith(".ballast"))
 
 
 def state_of(process):
@@ -484,6 +492,15 @@ class Server:
             send_no_more(peer)
             return read_all(peer)
 
+    def ask_many(self, frames, at_once=500):
+        """What comes back for these, so many on a connection: on a busy machine one's time is over
+        before thousands are answered."""
+        frames = list(frames)
+        return b"".join(
+            self.ask(b"".join(frames[first : first + at_once]))
+            for first in range(0, len(frames), at_once)
+        )
+
     def log_lines(self):
         """What it logged, but for the lines of requests."""
         return but_of_requests(self.all_log_lines())
@@ -509,9 +526,10 @@ def read_to_end(peer):
     return b"".join(iter(lambda: peer.recv(65_536), b""))
 
 
-def read_all(peer):
+def read_all(peer, is_enough=lambda whole: False):
+    """All that a peer sends until it sends no more, is reset, or has sent enough."""
     whole = b""
-    while True:
+    while not is_enough(whole):
         try:
             piece = peer.recv(65_536)
         except ConnectionResetError:
@@ -519,6 +537,18 @@ def read_all(peer):
         if not piece:
             return whole
         whole += piece
+    return whole
+
+
+def read_request(peer):
+    """What a peer sends up to the end of a whole frame, with what came behind it by then: one that
+    keeps its connection doesn't end its sending."""
+    return read_all(peer, is_whole)
+
+
+def is_whole(sent):
+    """Whether a whole frame is there."""
+    return len(sent) >= 2 and len(sent) >= 2 + int.from_bytes(sent[:2], "big")
 
 
 def reset(peer):
@@ -596,7 +626,7 @@ class Script(Listening):
             peer = self.next_peer()
             if peer is None:
                 return
-            self.heard.append(read_all(peer))
+            self.heard.append(read_request(peer))
             if callable(answer):
                 answer = answer(self.heard[-1])
             if answer is SILENCE:
@@ -604,11 +634,15 @@ class Script(Listening):
             elif answer is DRIP:
                 self.drip(peer)
             elif answer is RESET:
+                # (one that comes before the peer said that it sends no more is told otherwise)
+                with contextlib.suppress(OSError):
+                    peer.settimeout(1)
+                    peer.recv(1)
                 reset(peer)
             else:
                 self.give(peer, answer)
         while self.otherwise and (peer := self.next_peer()):
-            self.heard_later.append(read_all(peer))
+            self.heard_later.append(read_request(peer))
             self.give(peer, self.otherwise(self.heard_later[-1]))
         self.listener.close()
 
@@ -645,7 +679,7 @@ class Relay(Listening):
     def serve(self):
         while peer := self.next_peer():
             with peer:
-                heard = read_all(peer)
+                heard = read_request(peer)
                 reply = self.server.ask(heard)
                 self.told.append((heard, reply))
                 peer.sendall(reply)

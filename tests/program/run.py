@@ -27,30 +27,9 @@ from checks import Checks
 from ends import World
 
 CASES = Path(__file__).parent / "cases"
-# those of them that take longest, and so begin first
-FIRST_GROUPS = [
-    "many_answers",
-    "causes",
-    "retiring",
-    "storms",
-    "full_pages",
-    "forgetting",
-    "nights",
-    "stopping",
-    "edges",
-    "figures",
-    "contrib",
-    "zones",
-    "failing_calls",
-    "bodies",
-    "full_disks",
-    "lengths",
-    "crowds",
-    "many_sessions",
-    "many_numbers",
-]
-# what these do to a server, its files and the machine takes longer, and some of it wants root
-OTHER_GROUPS = ["kills", "failures", "many_limits", "memory_limits"]
+# what these do to a server, its files and the machine takes longer, and some of it wants root; and
+# what compares pages with sources, whichever program runs
+OTHER_GROUPS = ["kills", "failures", "many_limits", "memory_limits", "sentences"]
 # these run only where they are named
 LONG_GROUPS = ["many_pages", "many_nights"]
 # texts that groups share
@@ -68,16 +47,19 @@ def main():
     for it in (signal.SIGINT, signal.SIGHUP, signal.SIGTERM):
         signal.signal(it, lambda number, _: sys.exit(128 + number))
     asked = parsed()
+    if asked.list:
+        print("\n".join(gate_groups() if asked.list == "gate" else groups_of([])))
+        return 0
     if asked.group:
         return run_group(asked.group, asked.program, *asked.words)
-    return run_groups(asked.program, gate_groups() if asked.gate else groups_of(asked.words))
+    return run_groups(asked.program, groups_of(asked.words))
 
 
 def parsed():
     parser = argparse.ArgumentParser(
         description=__doc__, formatter_class=argparse.RawDescriptionHelpFormatter
     )
-    parser.add_argument("program", metavar="PROGRAM")
+    parser.add_argument("program", metavar="PROGRAM", nargs="?")
     parser.add_argument(
         "words",
         metavar="WORD",
@@ -86,14 +68,21 @@ def parsed():
         help="only the groups whose names have one of these words",
     )
     alone = parser.add_mutually_exclusive_group()
-    alone.add_argument("--gate", action="store_true", help="the groups that the gate runs")
+    alone.add_argument(
+        "--list",
+        choices=["gate", "all"],
+        help="run nothing: the names of the groups that the gate runs over each program, or of all"
+        " but those that run only where they are named",
+    )
     alone.add_argument(
         "--group",
         metavar="GROUP",
         help="this group, in this process; a WORD is one function of it, and all others do nothing",
     )
     asked = parser.parse_args()
-    if asked.gate and asked.words or asked.group and len(asked.words) > 1:
+    if not asked.program and not asked.list:
+        parser.error("PROGRAM is missing")
+    if asked.group and len(asked.words) > 1:
         parser.error(f"too many words: {' '.join(asked.words)}")
     return asked
 
@@ -101,9 +90,7 @@ def parsed():
 def gate_groups():
     """Each file of cases is a group of the gate, but for those named above."""
     found = sorted(it.stem for it in CASES.glob("*.py"))
-    return FIRST_GROUPS + [
-        it for it in found if it not in FIRST_GROUPS + OTHER_GROUPS + LONG_GROUPS + NO_GROUPS
-    ]
+    return [it for it in found if it not in OTHER_GROUPS + LONG_GROUPS + NO_GROUPS]
 
 
 def groups_of(words):

@@ -77,8 +77,23 @@ def helps(world, checks):
 
 
 def version(world, checks):
+    wanted = f"mailquota 1.0.0{built_of(world.program)}\n".encode()
     for word in ("--version", "-V"):
-        checks.equal(f"mailquota {word}", world.run(word), (0, b"mailquota 1.0.0\n", ""))
+        checks.equal(f"mailquota {word}", world.run(word), (0, wanted, ""))
+
+
+def built_of(program):
+    """What a version has in brackets: the commit that `make build` built the program of, where
+    there is one, or that it is unproved."""
+    folder = os.path.dirname(os.path.realpath(program))
+    if os.path.basename(folder) == "unproved":
+        return " (unproved)"
+    try:
+        with open(f"{folder}/build/commit", encoding="ascii") as file:
+            commit = file.read()
+    except FileNotFoundError:
+        return ""
+    return f" ({commit})" if commit else ""
 
 
 def usage_faults(world, checks):
@@ -94,6 +109,7 @@ def usage_faults(world, checks):
         (asked + ["--from", "1"], "--cap"),
         (asked + ["--from", "1", "--cap", "many"], "invalid value 'many'"),
         (["stop", "--all"], "LOGIN"),
+        (["stop", "--wait"], "LOGIN"),
         (["resume"], "LOGIN"),
     ]
     for words, part in faults:
@@ -481,9 +497,7 @@ def words_without_a_name(world, checks):
             ["resume", "--day=4"],
             ["report", "--day=2"],
         ):
-            checks.equal(
-                f"{name} of an empty word", world.run(name, "", *words, *asked), BAD_LOGIN
-            )
+            checks.equal(f"{name} of an empty word", world.run(name, "", *words, *asked), BAD_LOGIN)
         for words in (
             ["limit", "\\x2", "7", "--from=2"],
             ["stop", "\\x2", "--day=4"],
@@ -534,7 +548,14 @@ def all_options_at_once(world, checks):
                 ),
                 (
                     "stop",
-                    [*named, *host, ("day", "2"), ("force", None), ("all", None)],
+                    [
+                        *named,
+                        *host,
+                        ("day", "2"),
+                        ("force", None),
+                        ("all", None),
+                        ("wait", None),
+                    ],
                     [
                         f"stopped: {login} used 0 on day 2\nlimit before: {before}\n"
                         for before in (2, 2, 0, 0)
