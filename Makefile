@@ -30,7 +30,7 @@ demo:
 test:
 	@RT=$(RT) python3 tests/run.py $(ONLY)
 
-# docs/GATE.md says what it does. What passed on this machine isn't tried again, but with ANEW=1. The last line is 'N passed, M failed'.
+# `make test`, then the proofs: docs/GATE.md says what it does. What passed on this machine isn't tried again, but with ANEW=1. The last line is 'N passed, M failed'.
 ANEW ?=
 check:
 	@RT=$(RT) python3 gate/run.py gate $(if $(ANEW),--from-nothing)

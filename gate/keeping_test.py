@@ -21,6 +21,18 @@ EDIT = "file: src/lib.rt\nold: {name}() -> u8 {{ 1 }}\nnew: {name}() -> u8 {{ 2 
 CASES = (
     "import os\nopen(os.environ['NOTED'], 'a').write('{name}\\n')\nprint('2 passed, 0 failed')\n"
 )
+GROUPS = """\
+import os, sys
+first = [it for it in sys.argv[2:] if sys.argv[1] == "--unproved"]
+open(os.environ["NOTED"], "a").write("".join(f"first {it}\\n" for it in first) or "cases\\n")
+broken = [it for it in first if it == os.environ.get("BROKEN")]
+for it in first or ["cases"]:
+    print(f"NOT {it}: 1 passed, 1 failed, 0 s" if it in broken else f"ok  {it}: 2 passed, 0 s")
+if sys.argv[1] == "--over" and "1.0.0 (" not in open(sys.argv[2]).read():
+    sys.exit("the program's version has no commit")
+print(f"{2 * len(first or ['cases']) - len(broken)} passed, {len(broken)} failed")
+sys.exit(len(broken))
+"""
 TEST = """\
 import os
 import unittest
@@ -43,20 +55,22 @@ FILES = {
     "crates/high/must-fail/high.edit": "case: peers: one\n" + EDIT.format(name="high"),
     "crates/high/must-fail/witness.edit": EDIT.format(name="high_witness"),
     "crates/mailquota/src/main.rt": "main\n",
+    "crates/mailquota/src/version.rt": 'pub const VERSION: &str = "1.0.0";\n',
     "crates/mq_store_tests/src/lib.rt": "test\n",
-    "scripts/tests.py": CASES.format(name="tests"),
+    "scripts/tests.py": "tests\n",
     "contrib/smtpd.conf": "listen\n",
     "docs/GATE.md": "The gate.\n",
-    "tests/program/run.py": CASES.format(name="cases"),
+    "tests/run.py": GROUPS,
     "tests/program/cases/peers.py": "peers\n",
     "tests/model/ledger.py": "ledger\n",
     "tests/refusals/run.py": CASES.format(name="refusals"),
-    "tests/near_the_end/run.py": CASES.format(name="near the end"),
+    "tests/near_the_end/run.py": "near\n",
     "tests/near_the_end/low/low.rt.in": "near\n",
     "tests/prose/run.py": "print('1 passed, 0 failed')\n",
     "gate/own_test.py": TEST.format(name="RoundsTest"),
     "gate/keeping_test.py": TEST.format(name="KeepingTest"),
     "kit/KIT-ID": "kit 1\n",
+    "COMMIT": "0123456789012345678901234567890123456789\n",
 }
 # `rt ci` builds each crate; of one whose library's text it has built before it says that it is
 # kept, and so of what an earlier run told proved.
@@ -111,12 +125,17 @@ sys.exit(1 if wrong and wrong != [missed] else 0)
 }
 
 # The last line of a gate over this tree.
-PASSED = "19 passed, 0 failed"
+PASSED = "25 passed, 0 failed"
 EDITS = ["high", "high_witness"]
-OTHERS = ["near the end", "tests", "cases", "cases", "refusals"]
+IN_RATTLE = ["first near_the_end_low", "first mq_store_tests"]
+UNPROVED = ["first program", "first refused_allocations"]
+FIRST = [*IN_RATTLE, "first model", *UNPROVED]
+PROVED = ["cases", "cases", "refusals"]
+CASES_ALONE = ["first program", "cases", "cases"]
+OTHERS = [*FIRST, *PROVED]
 OWN = ["RoundsTest", "KeepingTest"]
 ALL = ["low", *EDITS, *OTHERS, *OWN]
-OF_KIT = ["low", *EDITS, "near the end", "tests", *OWN]
+OF_KIT = ["low", *EDITS, *FIRST, *OWN]
 # What is changed, the file, its old and its new text, and what is to be tried again.
 CHANGES = [
     ("a source", "crates/high/src/lib.rt", "pub fn high_w", "pub  fn high_w", EDITS),
@@ -125,40 +144,59 @@ CHANGES = [
         "crates/low/src/lib.rt",
         "",
         "// as it is\n",
-        ["low", "near the end", "tests"],
+        ["low", *IN_RATTLE, *UNPROVED],
     ),
     (
         "a library",
         "crates/low/src/lib.rt",
         "pub fn low_w",
         "pub  fn low_w",
-        ["low", *EDITS, *OTHERS],
+        ["low", *EDITS, *IN_RATTLE, *UNPROVED, *PROVED],
     ),
-    ("a spec", "crates/low/specs/Lib.antt", "is_one", "is_two", ["low", *EDITS, *OTHERS]),
+    ("a spec", "crates/low/specs/Lib.antt", "is_one", "is_two", ["low", *EDITS, *PROVED]),
     ("a proof", "crates/high/proofs/high.antt", "by one", "by two", EDITS),
     ("an edit", "crates/low/must-fail/low.edit", "{ 2 }", "{ 3 }", ["low"]),
     ("a further edit", "crates/low/further/witness.edit", "{ 2 }", "{ 3 }", []),
     ("an edit's case", "crates/high/must-fail/high.edit", "peers: one", "peers: two", ["high"]),
-    ("a row of crates.txt", "crates.txt", "low:\n", "low: hex\n", ["low", "near the end", "tests"]),
-    ("the handles", "HANDLES", "none", "Net", ["low", *EDITS, "near the end", "tests"]),
+    ("a row of crates.txt", "crates.txt", "low:\n", "low: hex\n", ["low", *IN_RATTLE, *UNPROVED]),
+    ("the handles", "HANDLES", "none", "Net", ["low", *EDITS, *IN_RATTLE, *UNPROVED]),
     ("a script of the gate", "gate/source.py", "", "# as it is\n", ALL),
     ("a test of the gate", "gate/own_test.py", "", "# as it is\n", OWN),
     ("a script that it uses", "scripts/kit.py", "", "# as it is\n", ALL),
-    ("a case", "tests/program/cases/peers.py", "peers", "peer", ["cases", "cases", "refusals"]),
-    ("what refuses", "tests/refusals/run.py", "", "# as it is\n", ["refusals"]),
-    ("what a case reads", "contrib/smtpd.conf", "listen", "accept", ["cases", "cases"]),
-    ("a test near the end", "tests/near_the_end/low/low.rt.in", "near", "nearer", ["near the end"]),
-    ("a test in Rattle", "crates/mq_store_tests/src/lib.rt", "test", "tests", ["tests"]),
+    (
+        "a case",
+        "tests/program/cases/peers.py",
+        "peers",
+        "peer",
+        [*UNPROVED, *PROVED],
+    ),
+    ("what refuses", "tests/refusals/run.py", "", "# as it is\n", ["first refused_allocations", "refusals"]),
+    ("what a case reads", "contrib/smtpd.conf", "listen", "accept", CASES_ALONE),
+    (
+        "a test near the end",
+        "tests/near_the_end/low/low.rt.in",
+        "near",
+        "nearer",
+        ["first near_the_end_low"],
+    ),
+    (
+        "a test in Rattle",
+        "crates/mq_store_tests/src/lib.rt",
+        "test",
+        "tests",
+        ["first mq_store_tests"],
+    ),
     (
         "the program",
         "crates/mailquota/src/main.rt",
         "main",
         "main()",
-        ["cases", "cases", "refusals"],
+        [*UNPROVED, *PROVED],
     ),
     ("the kit's name", "kit/KIT-ID", "1", "2", OF_KIT),
     ("the prover", "kit/bin/rattle", "import os", "import  os", OF_KIT),
-    ("a document", "docs/GATE.md", "gate", "way", []),
+    ("a document", "docs/GATE.md", "gate", "way", CASES_ALONE),
+    ("the commit", "COMMIT", "0", "1", []),
 ]
 
 
@@ -176,7 +214,8 @@ class KeepingTest(unittest.TestCase):
             f"{TOP}/gate", f"{self.tree}/gate", ignore=shutil.ignore_patterns("__pycache__")
         )
         os.mkdir(f"{self.tree}/scripts")
-        shutil.copy(f"{TOP}/scripts/kit.py", f"{self.tree}/scripts")
+        for it in ("files.py", "kit.py", "last_runs.py", "version.py"):
+            shutil.copy(f"{TOP}/scripts/{it}", f"{self.tree}/scripts")
         commands = {
             f"kit/bin/{name}": f"#!{sys.executable}\n{text}" for name, text in COMMANDS.items()
         }
@@ -254,7 +293,8 @@ class KeepingTest(unittest.TestCase):
             "where nothing can be kept", ALL, "gate", "--from-nothing", XDG_CACHE_HOME="/dev/null"
         )
         self.tries("the edits alone", [], "must-fail", last="3 passed, 0 failed")
-        self.tries("the further edits", ["low_witness"], "further", last="1 passed, 0 failed")
+        for of, wanted in (("the further edits", ["low_witness"]), ("these, once more", [])):
+            self.tries(of, wanted, "further", last="1 passed, 0 failed")
 
     def not_whole(self):
         """What is cut off, changed or no file counts as none; then rt has proved a crate, and a
@@ -282,8 +322,14 @@ class KeepingTest(unittest.TestCase):
         """A failure is not kept."""
         self.change("crates/low/must-fail/low.edit", "{ 3 }", "{ 4 }")
         for of in ("an edit that isn't refused", "an edit that isn't refused, once more"):
-            self.tries(of, ["low"], last="18 passed, 1 failed", MISSED="low")
+            self.tries(of, ["low"], last="24 passed, 1 failed", MISSED="low")
         self.tries("an edit that is refused now", ["low"])
+        self.change("tests/near_the_end/low/low.rt.in", "nearer", "nearest")
+        first, last = ["first near_the_end_low"], "10 passed, 1 failed"
+        self.tries(
+            "a test that fails, and nothing behind it", first, last=last, BROKEN="near_the_end_low"
+        )
+        self.tries("with a test that passes again", first)
 
     def ended(self):
         """What is long unused goes, and what was being written when its run was killed; what was

@@ -18,6 +18,8 @@ import time
 from prover import KIT, PARTS, PROVED, below, proved_in, rows_of
 
 HERE = os.path.dirname(os.path.realpath(__file__))
+# The scripts of scripts/ that decide what is tried, and over what.
+USED = ("files.py", "kit.py", "version.py")
 # So many seconds a result stays that no run takes, and so many results at most.
 LONGEST_UNUSED = 30 * 24 * 3600
 MOST = 50_000
@@ -83,7 +85,7 @@ def of_gate(with_tests=False):
         for it in files_in(os.path.dirname(HERE), "gate")
         if it.endswith(".py") and (with_tests or not it.endswith("_test.py"))
     ]
-    return sum_of_files(os.path.dirname(HERE), [*scripts, "scripts/kit.py"])
+    return sum_of_files(os.path.dirname(HERE), [*scripts, *(f"scripts/{it}" for it in USED)])
 
 
 class Sums:
@@ -189,17 +191,18 @@ class Kept:
 
 
 class Edits:
-    """What is kept of the must-fail edits of one crate that lie in a folder; `groups` are the names
-    of what has cases."""
+    """What is kept of the edits of one crate that lie in a folder, which is of this kind; `groups`
+    are the names of what has cases."""
 
-    def __init__(self, kept, sums, crate, place, groups):
-        self.kept, self.sums, self.crate, self.place, self.groups = kept, sums, crate, place, groups
+    def __init__(self, kept, sums, crate, place, groups, kind="must-fail"):
+        self.kept, self.sums, self.crate, self.place = kept, sums, crate, place
+        self.groups, self.kind = groups, kind
 
     def names(self, file):
         with open(f"{self.place}/{file}", encoding="utf-8", errors="surrogateescape") as it:
             text = it.read()
         named = sorted(it for it in self.groups if f"case: {it}:" in text)
-        return self.sums.names("edit", self.crate, of_gate(), file, text, named)
+        return self.sums.names(self.kind, self.crate, of_gate(), file, text, named)
 
     def take(self, file):
         """Returns whether the edit was refused as it must be, in an earlier run."""

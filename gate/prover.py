@@ -11,6 +11,7 @@ import subprocess
 import sys
 import tempfile
 import threading
+import time
 from collections import defaultdict, namedtuple
 
 import source
@@ -21,6 +22,8 @@ from kit import KIT, PARTS, RATTLE, RT, below, rows_of, words_of
 
 # A check takes a minute or two; one that takes so many seconds hangs.
 LONGEST = 45 * 60
+# What is asked to end has so many seconds for it.
+LONGEST_END = 20
 
 # A proof that rests on a hole elsewhere. (Of a proof that is a hole itself, the prover prints the
 # goal, which takes it seconds.)
@@ -57,8 +60,18 @@ class Running:
 
     @classmethod
     def end(cls):
+        """Asks each to end, since some have started others in groups of their own, and kills what
+        is there after some seconds."""
+        runs = os.WEXITED | os.WNOWAIT | os.WNOHANG
         with cls.lock:
             cls.is_over = True
+            for pid in cls.pids:
+                os.killpg(pid, signal.SIGTERM)
+            until = time.monotonic() + LONGEST_END
+            while time.monotonic() < until and any(
+                os.waitid(os.P_PID, it, runs) is None for it in cls.pids
+            ):
+                time.sleep(0.1)
             for pid in cls.pids:
                 os.killpg(pid, signal.SIGKILL)
 
@@ -121,6 +134,9 @@ def lines_in(folder, ending):
 
 class Crate:
     """A crate of a repository whose libraries are built in crates/*/out."""
+
+    # whether its libraries are those of `make build`
+    is_built = False
 
     def __init__(self, root, name):
         self.name, self.rows, self.crates = name, rows_of(root), f"{root}/crates"
@@ -239,6 +255,20 @@ class Crate:
         os.makedirs(os.path.dirname(file), exist_ok=True)
         with open(file, how, encoding="utf-8") as it:
             it.write(text)
+
+
+class Built(Crate):
+    """A crate that `make build` proved, as it proved those below it."""
+
+    is_built = True
+
+    def rlib(self, name):
+        return f"{self.crates}/{name}/out/build/{name}.rlib"
+
+    def log(self):
+        """Returns what was said of its proof."""
+        with open(f"{self.folder}/out/build.log", encoding="utf-8", errors="replace") as file:
+            return file.read()
 
 
 ERROR = re.compile(r"(?:\./)?(\S+?):\d+:\d+: error: (?:(`[^`]*`): )?(.*)")

@@ -8,6 +8,7 @@ where anything failed.
 """
 import argparse
 import collections
+import hashlib
 import os
 import re
 import resource
@@ -21,21 +22,27 @@ import traceback
 sys.dont_write_bytecode = True
 HERE = os.path.dirname(os.path.realpath(__file__))
 TOP = os.path.dirname(HERE)
-sys.path.insert(0, HERE)
+sys.path[:0] = [HERE, f"{TOP}/scripts"]
 
+import last_runs
 import minutes
+from files import READ_BY_REFUSALS, copy_for_cases, copy_for_refusals, files_for_cases, files_of
 from kept import Edits, Kept, Proved, Sums, of_gate, of_kit, sum_of, sum_of_files
 from keeping_test import KeepingTest
 from lanes import Task, free, in_lanes, processors
 from own_test import RoundsTest
-from prover import RT, Crate, Ended, Running, below, lines_in, proved_in, rows_of, run
+from prover import RT, Built, Crate, Ended, Running, below, lines_in, proved_in, rows_of, run
 from rounds import Killed, Rounds
 from testing import OwnTest
+from version import add_to_version, word_of
 
 # rt ci has the crates' proofs and tests to go through: so many seconds at most.
 LONGEST_CI = 170 * 60
 # The cases over the built program mostly wait for what it does: so many seconds at most.
 LONGEST_CASES = 20 * 60
+# What needs no proof is built and run first: so many seconds at most.
+LONGEST_FIRST = 60 * 60
+PROGRAM = "mailquota"
 # How the name of the program ends that each compiler makes.
 BUILDS = ("", ".by-rattle")
 # The most memory that a check takes, in bytes, with room to spare.
@@ -43,24 +50,27 @@ MOST_OF_A_CHECK = 5e9
 SIGNALS = (signal.SIGTERM, signal.SIGINT, signal.SIGHUP)
 VERBS = {
     "gate": (
-        "tests/prose; rt ci over a copy of the tree without its edits, then the must-fail edits in"
-        " rounds over the libraries that it built, the tests of the gate itself, the cases of"
-        " tests/program over the program as each compiler built it, and the worked examples with"
-        " each allocation refused; with names, of these crates and those below"
+        "tests/prose; all of tests/run.py, over a program without proofs; rt ci over a copy of the"
+        " tree without its edits, then the must-fail edits in rounds over the libraries that it built, the tests"
+        " of the gate itself, the cases of tests/program over the program as each compiler built"
+        " it, and the worked examples with each allocation refused; with names, of these crates and"
+        " those below"
     ),
     "must-fail": "the gate's edits alone, over libraries that `rt lib` builds where they stand",
-    "further": "the same for the edits of crates/CRATE/further, which the gate leaves out",
+    "further": (
+        "the same for the edits of crates/CRATE/further, which the gate leaves out; what passes is"
+        " kept, and where all crates were asked for it is noted in tests/last_runs.txt"
+    ),
     "look": "the gate's edits, each looked at once more, where the gate does so with a few",
 }
 COUNTS = re.compile(r"(\d+) passed, (\d+) failed\Z")
 REFUSED = re.compile(r"rt: (\w+)(: its tests are)? NOT PROVED")
 # The last line of a check of some functions: how many they are, and how many are proved.
 ONLY = re.compile(r"only=(\d+) proved=(\d+)\Z")
-# What no case of tests/program reads: the cases run where there is none of it.
-READ_BY_NO_CASE = re.compile(
-    r"crates/|crates\.txt\Z|HANDLES\Z|bench/|gate/.*\.py\Z|tests/(near_the_end|prose|smtpd|refusals|takeover|bodies)/"
-    r"|docs/(?!INSTALL\.md\Z|OPERATING\.md\Z)|\.ci/|\.git(/|\Z|ignore\Z)|CONTRIBUTING\.md\Z|pyproject\.toml\Z"
-)
+# The tests near the end, the model, the cases and the refusals, as tests/run.py names them.
+NEAR, MODEL, CASES, REFUSALS = "near_the_end", "model", "program", "refused_allocations"
+# A line of tests/run.py that says what a group came to.
+GROUP = re.compile(r"(ok |NOT) (\w+): (\d+) passed(?:, (\d+) failed)?")
 # The crates of tests, which are run without their proofs, and what of each is proved all the same:
 # that there are sources, sinks, links, ledgers and networks of which contracts say all that they
 # carried, and that a caller may know nothing but the trait.
@@ -112,40 +122,6 @@ class Sum:
             print(f"FAILED: {', '.join(self.names)}")
         print(f"{self.passed} passed, {self.failed} failed", flush=True)
         return 1 if self.failed else 0
-
-
-def files_of(tree):
-    """Returns the tree's files but for what git ignores, or where git has nothing to say, what rt
-    and Python made."""
-    words = [
-        "git",
-        "-c",
-        "safe.directory=*",
-        "-C",
-        tree,
-        "ls-files",
-        "-z",
-        "--cached",
-        "--others",
-        "--exclude-standard",
-    ]
-    ran = (
-        subprocess.run(words, stdout=subprocess.PIPE, stderr=subprocess.DEVNULL)
-        if os.path.lexists(f"{tree}/.git") and shutil.which("git")
-        else None
-    )
-    if ran and not ran.returncode:
-        listed = ran.stdout.decode(errors="surrogateescape").split("\0")
-    else:
-        listed = [
-            os.path.relpath(f"{at}/{it}", tree) for at, _, names in os.walk(tree) for it in names
-        ]
-        listed = [
-            it
-            for it in listed
-            if not re.match(r"\.git(/|\Z)|crates/[^/]+/out/|(.*/)?__pycache__/", it)
-        ]
-    return sorted(it for it in {*listed} if it and os.path.lexists(f"{tree}/{it}"))
 
 
 def copy_tree(wanted, tree, edits):
@@ -285,6 +261,10 @@ def gate(names, sum_, takes):
     rows, kept = rows_of(TOP), Kept(takes)
     wanted = {*names}.union(*(below(it, rows) for it in names)) or {*rows}
     run_prose(sum_)
+    run_first(wanted, kept, sum_)
+    if sum_.failed:
+        print("Something fails that needs no proof, so nothing is proved and no edit is tried.")
+        return
     with tempfile.TemporaryDirectory(prefix="gate-") as room:
         tree, edits = f"{room}/tree", f"{room}/edits"
         os.makedirs(edits)
@@ -292,6 +272,7 @@ def gate(names, sum_, takes):
         for it in {*os.listdir(edits)} - {*rows}:
             sum_.fail(it, "it has must-fail edits, and is no crate of crates.txt")
         sums = Sums(tree)
+        word = add_commit(tree, sums)
         proved = Proved(kept, sums)
         refused = run_ci(tree, [] if takes else anew(), proved, sum_)
         for it in sorted(refused & {*os.listdir(edits)}):
@@ -310,11 +291,10 @@ def gate(names, sum_, takes):
             if it.results and all(result.is_well for result in it.results):
                 kept.keep([name_of(it)], len(it.results))
         # (last, with nothing else running: they wait for what others do)
-        if "mailquota" in rows_of(tree):
-            run_cases(tree, f"{room}/cases", kept, sum_)
-            run_refusals(tree, f"{room}/refusals", kept, sum_)
-        run_near_the_end(tree, sums, kept, sum_)
-        run_tests([it for it in TESTS if it in wanted], tree, kept, sum_)
+        if PROGRAM in rows_of(tree):
+            run_cases(tree, f"{room}/cases", word, kept, sum_)
+            run_refusals(tree, f"{room}/refusals", word, kept, sum_)
+        prove_tests([it for it in TESTS if it in wanted], tree, kept, sum_)
     kept.shrink()
     whole = resource.getrusage(resource.RUSAGE_CHILDREN)
     print("\n".join(minutes.table(sum_.seconds, whole.ru_utime + whole.ru_stime)), flush=True)
@@ -350,76 +330,118 @@ def run_prose(sum_):
     )
 
 
-def run_cases(tree, place, kept, sum_):
+def run_first(wanted, kept, sum_):
+    """Runs what needs no proof, side by side: the model against its worked examples, the tests in
+    Rattle of these crates, and with the program the cases and the refusals, over a build without
+    proofs."""
+    rows = rows_of(TOP)
+
+    def of_crates(names):
+        """A sum of what a build without proofs reads of these crates and those below."""
+        crates = sorted({crate for it in names for crate in (*below(it, rows), it)})
+        return sum_of(
+            [(it, rows[it]) for it in crates],
+            sum_of_files(TOP, ["HANDLES", *(f"crates/{it}/src" for it in crates)]),
+        )
+
+    scripts = sum_of_files(TOP, ["scripts", "tests/run.py"])
+    sum_for = lambda *parts: [sum_of("first", of_gate(), of_kit(), sys.version, scripts, *parts)]
+    made = {it: sum_for(it, of_crates([it])) for it in TESTS if it in wanted}
+    for it in sorted(it for it in wanted if os.path.isdir(f"{TOP}/tests/{NEAR}/{it}")):
+        made[f"{NEAR}_{it}"] = sum_for(it, of_crates([it]), sum_of_files(TOP, [f"tests/{NEAR}"]))
+    if PROGRAM in wanted:
+        made[MODEL] = sum_for(MODEL, sum_of_files(TOP, ["tests/model"]))
+        program = of_crates([PROGRAM])
+        made[CASES] = sum_for(CASES, program, sum_of_files(TOP, files_for_cases(TOP)))
+        made[REFUSALS] = sum_for(REFUSALS, program, sum_of_files(TOP, READ_BY_REFUSALS))
+    left = []
+    for name, sums_of_it in made.items():
+        number = kept.take(sums_of_it)
+        if number:
+            sum_.take(f"{name}, without proofs", number)
+        else:
+            left.append(name)
+    if not left:
+        return
+    found, failed = collections.Counter(), {*()}
+
+    def tell(line):
+        # (the last line is to be ours)
+        if not COUNTS.match(line):
+            print(line, flush=True)
+        told = GROUP.match(line)
+        if told:
+            name = told[2] if told[2] in made else CASES
+            found[name] += int(told[3])
+            if told[1] == "NOT":
+                failed.add(name)
+
+    words = [sys.executable, f"{TOP}/tests/run.py", "--unproved", *left]
+    print("== what needs no proof", flush=True)
+    ran = run(words, TOP, LONGEST_FIRST, tell)
+    sum_.seconds["tests/run.py", "test"] += ran.seconds
+    sum_.passed += sum(found.values())
+    if ran.status or failed:
+        counts = COUNTS.match(ran.said.rstrip("\n").split("\n")[-1])
+        sum_.fail(
+            "tests/run.py",
+            f"it ended with status {ran.status}; what fails stands above",
+            max(int(counts[2]) if counts else 0, 1),
+        )
+    for name in left:
+        if found[name] and name not in failed and ran.status in (0, 1):
+            kept.keep(made[name], found[name])
+
+
+def add_commit(tree, sums):
+    """Adds the commit to the version in a copy of the tree, as `make build` does, where the tree is
+    as committed, and returns it. No contract speaks of it, so what is kept of the program's crate
+    is kept by its files without it."""
+    word, crate = word_of(TOP), f"{tree}/crates/{PROGRAM}"
+    if word and os.path.isdir(crate):
+        sums.of_crate(PROGRAM)
+        add_to_version(crate, word)
+    return word
+
+
+def sum_of_program(program, word):
+    """Returns a sum of a program but for the commit that it is of: with another one in its version
+    it does the same."""
+    with open(program, "rb") as file:
+        content = file.read()
+    return hashlib.sha256(content.replace(word.encode(), b"")).hexdigest()
+
+
+def run_cases(tree, place, word, kept, sum_):
     """Runs the cases of tests/program over the program as each compiler built it, one after the
     other, in a place where nothing is but what their results are kept by."""
-    for file in (it for it in files_of(tree) if not READ_BY_NO_CASE.match(it)):
-        os.makedirs(os.path.dirname(f"{place}/{file}"), exist_ok=True)
-        shutil.copy2(f"{tree}/{file}", f"{place}/{file}", follow_symlinks=False)
+    copy_for_cases(tree, place)
     read, counts = sum_of_files(place, os.listdir(place)), set()
     for ending in BUILDS:
-        program = f"{tree}/crates/mailquota/out/mailquota{ending}"
-        made = [
-            sum_of(
-                "cases",
-                of_gate(),
-                sys.version,
-                read,
-                sum_of_files(tree, [os.path.relpath(program, tree)]),
-            )
-        ]
-        words = [sys.executable, f"{place}/tests/program/run.py", "--gate", program]
+        program = f"{tree}/crates/{PROGRAM}/out/{PROGRAM}{ending}"
+        of_program = ending, sum_of_program(program, word)
+        made = [sum_of("cases", of_gate(), sys.version, read, of_program)]
+        words = [sys.executable, f"{place}/tests/run.py", "--over", program]
         counts.add(
-            taken_or_run(f"tests/program over mailquota{ending}", made, words, place, kept, sum_)
+            taken_or_run(f"tests/program over {PROGRAM}{ending}", made, words, place, kept, sum_)
         )
     if len(counts) > 1:
         sum_.fail("tests/program", "over one build it tried more cases than over the other")
 
 
-def run_refusals(tree, place, kept, sum_):
+def run_refusals(tree, place, word, kept, sum_):
     """Has the program go through the worked examples with each of its allocations refused in turn,
     in a place where nothing is but what the result is kept by."""
-    program, read = "crates/mailquota/out/mailquota", [
-        "tests/refusals",
-        "tests/program",
-        "tests/model",
-    ]
-    for it in read:
-        shutil.copytree(f"{tree}/{it}", f"{place}/{it}")
-    made = [sum_of("refusals", of_gate(), sys.version, sum_of_files(tree, [program, *read]))]
-    words = [sys.executable, f"{place}/tests/refusals/run.py", f"{tree}/{program}", "--examples"]
+    program = f"{tree}/crates/{PROGRAM}/out/{PROGRAM}"
+    copy_for_refusals(tree, place)
+    read = sum_of_files(place, os.listdir(place))
+    made = [sum_of("refusals", of_gate(), sys.version, read, sum_of_program(program, word))]
+    words = [sys.executable, f"{place}/tests/refusals/run.py", program, "--examples"]
     taken_or_run("tests/refusals", made, words, place, kept, sum_)
 
 
-def run_near_the_end(tree, sums, kept, sum_):
-    """Runs the tests of tests/near_the_end whose crates are there."""
-    place = f"{tree}/tests/near_the_end"
-    names = [it for it in rows_of(tree) if os.path.isdir(f"{place}/{it}")]
-    if names:
-        read = [sums.of_crate(crate) for it in names for crate in (*below(it, sums.rows), it)]
-        made = [
-            sum_of(
-                "near the end",
-                of_gate(),
-                sys.version,
-                names,
-                read,
-                sum_of_files(tree, ["tests/near_the_end"]),
-            )
-        ]
-        taken_or_run(
-            "tests/near_the_end",
-            made,
-            [sys.executable, f"{place}/run.py", *names],
-            tree,
-            kept,
-            sum_,
-        )
-
-
-def run_tests(names, tree, kept, sum_):
-    """Runs the tests of these crates, which are built without proofs, and proves the modules of
-    them that are to be proved."""
+def prove_tests(names, tree, kept, sum_):
+    """Proves the modules of these crates of tests that are to be proved."""
     for it in names:
         shutil.copytree(
             f"{TOP}/crates/{it}",
@@ -429,17 +451,6 @@ def run_tests(names, tree, kept, sum_):
     shutil.copy2(f"{TOP}/crates.txt", f"{tree}/crates.txt")
     sums = Sums(tree)
     for it in names:
-        made = [
-            sum_of(
-                "tests",
-                of_gate(),
-                sys.version,
-                it,
-                [sums.of_crate(crate) for crate in (*below(it, sums.rows), it)],
-                sum_of_files(tree, ["scripts"]),
-            )
-        ]
-        taken_or_run(it, made, [sys.executable, f"{tree}/scripts/tests.py", it], tree, kept, sum_)
         prove_of_tests(Crate(tree, it), sums, kept, sum_)
 
 
@@ -495,7 +506,7 @@ def add_cases(name, ran, sum_):
     print(f"== {name}: {passed} passed, {failed} failed, {ran.seconds:.0f} s", flush=True)
     if ran.status != 0 or failed or not passed:
         print(
-            "\n".join([it for it in lines if it.startswith("NOT ")][:SAID])
+            "\n".join([it for it in lines if it.lstrip().startswith("NOT ")][:SAID])
             or "\n".join(lines[-SAID:]),
             flush=True,
         )
@@ -503,7 +514,7 @@ def add_cases(name, ran, sum_):
     return passed + failed
 
 
-def alone(names, part, sum_, kept=None, cases=None, looks_at_all=False):
+def alone(names, part, sum_, kept=None, cases=None, looks_at_all=False, crate_of=Crate):
     """Tries the edits in this folder of crates, over the libraries where they stand. `cases` are
     the names of what has cases, where an edit is to name one."""
     rows, sums = rows_of(TOP), Sums(TOP, is_built=False)
@@ -511,19 +522,34 @@ def alone(names, part, sum_, kept=None, cases=None, looks_at_all=False):
     names = names or sorted(it for it in os.listdir(f"{TOP}/crates") if os.path.isdir(place_of(it)))
     for it in {*names} - {*rows}:
         sum_.fail(it, "it is no crate of crates.txt")
-    checked = lambda it: run([RT, "check"], it.folder, LONGEST_CI).said.split("\n")
-    proved = lambda it: proved_in(checked(it))[it.name]
     every = []
     for it in (it for it in names if it in rows and os.path.isdir(place_of(it))):
-        edits = Edits(kept, sums, it, place_of(it), cases) if kept else None
-        every.append(Rounds(Crate(TOP, it), place_of(it), proved, cases, edits, looks_at_all))
-    for library in dict.fromkeys(
-        it for rounds in every if rounds.is_left() for it in rounds.crate.below
-    ):
+        edits = Edits(kept, sums, it, place_of(it), cases or (), part) if kept else None
+        crate = crate_of(TOP, it)
+        every.append(
+            Rounds(crate, place_of(it), proved_where_it_stands, cases, edits, looks_at_all)
+        )
+    left = [it.crate for it in every if it.is_left() and not it.crate.is_built]
+    for library in dict.fromkeys(it for crate in left for it in crate.below):
         ran = run([RT, "lib"], f"{TOP}/crates/{library}", LONGEST_CI)
         if ran.status:
             print(ran.said)
     try_edits(every, sum_)
+
+
+def proved_where_it_stands(crate):
+    """Returns the functions of a crate that `make build` proved, or that a check does."""
+    said = crate.log() if crate.is_built else run([RT, "check"], crate.folder, LONGEST_CI).said
+    return proved_in(said.split("\n"))[crate.name]
+
+
+def further(names, sum_, takes, is_built):
+    """Tries the edits that the gate leaves out, keeps what passes, and of all crates notes when
+    they ran."""
+    alone(names, "further", sum_, Kept(takes), crate_of=Built if is_built else Crate)
+    if not names:
+        last_runs.note("edits", sum_.passed + sum_.failed, sum_.names)
+    last_runs.tell("edits")
 
 
 class Parser(argparse.ArgumentParser):
@@ -539,9 +565,13 @@ def parsed():
     for verb, what in VERBS.items():
         its = verbs.add_parser(verb, help=what, description=what)
         its.add_argument("crates", metavar="CRATE", nargs="*", help="by default all")
-        if verb in ("gate", "must-fail"):
+        if verb != "look":
             its.add_argument(
                 "--from-nothing", action="store_true", help="take nothing that earlier runs kept"
+            )
+        if verb == "further":
+            its.add_argument(
+                "--built", action="store_true", help="over the libraries that `make build` proved"
             )
     return parser.parse_args()
 
@@ -565,7 +595,7 @@ def main():
                 asked.crates, "must-fail", sum_, Kept(not asked.from_nothing, keeps=False), groups()
             )
         elif asked.verb == "further":
-            alone(asked.crates, "further", sum_)
+            further(asked.crates, sum_, not asked.from_nothing, asked.built)
         else:
             alone(asked.crates, "must-fail", sum_, looks_at_all=True)
     except BaseException as why:

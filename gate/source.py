@@ -1,4 +1,5 @@
 """Which function a place in a .rt file lies in, by the name that the prover prints."""
+import functools
 import os
 import re
 from collections import namedtuple
@@ -77,6 +78,7 @@ def name_of(head):
     return module[1] if module else None
 
 
+@functools.lru_cache(maxsize=256)
 def functions(text):
     """Returns each function with a body."""
     text, found, open_, head = blanked(text), [], [], 0
@@ -105,7 +107,7 @@ def functions(text):
                 )
                 found.append(Function(begins, body, at + 1, names, is_of_type, is_of_module))
         head = at + 1
-    return sorted(found)
+    return tuple(sorted(found))
 
 
 def overlap(some, others):
