@@ -13,7 +13,7 @@ MANDIR = $(PREFIX)/share/man
 DOCDIR = $(PREFIX)/share/doc/mailquota
 CONFDIR = /etc/mailquota
 
-.PHONY: all build demo check edits bodies test refusals smtpd takeover deb dist package-tests install clean
+.PHONY: all build demo check everything commands edits bodies test refusals smtpd takeover deb dist package-tests install clean
 
 all: build
 
@@ -35,13 +35,22 @@ ANEW ?=
 check:
 	@RT=$(RT) python3 gate/run.py gate $(if $(ANEW),--from-nothing)
 
-# The further must-fail edits, which the gate leaves out for its time.
-edits:
-	@RT=$(RT) python3 gate/run.py further
+# What the gate leaves out, one after the other, and what ran whole over which commit: wants what smtpd, takeover, package-tests and upgrade-tests want.
+# What passed on this machine over the same files isn't run again, but with ANEW=1.
+everything: build
+	@RT=$(RT) python3 scripts/everything.py $(if $(ANEW),--anew)
 
-# Wrong bodies that no contract refuses, each over the case or test that is to fail, in builds without proofs; ONLY=NAME one of them, or a crate's.
+# Each command of CONTRIBUTING and GATE, in a clone that is thrown away; it says which it leaves out, and why.
+commands:
+	@RT=$(RT) python3 tests/prose/commands.py
+
+# The further must-fail edits, which the gate leaves out for its time, over what `make build` proved; ONLY=CRATE a crate's. What passed is kept.
+edits: build
+	@RT=$(RT) python3 gate/run.py further --built $(if $(ANEW),--from-nothing) $(ONLY)
+
+# Wrong bodies that no contract refuses, each over the case or test that is to fail, in builds without proofs; ONLY=NAME one of them, or a crate's. What passed is kept.
 bodies:
-	@RT=$(RT) python3 scripts/bodies.py $(ONLY)
+	@RT=$(RT) python3 scripts/bodies.py $(if $(ANEW),--from-nothing) $(ONLY)
 
 # The program with one allocation refused, a run for each: Python 3 and cc on Linux with glibc; JOBS=N runs at once.
 refusals:

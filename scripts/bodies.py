@@ -2,16 +2,20 @@
 """Runs the planted bodies: wrong bodies of functions that no contract refuses, each with the case
 or the test that is to fail over it.
 
-A body is a file tests/bodies/CRATE/NAME.edit, written as a must-fail edit, or a must-fail edit
-itself, with a line 'case: GROUP: NAME' for a case of tests/program that begins so, or 'case: CRATE:
-TEST' for a test of mq_ends_tests or mq_store_tests. With several such lines each is to fail.
+A body is a file tests/bodies/CRATE/NAME.edit, written as a must-fail edit, or an edit of must-fail
+or further itself, with a line 'case: GROUP: NAME' for a case of tests/program that begins so, or
+'case: CRATE: TEST' for a test of mq_ends_tests or mq_store_tests. With several such lines each is
+to fail.
 
 All bodies stand in one program, which is built without proofs, each with a number: a function runs
 the body whose number PLANTED in the environment is, and else its own. So one build serves all, and
 each is tried alone. A body that changes more than functions has a build of its own. What is to fail
 has to pass in the same build without a body. RT_JOBS in the environment says how many builds and
-runs there are at once, by default two. The last line is 'N passed, M failed', and the status 1
-where any failed.
+runs there are at once, by default one for each processor.
+
+What failed as it must is kept on this machine, as what passed the gate is, and isn't tried again
+while sources, cases, scripts and kit stay the same. Where all were asked for, tests/last_runs.txt
+has when they ran. The last line is 'N passed, M failed', and the status 1 where any failed.
 """
 import argparse
 import collections
@@ -27,20 +31,27 @@ import sys
 import tempfile
 import threading
 import zlib
-from concurrent.futures import ThreadPoolExecutor
+from concurrent.futures import ThreadPoolExecutor, as_completed
 
 sys.dont_write_bytecode = True
 
+import last_runs
 import unproved
-from kit import KIT, RT, rows_of
+from kit import KIT, below, kit_version, rows_of, without_kit
 
 TOP = os.path.dirname(os.path.dirname(os.path.realpath(__file__)))
 sys.path.append(f"{TOP}/gate")
 
+import kept
 import source
 from edit import BadEdit, Edit, edits_in
 
 PROGRAM, TESTS = "mailquota", ("mq_ends_tests", "mq_store_tests")
+# What the cases of tests/program read of the tree.
+CASES_READ = [
+    *("contrib", "debian", "docs", "examples", "man", "tests/model", "tests/program"),
+    *("Makefile", "README.md", "CHANGELOG", "LICENSE", "NOTICE", "SECURITY.md"),
+]
 # So many seconds a run has: one that waits for what doesn't come takes minutes.
 LONGEST = 10 * 60
 # What a run has come to that ends in an exception.
@@ -81,7 +92,7 @@ class Body:
     built, if it can't."""
 
     def __init__(self, crate, file):
-        self.crate, self.name = crate, os.path.basename(file)[: -len(".edit")]
+        self.crate, self.name, self.file = crate, os.path.basename(file)[: -len(".edit")], file
         # (whatever other bodies there are)
         self.number = 1 + (zlib.crc32(f"{self.crate} {self.name}".encode()) >> 1)
         self.cases, self.pairs, self.why = cases_in(file), [], None
@@ -97,6 +108,22 @@ class Body:
     def targets(self):
         """What is to be built for it."""
         return {target_of(group) for group, _ in self.cases}
+
+    def names(self):
+        """The names, of which there is one, by which it is kept that it failed as it must."""
+        made = [made_from(it) for it in sorted(self.targets())]
+        return [kept.sum_of("body", self.crate, self.name, text_of(self.file), made)]
+
+
+@functools.lru_cache(maxsize=None)
+def made_from(target):
+    """A sum of all that the runs of the program, or of a crate's tests, are made from but for the
+    body."""
+    rows, scripts = rows_of(TOP), ["scripts", "gate/edit.py", "gate/source.py"]
+    sources = [f"crates/{it}/src" for it in [*below(target, rows), target]]
+    cases = CASES_READ if target == PROGRAM else []
+    read = kept.sum_of_files(TOP, ["crates.txt", *sources, *scripts, *cases])
+    return kept.sum_of(target, kept.of_kit(), sys.version, read)
 
 
 def cases_in(file):
@@ -121,6 +148,7 @@ def all_bodies():
         for place, is_own in (
             (f"{TOP}/tests/bodies/{crate}", True),
             (f"{TOP}/crates/{crate}/must-fail", False),
+            (f"{TOP}/crates/{crate}/further", False),
         ):
             files = [f"{place}/{it}" for it in edits_in(place)[0]]
             found += [(crate, it) for it in files if is_own or cases_in(it)]
@@ -211,11 +239,7 @@ def add_switch(root):
 
 def sum_of(root):
     """A sum of all that a build below a folder reads."""
-    total = hashlib.sha256(
-        subprocess.run(
-            [RT, "version"], stdin=subprocess.DEVNULL, capture_output=True, check=True
-        ).stdout
-    )
+    total = hashlib.sha256(kit_version())
     for at, folders, names in os.walk(root):
         folders.sort()
         for it in (it for it in sorted(names) if not it.endswith(".o")):
@@ -285,6 +309,18 @@ def end(process):
         os.killpg(process.pid, signal.SIGKILL)
 
 
+class Runs:
+    """The runs of cases and tests that are going on, so that they end when this does."""
+
+    running, is_over = set(), False
+
+    @classmethod
+    def end(cls):
+        cls.is_over = True
+        for it in [*cls.running]:
+            end(it)
+
+
 Outcome = collections.namedtuple("Outcome", "name is_good function")
 
 
@@ -292,6 +328,8 @@ def outcomes(words, number, is_enough=lambda found: False):
     """What the cases or tests of a run come to with the body of this number, each with the function
     of its group, until they are enough."""
     found, function, late = [], None, threading.Event()
+    if Runs.is_over:
+        return found
     environment = {**os.environ, "PLANTED": str(number), "PYTHONUNBUFFERED": "1"}
     with subprocess.Popen(
         words,
@@ -303,6 +341,7 @@ def outcomes(words, number, is_enough=lambda found: False):
         errors="replace",
         start_new_session=True,
     ) as process:
+        Runs.running.add(process)
         timer = threading.Timer(LONGEST, lambda: (late.set(), end(process)))
         timer.start()
         try:
@@ -325,6 +364,7 @@ def outcomes(words, number, is_enough=lambda found: False):
         finally:
             timer.cancel()
             end(process)
+            Runs.running.discard(process)
     # (that says nothing of a case: the machine may be slow)
     return found + [Outcome(f"it takes more than {LONGEST} s", False, None)] * late.is_set()
 
@@ -440,7 +480,8 @@ def runs_without(bodies, programs, pool):
     return {case: runs[it] for case, it in wanted.items()}
 
 
-def main():
+def parsed(everything):
+    """The bodies that are asked for, whether they are all, and whether what is kept is taken."""
     parser = argparse.ArgumentParser(
         description=__doc__, formatter_class=argparse.RawDescriptionHelpFormatter
     )
@@ -450,33 +491,63 @@ def main():
         nargs="*",
         help="only the bodies of these names, or of these crates",
     )
-    names, everything = parser.parse_args().names, all_bodies()
-    asked = [it for it in everything if not names or it.crate in names or it.name in names]
-    unknown = [
-        it
-        for it in names
-        if it not in {name for body in everything for name in (body.crate, body.name)}
-    ]
+    parser.add_argument(
+        "--from-nothing", action="store_true", help="take nothing that earlier runs kept"
+    )
+    given = parser.parse_args()
+    unknown = {*given.names} - {name for body in everything for name in (body.crate, body.name)}
     if unknown:
-        parser.error(f"no crate and no body has this name: {', '.join(unknown)}")
-    with ThreadPoolExecutor(int(os.environ.get("RT_JOBS", 2))) as pool:
-        targets = sorted({it for body in asked for it in body.targets()})
-        # (all stand in the builds, so that these serve the next run too)
-        shared = [it for it in everything if it.functions is not None]
-        building = {it: pool.submit(built, it, shared) for it in targets}
-        programs = {target: it.result() for target, it in building.items()}
-        without = runs_without(asked, programs, pool)
-        running = []
-        for body in asked:
-            if body.why:
-                running.append(None)
-            elif body.functions is None:
-                running.append(pool.submit(tried_alone, body, without))
+        parser.error(f"no crate and no body has this name: {', '.join(sorted(unknown))}")
+    asked = [it for it in everything if not given.names or {it.crate, it.name} & {*given.names}]
+    return asked, not given.names, not given.from_nothing
+
+
+def tried(bodies, everything, pool):
+    """Tries these bodies, and gives each with what isn't seen of it, as it is known."""
+    targets = sorted({it for body in bodies for it in body.targets()})
+    # (all stand in the builds, so that these serve the next run too)
+    shared = [it for it in everything if it.functions is not None]
+    building = {it: pool.submit(built, it, shared) for it in targets}
+    programs = {target: it.result() for target, it in building.items()}
+    without = runs_without(bodies, programs, pool)
+    running = {}
+    for body in bodies:
+        if body.why:
+            yield body, []
+        elif body.functions is None:
+            running[pool.submit(tried_alone, body, without)] = body
+        else:
+            running[pool.submit(unseen_of, body, programs, without)] = body
+    for it in as_completed(running):
+        yield running[it], it.result()
+
+
+def main():
+    if without_kit():
+        return 2
+    everything = all_bodies()
+    asked, is_whole, takes = parsed(everything)
+    known = kept.Kept(takes)
+    left = [it for it in asked if known.take(it.names()) is None]
+    print(f"{len(asked) - len(left)} of {len(asked)} bodies are kept from earlier runs", flush=True)
+    # (so that what runs is ended)
+    for it in (signal.SIGINT, signal.SIGHUP, signal.SIGTERM):
+        signal.signal(it, lambda number, _: sys.exit(128 + number))
+    failed, pool = [], ThreadPoolExecutor(int(os.environ.get("RT_JOBS") or os.cpu_count()))
+    try:
+        for body, missed in tried(left, everything, pool) if left else ():
+            if tell(body, missed):
+                known.keep(body.names(), True)
             else:
-                running.append(pool.submit(unseen_of, body, programs, without))
-        good = [tell(body, it.result() if it else []) for body, it in zip(asked, running)]
-    print(f"{sum(good)} passed, {len(good) - sum(good)} failed")
-    return 0 if all(good) and good else 1
+                failed.append(f"{body.crate}/{body.name}")
+    finally:
+        pool.shutdown(wait=False, cancel_futures=True)
+        Runs.end()
+    if is_whole:
+        last_runs.note("bodies", len(asked), sorted(failed))
+    last_runs.tell("bodies")
+    print(f"{len(asked) - len(failed)} passed, {len(failed)} failed")
+    return 1 if failed or not asked else 0
 
 
 if __name__ == "__main__":
