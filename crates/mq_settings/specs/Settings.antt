@@ -1,13 +1,13 @@
 -- What settings mean, read off the table that the text spells.
-use Rattle.std.specs.Prelude.{◌≡◌, ◌≢◌, [], ℕ, ℤ, pos, negsuc, nat_le, int_le, ◌&&◌, ◌⊎◌, List, codes, bytes_eq, Option}
+use Rattle.std.specs.Prelude.{◌≡◌, ◌≢◌, [], ◌∷◌, IsSomeAnd, ℕ, ℤ, pos, negsuc, nat_le, int_le, ◌&&◌, ◌⊎◌, List, codes, bytes_eq, Option}
 use Rattle.std.specs.Prelude.{None, Some, Result, Ok, Err, MatchOption, MatchResult, IsOkAnd, String, string_bytes}
-use Rattle.std.specs.Prelude.{if◌then◌else◌}
+use Rattle.std.specs.Prelude.{if◌then◌else◌, Bool, false, ok_or}
 use Rattle.std.specs.Borrow.{Bor}
 use Rattle.std.specs.Str.{IsUtf8}
 use Rattle.std.specs.declared.alloc.Global.{Global}
 use Rattle.std.specs.Net.Grammar.{IsSocketText}
 use Rattle.std.specs.declared.net.SocketAddr.{SocketAddr}
-use Rattle.toml.specs.Data.{Data, Members, get_member, as_integer, as_str}
+use Rattle.toml.specs.Data.{Data, Members, get_member, as_bool, as_integer, as_str}
 use Rattle.toml.specs.Parse.{parse_document}
 use Rattle.log.specs.declared.level.LevelFilter.{LevelFilter}
 use Rattle.log.specs.declared.level.LevelFilter.TheVariants as level
@@ -17,7 +17,7 @@ use Rattle.mq_ledger.specs.Day.{ByOffset, ByRule, IsRule}
 use Rattle.mq_settings.specs.Keys.{key_name, filter_keys, server_keys, IsLeastUnknown, HasOnly}
 use Rattle.mq_settings.specs.declared.settings.key.Key.{Key}
 use Rattle.mq_settings.specs.declared.settings.key.Key.TheVariants.{Host, Server, Tries, Listen, Store, Default, Offset, Rule}
-use Rattle.mq_settings.specs.declared.settings.key.Key.TheVariants.{Keep, Timeout, Pause, Hold, Log}
+use Rattle.mq_settings.specs.declared.settings.key.Key.TheVariants.{Keep, Timeout, Pause, Hold, KeepConnection, Idle, Log, Permits}
 use Rattle.mq_settings.specs.declared.settings.value.Place.{Place}
 use Rattle.mq_settings.specs.declared.settings.value.Place.TheVariants as place
 use Rattle.mq_settings.specs.declared.settings.FilterSettings.{FilterSettings}
@@ -159,6 +159,19 @@ pause_at table = count_at Pause 0 3600 (Ok 0) table
 abbrev pub hold_at : Members → Result ℕ SettingsFault
 hold_at table = count_at Hold 0 60 (Ok 0) table
 
+-- whether the connection of a request is kept for the next one: not, where the entry is absent
+abbrev pub keep_connection_of : Option Data → Result Bool SettingsFault
+keep_connection_of None = Ok false
+keep_connection_of (Some entry) = ok_or (as_bool entry) (Bad KeepConnection)
+
+-- the same, of the table
+abbrev pub keep_connection_at : Members → Result Bool SettingsFault
+keep_connection_at table = keep_connection_of (get_member (key_name KeepConnection) table)
+
+-- seconds in which a connection may stay without a request after one, up to an hour, or a minute where the key is absent
+abbrev pub idle_at : Members → Result ℕ SettingsFault
+idle_at table = count_at Idle 1 3600 (Ok 60) table
+
 -- a value that was read, as one that may be there
 abbrev pub present : Result ℕ SettingsFault → Result (Option ℕ) SettingsFault
 present (Ok n) = Ok (Some n)
@@ -186,6 +199,20 @@ NamesPlace text (place.File path) = (string_bytes path ≡ text) × (text ≢ co
 abbrev pub IsPlaceAt : Members → Result Place SettingsFault → Type 0
 IsPlaceAt table r = TextAs Store NamesPlace (get_member (key_name Store) table) r
 
+-- a text that isn't empty is a path
+abbrev pub NamesPath : List ℕ → Result (Option (String Global)) SettingsFault → Type 0
+NamesPath [] r = r ≡ Err (Bad Permits)
+NamesPath (byte ∷ bytes) r = IsOkAnd r (λ found. IsSomeAnd found (λ path. string_bytes path ≡ byte ∷ bytes))
+
+-- the path that an entry names, which may not be there
+abbrev pub IsPathOf : Option Data → Result (Option (String Global)) SettingsFault → Type 0
+IsPathOf None r = r ≡ Ok None
+IsPathOf (Some entry) r = MatchOption (as_str entry) (r ≡ Err (Bad Permits)) (λ text. NamesPath text r)
+
+-- the path of the file that lists who may ask what
+abbrev pub IsPermitsPathAt : Members → Result (Option (String Global)) SettingsFault → Type 0
+IsPermitsPathAt table r = IsPathOf (get_member (key_name Permits) table) r
+
 -- ---- the settings of a file
 
 -- one check fails, or passes and a later one fails
@@ -202,6 +229,7 @@ pub record IsFilterSettings (table : Members) (settings : FilterSettings) : Type
   pub timeout : timeout_at table ≡ Ok settings.timeout
   pub pause : pause_at table ≡ Ok settings.pause
   pub hold : hold_at table ≡ Ok settings.hold
+  pub keep_connection : keep_connection_at table ≡ Ok settings.keep_connection
   pub log : level_at table ≡ Ok settings.log
 
 -- the first of the filter's keys that gives no value
@@ -209,7 +237,8 @@ abbrev pub IsFilterFault : Members → SettingsFault → Type 0
 IsFilterFault table e =
     FailsOr (IsHostAt table) (FailsOr (IsAddressAt Server table)
     (FailsOr (λ r. tries_at table ≡ r) (FailsOr (λ r. timeout_at table ≡ r) (FailsOr (λ r. pause_at table ≡ r)
-    (FailsOr (λ r. hold_at table ≡ r) (λ f. level_at table ≡ Err f)))))) e
+    (FailsOr (λ r. hold_at table ≡ r) (FailsOr (λ r. keep_connection_at table ≡ r)
+    (λ f. level_at table ≡ Err f))))))) e
 
 -- why the filter's settings are refused
 abbrev pub IsFilterRefusal : List ℕ → SettingsFault → Type 0
@@ -226,14 +255,17 @@ pub record IsServerSettings (table : Members) (settings : ServerSettings) : Type
   pub zone : IsZoneAt table (Ok settings.zone)
   pub keep : keep_at table ≡ Ok settings.keep
   pub timeout : timeout_at table ≡ Ok settings.timeout
+  pub idle : idle_at table ≡ Ok settings.idle
   pub log : level_at table ≡ Ok settings.log
+  pub permits : IsPermitsPathAt table (Ok settings.permits)
 
 -- the first of the server's keys that gives no value
 abbrev pub IsServerFault : Members → SettingsFault → Type 0
 IsServerFault table e =
     FailsOr (IsAddressAt Listen table) (FailsOr (IsPlaceAt table)
     (FailsOr (λ r. default_at table ≡ r) (FailsOr (IsZoneAt table) (FailsOr (λ r. keep_at table ≡ r)
-    (FailsOr (λ r. timeout_at table ≡ r) (λ f. level_at table ≡ Err f)))))) e
+    (FailsOr (λ r. timeout_at table ≡ r) (FailsOr (λ r. idle_at table ≡ r)
+    (FailsOr (λ r. level_at table ≡ r) (λ f. IsPermitsPathAt table (Err f))))))))) e
 
 -- why the server's settings are refused
 abbrev pub IsServerRefusal : List ℕ → SettingsFault → Type 0

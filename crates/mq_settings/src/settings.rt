@@ -38,6 +38,8 @@ pub struct FilterSettings {
     pub pause: u32,
     /// For how many seconds a login isn't asked for after its limit was reached, 0 to 60.
     pub hold: u32,
+    /// The connection of a request is kept for the next one.
+    pub keep_connection: bool,
     /// Which lines are logged: those of this level and the levels before it.
     pub log: LevelFilter,
 }
@@ -55,24 +57,29 @@ pub struct ServerSettings {
     pub zone: Zone,
     /// How many days before today are kept while it serves, 1 to 366: all, if nothing is said.
     pub keep: Option<u32>,
-    /// For how many milliseconds a peer may neither send nor take anything, 1 to 60,000. A whole
-    /// connection has twice as long.
+    /// For how many milliseconds a peer may neither send nor take anything, 1 to 60,000. Until all
+    /// that it asked is answered, it has twice as long.
     pub timeout: u32,
+    /// For how many seconds a connection may stay without a request after one, 1 to 3,600.
+    pub idle: u32,
     /// Which lines are logged: those of this level and the levels before it.
     pub log: LevelFilter,
+    /// The path of the file that lists who may ask what: everybody everything, if nothing is said.
+    pub permits: Option<String>,
 }
 
-const FILTER_KEYS: [Key; 7] = [
+const FILTER_KEYS: [Key; 8] = [
     Key::Host,
     Key::Server,
     Key::Tries,
     Key::Timeout,
     Key::Pause,
     Key::Hold,
+    Key::KeepConnection,
     Key::Log,
 ];
 
-const SERVER_KEYS: [Key; 8] = [
+const SERVER_KEYS: [Key; 10] = [
     Key::Listen,
     Key::Store,
     Key::Default,
@@ -80,7 +87,9 @@ const SERVER_KEYS: [Key; 8] = [
     Key::Rule,
     Key::Keep,
     Key::Timeout,
+    Key::Idle,
     Key::Log,
+    Key::Permits,
 ];
 
 /// Reads the filter's settings.
@@ -98,6 +107,7 @@ pub fn read_filter_settings(alloc: Global, text: &[u8]) -> Result<FilterSettings
     let timeout = value::read_count(&table, Key::Timeout, 1, 60_000, Some(2_000))?;
     let pause = value::read_count(&table, Key::Pause, 0, 3_600, Some(0))?;
     let hold = value::read_count(&table, Key::Hold, 0, 60, Some(0))?;
+    let keep_connection = value::read_keep_connection(&table)?;
     let log = value::read_level(&table)?;
     Ok(FilterSettings {
         host,
@@ -106,6 +116,7 @@ pub fn read_filter_settings(alloc: Global, text: &[u8]) -> Result<FilterSettings
         timeout,
         pause,
         hold,
+        keep_connection,
         log,
     })
 }
@@ -125,7 +136,9 @@ pub fn read_server_settings(alloc: Global, text: &[u8]) -> Result<ServerSettings
     let zone = value::read_zone(&table)?;
     let keep = value::read_keep(&table)?;
     let timeout = value::read_count(&table, Key::Timeout, 1, 60_000, Some(2_000))?;
+    let idle = value::read_count(&table, Key::Idle, 1, 3_600, Some(60))?;
     let log = value::read_level(&table)?;
+    let permits = value::read_permits_path(alloc, &table)?;
     Ok(ServerSettings {
         listen,
         store,
@@ -133,6 +146,8 @@ pub fn read_server_settings(alloc: Global, text: &[u8]) -> Result<ServerSettings
         zone,
         keep,
         timeout,
+        idle,
         log,
+        permits,
     })
 }

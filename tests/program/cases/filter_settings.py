@@ -177,7 +177,20 @@ def order(world, checks):
         text_of(pause=-1, hold=-1, log="0"),
         "setting pause: bad value",
     )
-    expect(world, checks, "hold and log bad", text_of(hold=-1, log="0"), "setting hold: bad value")
+    expect(
+        world,
+        checks,
+        "hold, keep_connection and log bad",
+        text_of(hold=-1, keep_connection="1", log="0"),
+        "setting hold: bad value",
+    )
+    expect(
+        world,
+        checks,
+        "keep_connection and log bad",
+        text_of(keep_connection="1", log="0"),
+        "setting keep_connection: bad value",
+    )
 
 
 def values(world, checks):
@@ -189,6 +202,7 @@ def values(world, checks):
         ("timeout", ["1", "60000", "60_000"]),
         ("pause", ["0", "3600", "0x0a"]),
         ("hold", ["0", "60"]),
+        ("keep_connection", ["true", "false"]),
         ("log", ['"off"', '"error"', '"warn"', '"info"']),
     ]
     refused = [
@@ -198,6 +212,7 @@ def values(world, checks):
         ("timeout", ["0", "60001", "-1", '"2000"', "2000.0", "1979-05-27"]),
         ("pause", ["3601", "-1", '"10"', "10.0", "true"]),
         ("hold", ["61", "-1", '"5"', "5.0", "[5]"]),
+        ("keep_connection", ['"true"', "1", "0", "[true]"]),
         ("log", ['"debug"', '"trace"', '"WARN"', '"warning"', '""', "1", "true"]),
     ]
     # (with "info" its run is logged too, and with "off" nothing)

@@ -133,8 +133,11 @@ class Cases:
             "keep and timeout bad", self.text_of(keep=0, timeout=0), "setting keep: bad value"
         )
         self.expect(
-            "timeout and log bad", self.text_of(timeout=0, log=0), "setting timeout: bad value"
+            "timeout, idle and log bad",
+            self.text_of(timeout=0, idle=0, log=0),
+            "setting timeout: bad value",
         )
+        self.expect("idle and log bad", self.text_of(idle=0, log=0), "setting idle: bad value")
         self.expect(
             "store missing, default bad",
             self.text_of(store=None, default='"x"'),
@@ -147,6 +150,7 @@ class Cases:
             ("offset", ["-1439", "1439", "+60"]),
             ("keep", ["1", "366"]),
             ("timeout", ["1", "60000"]),
+            ("idle", ["1", "3600"]),
             ("log", ['"off"', '"error"', '"warn"', '"info"']),
         ]
         refused = [
@@ -156,6 +160,7 @@ class Cases:
             ("offset", ["-1440", "1440", '"0"', "0.0", "true"]),
             ("keep", ["0", "367", "-1", '"2"', "2.0"]),
             ("timeout", ["0", "60001", '"300"', "300.0"]),
+            ("idle", ["0", "3601", "-1", '"60"', "60.0"]),
             ("log", ['"debug"', '"Info"', "1"]),
         ]
         # (with "info" it says first what it has opened, and with "off" nothing)

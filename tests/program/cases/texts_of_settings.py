@@ -12,6 +12,8 @@ WANTED = {
     "timeout": "a whole number of milliseconds from 1 to 60000",
     "pause": "a whole number of seconds from 0 to 3600",
     "hold": "a whole number of seconds from 0 to 60",
+    "keep_connection": "true or false, without quotes",
+    "idle": "a whole number of seconds from 1 to 3600",
     "log": "off, error, warn or info, in quotes",
     "store": "'memory' or the path of a file, in quotes",
     "default": "a whole number from 0 to 1000000",

@@ -19,7 +19,10 @@ pub enum Key {
     Timeout,
     Pause,
     Hold,
+    KeepConnection,
+    Idle,
     Log,
+    Permits,
 }
 
 impl Key {
@@ -40,7 +43,10 @@ impl Key {
             Key::Timeout => "timeout",
             Key::Pause => "pause",
             Key::Hold => "hold",
+            Key::KeepConnection => "keep_connection",
+            Key::Idle => "idle",
             Key::Log => "log",
+            Key::Permits => "permits",
         }
     }
 
@@ -58,7 +64,10 @@ impl Key {
             Key::Timeout => "a whole number of milliseconds from 1 to 60000",
             Key::Pause => "a whole number of seconds from 0 to 3600",
             Key::Hold => "a whole number of seconds from 0 to 60",
+            Key::KeepConnection => "true or false, without quotes",
+            Key::Idle => "a whole number of seconds from 1 to 3600",
             Key::Log => "off, error, warn or info, in quotes",
+            Key::Permits => "the path of a file, in quotes",
         }
     }
 }

@@ -4,8 +4,9 @@ ghost use Rattle.mq_ledger.specs.Day.{ByRule, IsRule};
 ghost use Rattle.toml.specs.Data.{as_integer};
 ghost use Rattle.toml.specs.View.{view, table_view};
 ghost use Rattle.mq_settings.specs.Settings.{IsTextAt, IsHostAt, IsAddressAt, count_at, count_in};
-ghost use Rattle.mq_settings.specs.Settings.{keep_at, IsZoneByRule, IsZoneAt};
+ghost use Rattle.mq_settings.specs.Settings.{keep_at, keep_connection_at, IsZoneByRule, IsZoneAt};
 ghost use Rattle.mq_settings.specs.Settings.{level_named, level_at, zone_by_offset, IsPlaceAt};
+ghost use Rattle.mq_settings.specs.Settings.{IsPermitsPathAt};
 
 use crate::settings::address::address_flaw;
 use crate::settings::fault::SettingsFault;
@@ -93,6 +94,18 @@ pub fn read_keep(table: &Table) -> Result<Option<u32>, SettingsFault>
             Ok(days) => Ok(Some(days)),
             Err(fault) => Err(fault),
         },
+    }
+}
+
+/// Whether the connection of a request is kept for the next one: not, where the key is absent.
+pub fn read_keep_connection(table: &Table) -> Result<bool, SettingsFault>
+    ensures { result ≡ keep_connection_at (table_view table.now) }
+{
+    match value_at(table, Key::KeepConnection) {
+        None => Ok(false),
+        Some(value) => value
+            .as_bool()
+            .ok_or(SettingsFault::Bad(Key::KeepConnection)),
     }
 }
 
@@ -200,4 +213,19 @@ pub fn read_place(alloc: Global, table: &Table) -> Result<Place, SettingsFault>
         return Err(SettingsFault::Bad(Key::Store));
     }
     Ok(Place::File(String::from_str(alloc, text)?))
+}
+
+/// The path of the file that lists who may ask what: none, where the key is absent.
+pub fn read_permits_path(alloc: Global, table: &Table) -> Result<Option<String>, SettingsFault>
+    ensures ok { IfOk result (λ path. IsPermitsPathAt (table_view table.now) (Ok path)) }
+    ensures fault { IfErr result (λ e. e ≢ SettingsFault.Memory
+        → IsPermitsPathAt (table_view table.now) (Err e)) }
+{
+    let Some(value) = value_at(table, Key::Permits) else {
+        return Ok(None);
+    };
+    match value.as_str() {
+        Some(path) if !path.is_empty() => Ok(Some(String::from_str(alloc, path)?)),
+        _ => Err(SettingsFault::Bad(Key::Permits)),
+    }
 }
