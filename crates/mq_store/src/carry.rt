@@ -16,7 +16,7 @@ ghost use Rattle.mq_request.specs.Range.{IsRequest};
 ghost use Rattle.mq_tables.specs.Inside.{IsInside, CommitsNothing, Finds, Turns, StaysInside};
 ghost use Rattle.mq_store.specs.Inside.{Answers, ChangesNothing};
 ghost use Rattle.mq_store.specs.Carrying.{IsJudgedAt, Follows, SetsAgain, CarriesOne};
-ghost use Rattle.mq_store.specs.Renewing.{Renews, RenewsBy};
+ghost use Rattle.mq_store.specs.Renewing.{GoesAtMost, Renews, RenewsBy};
 ghost use Rattle.mq_store.specs.Taking.{Applies};
 
 use crate::fault::Refusal;
@@ -183,6 +183,7 @@ fn step_apart<S: Alter, T: Alter>(
     ensures inside { OnOk result (IsTrue (state over_memory scratch.new.conn.now).in_transaction) }
     ensures into_inside { StaysInside T.Store into.old into.new result }
     ensures more { IfOk result (λ to. at.place + at.followed < to.place + to.followed) }
+    ensures most { IfOk result (GoesAtMost 1 at) }
     ensures renews { HasCleanDisk (state S.Store from.new.conn.now)
         → HasCleanDisk (state T.Store into.new.conn.now)
         → IfOk result (λ to. RenewsBy terms.now.zone terms.now.default terms.now.day
@@ -229,6 +230,7 @@ fn step_by<S: Alter, T: Alter>(
     ensures inside { OnOk result (IsTrue (state over_memory scratch.new.conn.now).in_transaction) }
     ensures into_inside { StaysInside T.Store into.old into.new result }
     ensures more { IfOk result (λ to. at.place + at.followed < to.place + to.followed) }
+    ensures most { IfOk result (GoesAtMost 1 at) }
     ensures renews { HasCleanDisk (state S.Store from.new.conn.now)
         → HasCleanDisk (state T.Store into.new.conn.now)
         → IfOk result (λ to. RenewsBy terms.now.zone terms.now.default terms.now.day judged.now at
@@ -271,6 +273,7 @@ pub(crate) fn step<S: Alter, T: Alter>(
     ensures inside { OnOk result (IsTrue (state over_memory scratch.new.conn.now).in_transaction) }
     ensures into_inside { StaysInside T.Store into.old into.new result }
     ensures more { IfOk result (λ to. at.place + at.followed < to.place + to.followed) }
+    ensures most { IfOk result (GoesAtMost 1 at) }
     ensures renews { HasCleanDisk (state S.Store from.new.conn.now)
         → HasCleanDisk (state T.Store into.new.conn.now)
         → IfOk result (λ to. Renews terms.now.zone terms.now.default terms.now.day at to

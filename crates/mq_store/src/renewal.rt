@@ -1,8 +1,9 @@
 //! A new ledger that takes over what an old one remembers from a day on, while requests come to the
 //! old one.
 
-ghost use Rattle.std.specs.Prelude.{◌≡◌, ◌⊎◌, ◌↔◌, ◌+◌, ◌≤◌, List, Err, is_some, None, false};
-ghost use Rattle.std.specs.Prelude.{IsTrue, IfOk, IfErr, OnOk};
+ghost use Rattle.std.specs.Prelude.{◌≡◌, ◌⊎◌, ◌↔◌, ◌+◌, ◌≤◌, length, List, Err, is_some};
+ghost use Rattle.std.specs.Prelude.{None, Some, false};
+ghost use Rattle.std.specs.Prelude.{IsTrue, IfOk, IfErr, IfSome, OnOk};
 ghost use Rattle.sqlite.specs.Held.{state};
 ghost use Rattle.sqlite.specs.State.{HasCleanDisk};
 ghost use Rattle.sqlite.specs.Steps.{over_memory};
@@ -13,7 +14,7 @@ ghost use Rattle.mq_tables.specs.Making.{has_ledger_table};
 ghost use Rattle.mq_store.specs.declared.fault.OpenFault.TheVariants.{NotOurs};
 ghost use Rattle.mq_store.specs.Forgetting.{IsFree, IsRemembered};
 ghost use Rattle.mq_store.specs.Opening.{IsStop};
-ghost use Rattle.mq_store.specs.Renewing.{HasCarried};
+ghost use Rattle.mq_store.specs.Renewing.{came_since, GoesAtMost, HasCarried};
 ghost use Rattle.mq_store.specs.Soundness.{HasKept, IsSound, book_in};
 ghost use Rattle.mq_store.specs.Taking.{HasBook, book_of};
 
@@ -61,6 +62,7 @@ impl<S: Alter> Renewal<S> {
         requires in_range { IsAmount default }
         ensures lent { IfOk result (λ r. (r.made.zone ≡ zone) × (r.made.default ≡ default)
             × (r.day ≡ day)) }
+        ensures unheard { IfOk result (λ r. r.heard ≡ None) }
         ensures begun { IfOk result (λ r. HasCleanDisk (state S.Store r.made.connection)
             → IsFree (state S.Store connection).now → (H : List AnyEntry)
             → HasCarried zone default day H r.reached (state S.Store r.made.connection).now
@@ -116,6 +118,14 @@ impl<S: Alter> Renewal<S> {
         ensures more { IfOk result (λ is_through. IsTrue is_through
             ⊎ self.old.reached.place + self.old.reached.followed + count
             ≤ self.new.reached.place + self.new.reached.followed) }
+        ensures most { IfOk result (λ _. IfSome self.new.heard (λ arrivals.
+            GoesAtMost (count + came_since self.old.heard arrivals)
+            self.old.reached self.new.reached)) }
+        ensures heard { HasKept (state T.Store old.new.connection)
+            → IfOk result (λ _. (H : List AnyEntry)
+            → HasBook (book_of old.old.zone old.old.default H)
+            (state T.Store old.old.connection).now
+            → self.new.heard ≡ Some (length H)) }
         ensures kept { HasKept (state S.Store self.new.made.connection)
             → HasKept (state S.Store self.old.made.connection) }
 

@@ -7,6 +7,7 @@ ghost use Rattle.sqlite.specs.Steps.{over_memory};
 ghost use Rattle.sqlite.specs.Tree.{Trees};
 ghost use Rattle.mq_tables.specs.Inside.{IsInside, CommitsNothing, Finds, StaysInside};
 ghost use Rattle.mq_store.specs.Inside.{ChangesNothing};
+ghost use Rattle.mq_store.specs.Renewing.{came_since, GoesAtMost, HasSoMany};
 ghost use Rattle.mq_store.specs.Renewing.{Renews, IsThrough, Ends};
 ghost use Rattle.mq_store.specs.Soundness.{HasKept};
 
@@ -29,7 +30,9 @@ pub(crate) struct Slice {
 
 /// How many answers came to the old store since a slice at which it had so many; before the first
 /// one none did.
-fn came_since(heard: Option<u64>, arrivals: u64) -> u64 {
+fn came_since(heard: Option<u64>, arrivals: u64) -> u64
+    ensures { result ≡ came_since heard arrivals }
+{
     match heard {
         Some(before) => arrivals.saturating_sub(before),
         None => 0,
@@ -55,6 +58,7 @@ fn steps<S: Alter, T: Alter>(
     ensures into_inside { StaysInside T.Store into.old into.new result }
     ensures more { IfOk result (λ to. until ≤ to.place ⊎ at.place + at.followed + count ≤ to.place +
         to.followed) }
+    ensures most { IfOk result (GoesAtMost count at) }
     ensures renews { HasCleanDisk (state S.Store from.new.conn.now)
         → HasCleanDisk (state T.Store into.new.conn.now)
         → IfOk result (λ to. Renews terms.now.zone terms.now.default terms.now.day at to
@@ -96,6 +100,10 @@ pub(crate) fn go_through<S: Alter, T: Alter>(
     ensures into_inside { StaysInside T.Store into.old into.new result }
     ensures more { IfOk result (λ slice. IsTrue slice.is_through
         ⊎ at.place + at.followed + count ≤ slice.reached.place + slice.reached.followed) }
+    ensures most { IfOk result (λ slice.
+        GoesAtMost (count + came_since heard slice.arrivals) at slice.reached) }
+    ensures counts { Finds S.Store from.old from.new result (λ db slice.
+        HasSoMany terms.now.zone terms.now.default slice.arrivals db) }
     ensures all { IfOk result (λ slice. 2 ^ 64 ≤ count + 1 → IsTrue slice.is_through) }
     ensures through { Finds S.Store from.old from.new result (λ db slice. IsTrue slice.is_through
         → IsThrough terms.now.zone terms.now.default slice.reached db) }
@@ -151,6 +159,10 @@ pub(crate) fn renew_store<S: Alter, T: Alter>(
         → (state S.Store from.new).may_leave db → (state S.Store from.old).may_leave db }
     ensures more { IfOk result (λ slice. IsTrue slice.is_through
         ⊎ at.place + at.followed + count ≤ slice.reached.place + slice.reached.followed) }
+    ensures most { IfOk result (λ slice.
+        GoesAtMost (count + came_since heard slice.arrivals) at slice.reached) }
+    ensures counts { HasKept (state S.Store from.new) → IfOk result (λ slice.
+        HasSoMany terms.now.zone terms.now.default slice.arrivals (state S.Store from.old).now) }
     ensures renews { HasKept (state S.Store from.new) → HasKept (state T.Store into.new)
         → IfOk result (λ slice.
         Renews terms.now.zone terms.now.default terms.now.day at slice.reached

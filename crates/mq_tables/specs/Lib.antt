@@ -14,6 +14,7 @@ pub mod Lent
 pub mod Governing
 pub mod Over
 pub mod Days
+pub mod TransactionDays
 pub mod Paging
 pub mod Finding
 pub mod Figures

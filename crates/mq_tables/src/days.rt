@@ -22,7 +22,7 @@ fn newest_rows<S: Alter>(tx: &mut Transaction<'_, S>) -> Result<Vec<Row>, Error>
 }
 
 /// What the first row shows, where there is one.
-fn first_day(rows: &[Row]) -> Result<Option<u32>, Error>
+pub(crate) fn first_day(rows: &[Row]) -> Result<Option<u32>, Error>
     ensures { IfOk result (IsFirstDay rows.now) }
 {
     let Some(row) = rows.first() else {

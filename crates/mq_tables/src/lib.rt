@@ -33,5 +33,6 @@ pub mod retiring;
 pub mod rule;
 pub mod setting;
 pub mod transaction;
+pub mod transaction_days;
 pub mod usage;
 pub mod version;

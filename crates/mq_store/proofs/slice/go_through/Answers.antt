@@ -10,6 +10,11 @@ returns-clause-through g c clean through = λ H has.
     let most : c.in_ok-until.until ≤ c.in_ok-reached.reached.place = leb-true c.in_ok-until.until c.in_ok-reached.reached.place (grind (arith, through)) in
     omega (arith, count, most)
 
+pub returns-clause-counts : goal.returns-clause-counts
+returns-clause-counts g c clean = λ H has.
+    let mid = was_clean c.steps.ensures.from_leaves clean in
+    c.in_ok-until.ensures.found mid has.has.tables has.has.holds ∙ ap (λ (s : SettingRecord). s.arrivals) has.has.rows.setting.row
+
 pub returns-clause-renews : goal.returns-clause-renews
 returns-clause-renews g c clean clean_into = λ H has carried.
     let mid = was_clean c.steps.ensures.from_leaves clean in

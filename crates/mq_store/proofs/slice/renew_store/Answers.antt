@@ -15,6 +15,11 @@ returns-clause-renews g c = λ kept kept_into.
     let scratch = rw same_scratch at ((c.in_ok-commit-2.ensures.ok (memory_is_clean c.commit-2.new.self.0)).1.now_is) in
     renews_still c.args.terms.now.zone c.args.terms.now.default c.args.terms.now.day c.args.at c.in_ok-slice.slice.reached _ _ _ _ _ _ _ went now scratch
 
+pub returns-clause-counts : goal.returns-clause-counts
+returns-clause-counts g c = λ kept.
+    let read : HasCleanDisk (state g.S.Store c.go_through.new.from.conn.now) = search rules in
+    rw c.transaction-reading.ensures.begun at (c.in_ok-slice.ensures.counts read)
+
 pub returns-clause-ends : goal.returns-clause-ends
 returns-clause-ends g c = λ kept kept_into through.
     let same_into : c.commit.new.self.0 ≡ c.into-2-1.given.0 = search rules in

@@ -21,6 +21,7 @@ loop-step-preserved g c =
       into_inside = f.into_inside;
       inside = f.inside;
       more = omega (arith, i.more, f.more);
+      most = (omega (arith, i.most.0, f.most.0), omega (arith, i.most.1, f.most.1));
       renews = λ clean clean_into H has carried.
           let mid = was_clean c.step.ensures.from_leaves clean in
           let mid_into = was_clean c.step.ensures.into_leaves clean_into in

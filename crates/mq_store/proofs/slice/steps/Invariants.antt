@@ -1,6 +1,6 @@
 use Rattle.std.proofs.Common.{IsTrue, ◌+◌, ◌≤◌}
 use Rattle.mq_store.proofs.Words.{HasCleanDisk, CommitsNothing, over_memory, state}
-use Rattle.mq_store.specs.Renewing.{Renews}
+use Rattle.mq_store.specs.Renewing.{GoesAtMost, Renews}
 use Rattle.mq_store.specs.Taking.{Stays}
 use Rattle.mq_store.proofs.slice.steps.Given as goal
 
@@ -20,6 +20,7 @@ invariant-loop-step g l =
       into_inside : HasCleanDisk now_into → IsTrue now_into.in_transaction;
       inside : IsTrue after.in_transaction;
       more : l.fn.at.place + l.fn.at.followed + l._step ≤ l.reached.place + l.reached.followed;
+      most : GoesAtMost l._step l.fn.at l.reached;
       renews : HasCleanDisk now → HasCleanDisk now_into
           → Renews l.terms.zone l.terms.default l.terms.day l.fn.at l.reached old.now old_into.now now_into.now before.now after.now;
     }

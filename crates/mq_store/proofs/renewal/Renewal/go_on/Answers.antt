@@ -1,3 +1,4 @@
+use Rattle.std.proofs.Common.{Some, ap}
 use Rattle.mq_store.proofs.Words.{state}
 use Rattle.mq_store.specs.Soundness.{book_in}
 use Rattle.mq_store.proofs.Renewals.{renewed}
@@ -10,6 +11,9 @@ returns-clause-remembered g c = rw (← c.old.view_is, ← c.self.view_is) (λ t
     let old = state g.T.Store l.connection in
     renewed l.zone l.default _ c.tables_mean_their_book.ensures old (state g.S.Store c.renew_store.new.into) kept_made
     (c.in-Ok.ensures.ends kept kept_made through (book_in l.zone l.default old.now).history (book_had l.zone l.default old sound) carried))
+
+pub returns-clause-heard : goal.returns-clause-heard
+returns-clause-heard g c = rw (← c.old.view_is) (λ kept H has. ap Some (c.in-Ok.ensures.counts kept H has))
 
 pub returns-clause-old_sound : goal.returns-clause-old_sound
 returns-clause-old_sound g c = rw (← c.old.view_is) (λ kept sound.
