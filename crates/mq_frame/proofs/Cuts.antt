@@ -4,7 +4,7 @@ use Rattle.std.specs.Prelude.{Some, None, Ok, ◌⊎◌, nat_lt, ◌==◌}
 use Rattle.std.specs.List.{All, flat_map}
 use Rattle.std.proofs.lemmas.Bool.{cases_lt, ltb-true, le-ltb, lt-ltb}
 use Rattle.std.proofs.lemmas.Bool.Decides.{nat_tests, Decides-eqb}
-use Rattle.std.proofs.lemmas.List.{take_at, drop_at, take-append-le, drop-append-le, take-append-drop, length-append, length-take, get_or_past}
+use Rattle.std.proofs.lemmas.List.{take_at, drop_at, take-append-le, drop-append-le, take-append-drop, length-append, length-take, length-drop, drop-drop, get_or_past}
 use Rattle.std.proofs.lemmas.List.Elements.{All-nil, All-cons, All-head, All-tail}
 use Rattle.mq_lemmas.proofs.Booleans.{either}
 use Rattle.mq_request.specs.Range.{IsWithin}
@@ -270,3 +270,43 @@ pub part_short : (limit : ℕ) (bytes : List ℕ) → GivesNone (front limit byt
 part_short limit [] e = omega arith
 part_short limit (a ∷ []) e = omega arith
 part_short limit (a ∷ b ∷ bytes) e = let h = part_behind limit (256 * a + b) bytes e in omega (arith, h)
+
+-- ---- what a look at the front shows
+
+-- a whole frame stands at the front of these bytes: two bytes, this body, and what is left
+pub record Shown (bytes body left : List ℕ) : Type 0 where
+  pub there : 2 + length body ≤ length bytes
+  pub body_is : take (length body) (drop 2 bytes) ≡ body
+  pub left_is : drop (2 + length body) bytes ≡ left
+
+shown_behind : (limit n a b : ℕ) (bytes body : List ℕ) → next_answer (front_behind limit n bytes) ≡ Ok (Some body) → Shown (a ∷ b ∷ bytes) body (left_by_next (front_behind limit n bytes) (a ∷ b ∷ bytes))
+shown_behind limit n a b bytes body e =
+    let left = left_by_next (front_behind limit n bytes) (a ∷ b ∷ bytes) in
+    let w = whole_from limit n bytes body left (gives_whole (a ∷ b ∷ bytes) body (front_behind limit n bytes) e) in
+    let there = w.there in
+    let size : n ≡ length body = sym (ap length (sym w.body_is) ∙ omega (arith, there, length-take n bytes)) in
+    record {
+      there = omega (arith, there, size);
+      body_is = rw (← size) w.body_is;
+      left_is = rw (← size) (sym (drop-drop n 2 (a ∷ b ∷ bytes)) ∙ w.after_is);
+    }
+
+pub shown : (limit : ℕ) (bytes body : List ℕ) → next_answer (front limit bytes) ≡ Ok (Some body) → Shown bytes body (left_by_next (front limit bytes) bytes)
+shown limit [] body e = absurd cc
+shown limit (a ∷ []) body e = absurd cc
+shown limit (a ∷ b ∷ bytes) body e = shown_behind limit (256 * a + b) a b bytes body e
+
+-- and so in a buffer whose first bytes were taken already
+pub shown_past : (limit taken : ℕ) (bytes body : List ℕ) → taken ≤ length bytes → Ok (Some body) ≡ next_answer (front limit (drop taken bytes))
+    → (taken + 2 + length body ≤ length bytes)
+    × (take (length body) (drop (taken + 2) bytes) ≡ body)
+    × (drop (taken + 2 + length body) bytes ≡ left_by_next (front limit (drop taken bytes)) (drop taken bytes))
+shown_past limit taken bytes body low e =
+    let s = shown limit (drop taken bytes) body (sym e) in
+    let there = s.there in
+    let next : drop 2 (drop taken bytes) ≡ drop (taken + 2) bytes = drop-drop 2 taken bytes in
+    let past : drop (2 + length body) (drop taken bytes) ≡ drop (taken + 2 + length body) bytes = drop-drop (2 + length body) taken bytes ∙ ap (λ n. drop n bytes) (omega arith) in (
+      omega (arith, there, length-drop taken bytes, low),
+      ap (take (length body)) (sym next) ∙ s.body_is,
+      sym past ∙ s.left_is,
+    )

@@ -125,15 +125,14 @@ impl FrameFeed {
         self.bytes.len()
     }
 
-    /// Takes the next frame and gives its body, `None` where no whole frame is there yet.
+    /// The body of the next frame, `None` where no whole frame is there yet. It isn't taken.
     ///
     /// At a head of length 0 it is `Empty`, and at one above the limit `TooLong`, as soon as both
-    /// bytes of the head are there; the feed is then as before, and answers that again.
-    pub fn next_body(&mut self) -> Result<Option<&[u8]>, FrameFault>
-        ensures* after { sem 𝓛 (Rests the_row self.entry (Takes self.old)) }
-        ensures answer { MatchResult result
-            (λ body. Ok (option_copied body) ≡ next_answer (front self.old.limit self.old.rest))
-            (λ fault. Err fault ≡ next_answer (front self.old.limit self.old.rest)) }
+    /// bytes of the head are there.
+    pub fn peek_body(&self) -> Result<Option<&[u8]>, FrameFault>
+        ensures { MatchResult result
+            (λ body. Ok (option_copied body) ≡ next_answer (front self.now.limit self.now.rest))
+            (λ fault. Err fault ≡ next_answer (front self.now.limit self.now.rest)) }
     {
         let limit = self.limit as usize;
         match &self.bytes[self.taken..] {
@@ -148,11 +147,27 @@ impl FrameFeed {
                 if rest.len() < length {
                     return Ok(None);
                 }
-                self.taken = self.taken + HEAD_BYTES + length;
                 Ok(Some(&rest[..length]))
             }
             _ => Ok(None),
         }
+    }
+
+    /// Takes the next frame and gives its body, as `peek_body` shows it. Where that is `None` or a
+    /// fault, the feed is as before, and answers that again.
+    pub fn next_body(&mut self) -> Result<Option<&[u8]>, FrameFault>
+        ensures* after { sem 𝓛 (Rests the_row self.entry (Takes self.old)) }
+        ensures answer { MatchResult result
+            (λ body. Ok (option_copied body) ≡ next_answer (front self.old.limit self.old.rest))
+            (λ fault. Err fault ≡ next_answer (front self.old.limit self.old.rest)) }
+    {
+        let Some(body) = self.peek_body()? else {
+            return Ok(None);
+        };
+        let begin = self.taken + HEAD_BYTES;
+        let end = begin + body.len();
+        self.taken = end;
+        Ok(Some(&self.bytes[begin..end]))
     }
 
     /// Whether the stream may end here: `Ok` where each byte that was fed was taken with its

@@ -1,7 +1,7 @@
 //! What every ledger keeps to.
-ghost use Rattle.std.specs.Prelude.{◌≡◌, [], ◌∷◌, ◌++◌, Err, ⊤, IfOk, OnOk, OnErr};
+ghost use Rattle.std.specs.Prelude.{◌≡◌, [], ◌∷◌, ◌++◌, All, None, Err, ⊤, IfOk, OnOk, OnErr};
 ghost use Rattle.mq_request.specs.Range.{IsRequest, IsReply};
-ghost use Rattle.mq_ledger.specs.Answer.{build, reply};
+ghost use Rattle.mq_ledger.specs.Answer.{build, history_of, replies_after, reply};
 ghost use Rattle.mq_ledger.specs.Arrivals.{first};
 ghost use Rattle.mq_ledger.specs.Day.{day_of};
 ghost use Rattle.mq_ledger.specs.History.{requests};
@@ -104,6 +104,45 @@ pub trait Ledger {
         ensures fault { has_kept self.new → is_sound self.old →
             OnErr result ((book self.new).history ≡ (book self.old).history) }
         ensures sound { has_kept self.new → is_sound self.old → is_sound self.new };
+
+    /// Replies to several requests, to each as `apply` does after those before it: to all of them,
+    /// or to none. `replies` has these replies alone, in the order of the requests. After a fault
+    /// it may have any, the history is as it was, and each request may be put by `apply`.
+    ///
+    /// A ledger that takes each by itself alone, since it gains nothing by more or reports each
+    /// call, answers `Memory`, as one that has none for them together.
+    fn apply_all(
+        &mut self,
+        arrivals: &[Request],
+        replies: &mut Vec<Reply>,
+    ) -> Result<(), LedgerFault>
+        requires { All IsRequest arrivals.now }
+
+        // Of any ledger, sound or not.
+        ensures told { OnErr result (Tells (told self.old) (told self.new) []) }
+        ensures untold { OnOk result (told self.new ≡ None) }
+        ensures in_range { OnOk result (All IsReply replies.new.items) }
+        ensures same_zone { (book self.new).zone ≡ (book self.old).zone }
+        ensures same_default { (book self.new).default ≡ (book self.old).default }
+        ensures kept { has_kept self.new → has_kept self.old }
+        ensures no_store { has_store self.new → has_store self.old }
+        ensures store { result ≡ Err LedgerFault.Store → has_store self.old }
+
+        // Of a sound one that has kept its premise.
+        ensures replies { has_kept self.new → is_sound self.old → (let b = book self.old in
+            OnOk result (replies.new.items
+            ≡ replies_after (day_of b.zone) b.default (requests b.history) arrivals.now)) }
+        ensures history { has_kept self.new → is_sound self.old → (let b = book self.old in
+            OnOk result ((book self.new).history
+            ≡ history_of (day_of b.zone) b.default (requests b.history ++ arrivals.now))) }
+        ensures fault { has_kept self.new → is_sound self.old →
+            OnErr result ((book self.new).history ≡ (book self.old).history) }
+        ensures sound { has_kept self.new → is_sound self.old → is_sound self.new }
+    {
+        let _ = arrivals;
+        let _ = replies;
+        Err(LedgerFault::Memory)
+    }
 
     /// A sound ledger has kept its premise.
     ghost sound_is_kept: { (s : Self) → is_sound s → has_kept s };

@@ -39,15 +39,15 @@ added_text : (l : Life) (replies replies' : List ℕ) (r : Reply) → l.taken ++
 added_text l replies replies' r text added =
     ap (λ (q : List ℕ). l.taken ++ q) added ∙ sym (append_assoc l.taken replies (frame (reply_body r))) ∙ ap (λ (q : List ℕ). q ++ frame (reply_body r)) text ∙ sym (frames_of_push (replies_of l.exchanges) r)
 
-text_one : (l : Life) (replies replies' : List ℕ) (d : Delivery) (r : Reply) → l.taken ++ replies ≡ frames_of (replies_of l.exchanges) → replies' ≡ replies ++ frame (reply_body r)
+pub text_one : (l : Life) (replies replies' : List ℕ) (d : Delivery) (r : Reply) → l.taken ++ replies ≡ frames_of (replies_of l.exchanges) → replies' ≡ replies ++ frame (reply_body r)
     → l.taken ++ replies' ≡ frames_of (replies_of (l.exchanges ++ exchange d r ∷ []))
 text_one l replies replies' d r text added = added_text l replies replies' r text added ∙ ap frames_of (sym (map-append (λ (x : Exchange). x.answer) l.exchanges (exchange d r ∷ [])))
 
-count_one : (l : Life) (d : Delivery) (r : Reply) (n : ℕ) → length l.exchanges ≡ n → length (l.exchanges ++ exchange d r ∷ []) ≡ suc n
+pub count_one : (l : Life) (d : Delivery) (r : Reply) (n : ℕ) → length l.exchanges ≡ n → length (l.exchanges ++ exchange d r ∷ []) ≡ suc n
 count_one l d r n e = omega (arith, length-append l.exchanges (exchange d r ∷ []), e)
 
 -- each life goes on by it, to what is said then
-extended_one : (c now : State) (body : List ℕ) (d : Delivery) (r : Reply) {end : Option (Result EndCause ServeFault)} → c.end ≡ None → now.end ≡ end → next c.rest ≡ Whole body now.rest → SpellsRequest body d.request
+pub extended_one : (c now : State) (body : List ℕ) (d : Delivery) (r : Reply) {end : Option (Result EndCause ServeFault)} → c.end ≡ None → now.end ≡ end → next c.rest ≡ Whole body now.rest → SpellsRequest body d.request
     → ((l : Life) → l.taken ++ c.replies ≡ frames_of (replies_of l.exchanges) → length l.exchanges ≡ c.answered → c.answered < 10000 → HasReplies (with_exchanges l (exchange d r ∷ []) now.rest) (l.taken ++ now.replies) now end)
     → Extended c now (exchange d r ∷ []) None
 extended_one c now body d r going is stands spelled f = λ l lives.
@@ -88,7 +88,7 @@ ended_quiet k {t} {u} c now end history legal going is (same, told) worked f =
     let (text, counted, under, rest) = living l c going lives in
     (record { asks = lives.asks; replies = said_at l (l.taken ++ now.replies) now (sym is) (f l text (omega (arith, counted, under)) rest) }, tt))
 
-kept_text : (l : Life) (replies replies' : List ℕ) → l.taken ++ replies ≡ frames_of (replies_of l.exchanges) → replies' ≡ replies → l.taken ++ replies' ≡ frames_of (replies_of l.exchanges)
+pub kept_text : (l : Life) (replies replies' : List ℕ) → l.taken ++ replies ≡ frames_of (replies_of l.exchanges) → replies' ≡ replies → l.taken ++ replies' ≡ frames_of (replies_of l.exchanges)
 kept_text l replies replies' text kept = ap (λ (q : List ℕ). l.taken ++ q) kept ∙ text
 
 silent_text : (l : Life) (replies replies' : List ℕ) → l.taken ++ replies ≡ frames_of (replies_of l.exchanges) → replies' ≡ replies → l.taken ++ replies' ≡ frames_of (replies_of l.exchanges ++ [])

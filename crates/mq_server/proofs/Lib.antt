@@ -3,6 +3,7 @@ pub mod Advance
 pub mod Cutting
 pub mod Deliveries
 pub mod Exits
+pub mod Giving
 pub mod Heads
 pub mod Living
 pub mod Running

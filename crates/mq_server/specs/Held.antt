@@ -1,5 +1,5 @@
 -- What a connection holds between two calls.
-use Rattle.std.specs.Prelude.{ℕ, List, [], ◌++◌, Bool, false, Option, None, Result}
+use Rattle.std.specs.Prelude.{◌≡◌, ℕ, List, [], ◌++◌, Bool, false, Option, None, Result}
 use Rattle.mq_server.specs.declared.connection.EndCause.{EndCause}
 use Rattle.mq_server.specs.declared.fault.ServeFault.{ServeFault}
 
@@ -13,6 +13,12 @@ pub record State : Type 0 where
   pub is_closed : Bool
   pub end : Option (Result EndCause ServeFault)
   pub room : ℕ
+
+-- all that came was answered, and all replies were taken; it hasn't ended
+pub record IsAtRest (c : State) : Type 0 where
+  pub going : c.end ≡ None
+  pub answered : c.rest ≡ []
+  pub taken : c.replies ≡ []
 
 -- one on which nothing came yet, with so much room
 abbrev pub fresh : ℕ → State

@@ -1,7 +1,8 @@
 -- The whole life of a connection: all bytes that came, all requests with their answers, and all bytes of replies.
-use Rattle.std.specs.Prelude.{◌≡◌, ◌≢◌, ℕ, ◌<◌, ◌≤◌, List, [], ◌++◌, length, map, Bool, true, Option, None, Some, IfNone, IsSome, Result, Ok, Err}
+use Rattle.std.specs.Prelude.{◌≡◌, ◌≢◌, ℕ, ◌<◌, ◌≤◌, List, [], ◌++◌, length, map, Bool, true, Option, None, Some, IfNone, IsSome, Result, Ok, Err, ⊤}
 use Rattle.std.specs.Option.{option_to_list}
 use Rattle.mq_request.specs.declared.message.Request.{Request}
+use Rattle.mq_request.specs.declared.message.Request.TheVariants.{Reserve, Settle, Release}
 use Rattle.mq_request.specs.declared.message.Reply.{Reply}
 use Rattle.mq_frame.specs.Feed.{Whole}
 use Rattle.mq_frame.specs.Spelling.{SpellsRequest}
@@ -24,6 +25,17 @@ use Rattle.mq_server.specs.Text.{Asks, IsEnd, MayLackMemory, farewell, frames_of
 pub record Exchange : Type 0 where
   pub delivery : Delivery
   pub answer : Reply
+
+-- a request that the ledger took, with its reply
+abbrev pub taken : Request → Reply → Exchange
+taken request reply = record { delivery = record { request = request; taken = true }; answer = reply }
+
+-- a reserve, a settle or a release
+abbrev pub IsOfTransaction : Request → Type 0
+IsOfTransaction (Reserve id txn moment login count) = ⊤
+IsOfTransaction (Settle id txn moment login count) = ⊤
+IsOfTransaction (Release id txn moment login) = ⊤
+IsOfTransaction _ = ⊥
 
 -- the deliveries of exchanges, and their answers
 abbrev pub deliveries : List Exchange → List Delivery

@@ -1,19 +1,25 @@
 //! A connection without its socket: bytes come in as they come, whole frames are answered, and the
 //! replies wait until they are taken.
 ghost use Rattle.std.specs.Prelude.{◌≡◌, ◌<◌, ◌≤◌, ◌+◌, length, take, drop, true, false, None};
-ghost use Rattle.std.specs.Prelude.{Some, Err, List, OnOk, OnErr, ℕ};
+ghost use Rattle.std.specs.Prelude.{Some, Err, List, OnOk, OnErr, ℕ, [], ◌∷◌, ◌≢◌, ◌↔◌, IsTrue, IsSome};
+ghost use Rattle.std.specs.Prelude.{IfSome};
+ghost use Rattle.mq_request.specs.Range.{IsReply, IsRequest};
+ghost use Rattle.mq_request.specs.declared.message.Request.{Request as AnyRequest};
 ghost use Rattle.mq_ledger.specs.Leaving.{LeavesLedger};
-ghost use Rattle.mq_server.specs.Held.{fresh, received, with_closed, with_replies, with_room};
-ghost use Rattle.mq_server.specs.Life.{AreAnswered, Counts, Exchange, Life, Lives, MakesCalls};
-ghost use Rattle.mq_server.specs.Life.{StandsNext, unborn, with_bytes, with_exchanges, with_taken};
+ghost use Rattle.mq_server.specs.Held.{IsAtRest, fresh, received, with_closed, with_replies, with_room};
+ghost use Rattle.mq_server.specs.Life.{AreAnswered, Counts, Exchange, IsOfTransaction, Life, Lives};
+ghost use Rattle.mq_server.specs.Life.{MakesCalls};
+ghost use Rattle.mq_server.specs.Life.{StandsNext, taken, unborn, with_bytes, with_exchanges};
+ghost use Rattle.mq_server.specs.Life.{with_taken};
 ghost use Rattle.mq_server.specs.State.{Goes, Steps};
 ghost use Rattle.mq_server.specs.Text.{IsPartial, next};
 ghost use Rattle.mq_server.specs.declared.connection.Progress.TheVariants.{Ended};
 
 use crate::fault::ServeFault;
-use crate::step::step;
-use mq_frame::{FrameFeed, REQUEST_LIMIT};
+use crate::step::{add, step};
+use mq_frame::{FrameFeed, REQUEST_LIMIT, decode_request};
 use mq_ledger::Ledger;
+use mq_request::{Reply, Request};
 use std::alloc::{AllocError, Global};
 use std::marker::Model;
 
@@ -133,6 +139,75 @@ impl Connection {
         drop(self.replies.drain(..count));
     }
 
+    /// Whether it can only go on by more bytes: it hasn't ended, may get more, no reply waits, and
+    /// no whole frame is there.
+    pub fn is_waiting(&self) -> bool
+        ensures { IsTrue result → (self.now.end ≡ None) × (self.now.is_closed ≡ false)
+            × (self.now.replies ≡ []) × IsPartial (next self.now.rest) }
+    {
+        if self.end.is_some() || self.is_closed || !self.replies.is_empty() {
+            return false;
+        }
+        match self.feed.peek_body() {
+            Ok(None) => true,
+            _ => false,
+        }
+    }
+
+    /// Whether all that came was answered, and all replies were taken; it hasn't ended.
+    pub fn is_at_rest(&self) -> bool
+        ensures { IsTrue result ↔ IsAtRest self.now }
+    {
+        self.end.is_none() && self.replies.is_empty() && self.feed.finish().is_ok()
+    }
+
+    /// The request that stands next, where it is one of a transaction, no reply waits, and there is
+    /// memory for it. It isn't taken.
+    pub fn peek_request(&self, alloc: Global) -> Option<Request>
+        ensures going { IsSome result → self.now.end ≡ None }
+        ensures in_range { IfSome result IsRequest }
+        ensures of_transaction { IfSome result IsOfTransaction }
+        ensures stands { IfSome result (λ request. StandsNext (Some request) self.now.rest) }
+    {
+        if self.end.is_some() || !self.replies.is_empty() {
+            return None;
+        }
+        let Ok(Some(body)) = self.feed.peek_body() else {
+            return None;
+        };
+        match decode_request(alloc, body) {
+            Ok(request) if is_of_transaction(&request) => Some(request),
+            _ => None,
+        }
+    }
+
+    /// Takes the request that stands next, and holds the ledger's reply to it. No memory for the
+    /// reply ends the connection, as the 10,000th reply does. After an end nothing happens.
+    pub fn hold_reply(&mut self, reply: &Reply)
+        requires { IsReply reply.now }
+        ensures closes_nothing { self.new.is_closed ≡ self.old.is_closed }
+        ensures works { self.old.end ≡ None → self.new.end ≢ Some (Err ServeFault.Store) }
+        ensures lives { self.old.end ≡ None → (request : AnyRequest)
+            → StandsNext (Some request) self.old.rest → (l : Life) → Lives l self.old
+            → (rest : List ℕ)
+            × Lives (with_exchanges l (taken request reply.now ∷ []) rest) self.new }
+    {
+        if self.end.is_some() {
+            return;
+        }
+        let _ = self.feed.next_body();
+        match add(reply, &mut self.replies) {
+            Progress::Answered => {
+                self.answered += 1;
+                if ENOUGH <= self.answered {
+                    self.end = Some(Ok(EndCause::Enough));
+                }
+            }
+            Progress::Waits => {}
+            Progress::Ended(end) => self.end = Some(end),
+        }
+    }
+
     /// Answers the next frame, where a whole one is there. Nothing follows an end.
     pub(crate) fn answer_next<L: Ledger>(&mut self, alloc: Global, ledger: &mut L) -> Progress
         // Of any ledger, sound or not.
@@ -215,5 +290,15 @@ impl Connection {
             }
         }
         Progress::Answered
+    }
+}
+
+/// Whether it is a request of a transaction: a reserve, a settle or a release.
+fn is_of_transaction(request: &Request) -> bool
+    ensures { IsTrue result → IsOfTransaction request.now }
+{
+    match request {
+        Request::Reserve { .. } | Request::Settle { .. } | Request::Release { .. } => true,
+        _ => false,
     }
 }

@@ -39,7 +39,7 @@ fn refuse(replies: &mut Vec<u8>) -> Result<EndCause, ServeFault>
 }
 
 /// Adds a reply to those that wait.
-fn add(reply: &Reply, replies: &mut Vec<u8>) -> Progress
+pub fn add(reply: &Reply, replies: &mut Vec<u8>) -> Progress
     requires { IsReply reply.now }
     ensures added { IsAdded replies.old.items (frame (reply_body reply.now)) result
         replies.new.items }

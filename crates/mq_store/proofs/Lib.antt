@@ -1,6 +1,7 @@
 pub mod Words
 pub mod Chain
 pub mod Crashes
+pub mod Rounds
 pub mod Causes
 pub mod InRange
 pub mod OpenFaults
@@ -18,3 +19,4 @@ pub mod Entries
 pub mod Filling
 pub mod Renewals
 pub mod Beside
+pub mod Begun

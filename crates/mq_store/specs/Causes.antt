@@ -1,7 +1,7 @@
 -- Why a ledger's store failed.
-use Rattle.std.specs.Prelude.{◌≡◌, ℕ, ◌≤◌, List, length, false, Option, Some, None, ⊤}
+use Rattle.std.specs.Prelude.{◌≡◌, ℕ, ◌≤◌, List, length, Bool, true, false, if◌then◌else◌, Option, Some, None, ⊤}
 use Rattle.sqlite.specs.Effect.{Database}
-use Rattle.sqlite.specs.declared.error.ErrorCode.TheVariants.{OutOfMemory}
+use Rattle.sqlite.specs.declared.error.ErrorCode.TheVariants.{Closed, OutOfMemory}
 use Rattle.sqlite.specs.declared.error.Error.{Error}
 use Rattle.sqlite.specs.declared.error.Error.TheVariants.{SqliteFailure}
 use Rattle.mq_request.specs.declared.message.Id.{Id}
@@ -35,6 +35,16 @@ answer_to (Store c) = ledger.Store
 abbrev pub cause_in : Refusal → Option StoreCause
 cause_in Memory = None
 cause_in (Store c) = Some c
+
+-- the library says that it closed the store at a failure before
+abbrev pub is_closed : StoreCause → Bool
+is_closed (cause.Refused (SqliteFailure Closed)) = true
+is_closed _ = false
+
+-- why the store failed: what the library refused before, where that closed the store, and else what was found now
+abbrev pub first_cause : Option StoreCause → Option StoreCause → Option StoreCause
+first_cause (Some (cause.Refused e)) (Some found) = if is_closed found then Some (cause.Refused e) else Some found
+first_cause before found = found
 
 -- Over the rows of this history the store refused a statement, or as many answers are stored as there may be.
 abbrev pub IsCauseOver : List Entry → Option StoreCause → Type 0

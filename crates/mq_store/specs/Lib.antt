@@ -7,9 +7,11 @@ pub mod Inside
 pub mod GivingUp
 pub mod Paging
 pub mod Crash
+pub mod Together
 pub mod Auditing
 pub mod Carrying
 pub mod Forgetting
 pub mod Limits
 pub mod Days
+pub mod TransactionDays
 pub mod Renewing

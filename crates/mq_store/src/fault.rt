@@ -3,7 +3,7 @@
 ghost use Rattle.std.specs.Prelude.{◌≡◌, ◌&&◌, Some, None};
 ghost use Rattle.std.specs.Ordering.{int_eq};
 ghost use Rattle.mq_ledger.specs.Day.{minutes_in, rule_in};
-ghost use Rattle.mq_store.specs.Causes.{answer_to, cause_in};
+ghost use Rattle.mq_store.specs.Causes.{answer_to, cause_in, first_cause, is_closed};
 ghost use Rattle.mq_store.specs.Opening.{fault_of, fault_of_code, fault_in, fault_where};
 ghost use Rattle.mq_store.specs.Opening.{fault_by_rule};
 ghost use Rattle.mq_store.specs.Opening.{fault_by_any_rule, fault_by_floors, known_version};
@@ -257,6 +257,30 @@ pub(crate) fn noted(cause: &mut Option<StoreCause>, refused: Refusal) -> LedgerF
             *cause = Some(found);
             LedgerFault::Store
         }
+    }
+}
+
+/// What a ledger answers, as [`noted`]. Where the store is closed since a failure that was noted, its
+/// cause stays.
+pub(crate) fn noted_first(cause: &mut Option<StoreCause>, refused: Refusal) -> LedgerFault
+    ensures answer { result ≡ answer_to refused }
+    ensures noted { cause.new ≡ first_cause cause.old (cause_in refused) }
+{
+    match (*cause, refused) {
+        (Some(StoreCause::Refused(_)), Refusal::Store(found)) if is_closed(&found) => {
+            LedgerFault::Store
+        }
+        (_, refused) => noted(cause, refused),
+    }
+}
+
+/// Whether the store's library closed the store at a failure before.
+fn is_closed(cause: &StoreCause) -> bool
+    ensures { result ≡ is_closed cause.now }
+{
+    match cause {
+        StoreCause::Refused(Error::SqliteFailure(ErrorCode::Closed)) => true,
+        _ => false,
     }
 }
 

@@ -1,12 +1,12 @@
 //! The ledger in tables of a store: how it is made and opened, and what it answers.
 
 ghost use Rattle.std.specs.Prelude.{◌≡◌, ◌⊎◌, ◌↔◌, ℕ, Option, None, Err, is_some, List, [], ◌∷◌};
-ghost use Rattle.std.specs.Prelude.{◌++◌, length, false, IsTrue, IfOk, IfErr, OnOk, OnErr};
+ghost use Rattle.std.specs.Prelude.{◌++◌, length, All, false, IsTrue, IfOk, IfErr, OnOk, OnErr};
 ghost use Rattle.sqlite.specs.Held.{state};
 ghost use Rattle.sqlite.specs.State.{HasCleanDisk};
 ghost use Rattle.sqlite.specs.Tree.{Trees};
 ghost use Rattle.mq_request.specs.Range.{IsAmount, IsRequest, IsReply};
-ghost use Rattle.mq_ledger.specs.Answer.{build, reply};
+ghost use Rattle.mq_ledger.specs.Answer.{build, history_of, replies_after, reply};
 ghost use Rattle.mq_ledger.specs.Arrivals.{first};
 ghost use Rattle.mq_ledger.specs.Day.{IsZone, day_of};
 ghost use Rattle.mq_ledger.specs.History.{requests};
@@ -25,14 +25,18 @@ ghost use Rattle.mq_store.specs.Opening.{HasSettings, IsFound, IsFoundOf, IsStop
 ghost use Rattle.mq_store.specs.Soundness.{book_in, HasKept, HasStored, IsSound, IsNew, MeansBook};
 ghost use Rattle.mq_store.specs.Soundness.{IsOpened};
 ghost use Rattle.mq_store.specs.Taking.{HasBook, book_of};
+ghost use Rattle.mq_store.specs.Together.{AreAllApplied, FindsAll, FindsAllOrNone, LeavesAll};
 ghost use Rattle.mq_store.specs.declared.fault.OpenFault.TheVariants.{NotOurs};
 
 use crate::apply::apply;
 use crate::auditing::{RowCounts, audit_store};
 use crate::counting::count_store;
-use crate::fault::{OpenFault, OpenRefused, StoreCause, create_fault, noted, within_transaction};
+use crate::fault::{
+    OpenFault, OpenRefused, StoreCause, create_fault, noted, noted_first, within_transaction,
+};
 use crate::laws::{books_are_right, later_arrivals_add_nothing, tables_mean_their_book};
 use crate::opening::open_store;
+use crate::together::apply_all;
 use mq_ledger::{Ledger, LedgerFault, Zone};
 use mq_request::{Reply, Request};
 use mq_rows::Audit;
@@ -417,9 +421,10 @@ impl<S: Alter> SqlLedger<S> {
         self.found
     }
 
-    /// Why the store failed, where the last call of `apply`, `audit`, `count_answers`, `days` or
-    /// `limits` answered `LedgerFault::Store`; `None` where it answered otherwise, or none was
-    /// made.
+    /// Why the store failed, where the last call of `apply`, `apply_all`, `audit`, `count_answers`,
+    /// `days` or `limits` answered `LedgerFault::Store`; `None` where it answered otherwise, or none
+    /// was made. Where an `apply` found the store closed by the failure of the call before it, it is
+    /// that one's cause.
     pub fn cause(&self) -> Option<StoreCause>
         ensures { result ≡ self.now.cause }
     {
@@ -526,7 +531,6 @@ impl<S: Alter> Ledger for SqlLedger<S> {
     {
         tables_mean_their_book();
         later_arrivals_add_nothing();
-        self.cause = None;
         match apply(
             self.alloc,
             &mut self.connection,
@@ -534,7 +538,86 @@ impl<S: Alter> Ledger for SqlLedger<S> {
             self.default,
             request,
         ) {
-            Ok(reply) => Ok(reply),
+            Ok(reply) => {
+                self.cause = None;
+                Ok(reply)
+            }
+            Err(refused) => Err(noted_first(&mut self.cause, refused)),
+        }
+    }
+
+    /// Replies to several requests, to each as `apply` does after those before it: to all of them,
+    /// or to none. What they write is committed, all in one transaction of the store, before any
+    /// reply is given. `replies` then has these replies alone, in the order of the requests.
+    ///
+    /// The fault is one of `apply`, at any of the requests or at the commit. The tables are then as
+    /// they were, and each request may be put by `apply`; a crash after a fault leaves them so, or
+    /// with all of these requests applied. An `apply` after it that finds the store closed says why
+    /// it was.
+    fn apply_all(
+        &mut self,
+        arrivals: &[Request],
+        replies: &mut Vec<Reply>,
+    ) -> Result<(), LedgerFault>
+        requires { All IsRequest arrivals.now }
+        ensures in_range { OnOk result (All IsReply replies.new.items) }
+        ensures same_zone { self.new.zone ≡ self.old.zone }
+        ensures same_default { self.new.default ≡ self.old.default }
+        ensures counts { self.new.found ≡ self.old.found }
+        ensures kept { HasKept (state S.Store self.new.connection)
+            → HasKept (state S.Store self.old.connection) }
+        ensures replies { HasKept (state S.Store self.new.connection)
+            → IsSound self.old.zone self.old.default (state S.Store self.old.connection)
+            → (let b = book_in self.old.zone self.old.default
+            (state S.Store self.old.connection).now in
+            OnOk result (replies.new.items
+            ≡ replies_after (day_of b.zone) b.default (requests b.history) arrivals.now)) }
+        ensures history { HasKept (state S.Store self.new.connection)
+            → IsSound self.old.zone self.old.default (state S.Store self.old.connection)
+            → (let b = book_in self.old.zone self.old.default
+            (state S.Store self.old.connection).now in
+            OnOk result ((book_in self.new.zone self.new.default
+            (state S.Store self.new.connection).now).history
+            ≡ history_of (day_of b.zone) b.default (requests b.history ++ arrivals.now))) }
+        ensures fault { HasKept (state S.Store self.new.connection)
+            → OnErr result ((state S.Store self.new.connection).now
+            ≡ (state S.Store self.old.connection).now) }
+        ensures sound { HasKept (state S.Store self.new.connection)
+            → IsSound self.old.zone self.old.default (state S.Store self.old.connection)
+            → IsSound self.new.zone self.new.default (state S.Store self.new.connection) }
+        ensures noted { (result ≡ Err LedgerFault.Store) ↔ IsTrue (is_some self.new.cause) }
+
+        // What an open after a crash may find: all that the requests wrote, or nothing of it.
+        ensures crash_ok { HasCleanDisk (state S.Store self.new.connection) → OnOk result
+            (LeavesAll self.old.zone self.old.default arrivals.now replies.new.items
+            (state S.Store self.old.connection) (state S.Store self.new.connection)) }
+        ensures crash_err { HasCleanDisk (state S.Store self.new.connection)
+            → OnErr result ((db : Trees)
+            → (state S.Store self.new.connection).may_leave db
+            → (state S.Store self.old.connection).may_leave db
+            ⊎ AreAllApplied self.old.zone self.old.default arrivals.now
+            (state S.Store self.old.connection).now db) }
+
+        // What it does find, as a sound database.
+        ensures found_ok { HasCleanDisk (state S.Store self.new.connection) → OnOk result
+            (FindsAll self.old.zone self.old.default arrivals.now
+            (state S.Store self.old.connection) (state S.Store self.new.connection)) }
+        ensures found_err { HasCleanDisk (state S.Store self.new.connection) → OnErr result
+            (FindsAllOrNone self.old.zone self.old.default arrivals.now
+            (state S.Store self.old.connection) (state S.Store self.new.connection)) }
+    {
+        tables_mean_their_book();
+        let default = self.default;
+        self.cause = None;
+        match apply_all(
+            self.alloc,
+            &mut self.connection,
+            self.zone,
+            default,
+            arrivals,
+            replies,
+        ) {
+            Ok(()) => Ok(()),
             Err(refused) => Err(noted(&mut self.cause, refused)),
         }
     }

@@ -1,10 +1,11 @@
-//! A quota ledger in the tables of a store: each numbered request is one transaction, committed
-//! before its reply is given.
+//! A quota ledger in the tables of a store: a numbered request, or several that are put together,
+//! is one transaction, committed before any reply is given.
 //!
 //! [`SqlLedger`] is a [`Ledger`](mq_ledger::Ledger): `create` makes its tables, `open` checks and
-//! audits those that a store has, `apply` answers a request, and `carry_over` makes a new ledger of
-//! what an old one remembers from a day on. A [`Renewal`] makes that ledger a few answers at a
-//! time, while requests come to the old one. From `mq_program/src/store.rt`:
+//! audits those that a store has, `apply` answers a request and `apply_all` several, and
+//! `carry_over` makes a new ledger of what an old one remembers from a day on. A [`Renewal`] makes
+//! that ledger a few answers at a time, while requests come to the old one. From
+//! `mq_program/src/store.rt`:
 //!
 //!     match SqlLedger::open(alloc, connection, settings.zone, settings.default) {
 //!         Ok(ledger) => Ok(ledger),
@@ -20,7 +21,8 @@
 //! commit, through `take.rt`, whether its number is known and what a new one comes to, to
 //! `write.rt`, where the reply is stored with the other rows, and `giving_up.rt`, what a retire
 //! closes and clears; `listing.rt` answers what is only read, and `fault.rt` has why a step was
-//! refused. `specs/Taking.antt` says what they do to the tables, `specs/GivingUp.antt` what a
+//! refused. `together.rt` takes several in one transaction (`specs/Together.antt`).
+//! `specs/Taking.antt` says what they do to the tables, `specs/GivingUp.antt` what a
 //! retire does, `specs/Paging.antt` what is read, and `specs/Inside.antt` how a step says so.
 //! `opening.rt` and `auditing.rt` are an open. A new ledger is made of an old one by `recall.rt`,
 //! what an old row tells, `carry.rt`, one step, `slice.rt`, so many steps, and `fill.rt`, all of
@@ -48,6 +50,8 @@ mod renewal;
 mod renewal_place;
 mod slice;
 mod take;
+mod together;
+mod transaction_days;
 mod write;
 
 pub use auditing::RowCounts;
@@ -57,3 +61,4 @@ pub use laws::arrivals_leave_what_was_taken_over;
 pub use ledger::SqlLedger;
 pub use mq_rows::Audit;
 pub use renewal::Renewal;
+pub use transaction_days::TransactionDays;

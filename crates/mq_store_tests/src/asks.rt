@@ -61,7 +61,7 @@ fn put_frame(reply: &Reply, bytes: &mut Vec<u8>) -> bool {
 }
 
 /// The body of a reply.
-fn body_of(alloc: Global, reply: &Reply) -> Option<Vec<u8>> {
+pub fn body_of(alloc: Global, reply: &Reply) -> Option<Vec<u8>> {
     let mut frame = Vec::new(alloc);
     if put_frame(reply, &mut frame) {
         Vec::from_slice(alloc, frame.get(2..).unwrap_or(&[])).ok()
@@ -96,6 +96,26 @@ pub fn request_of(alloc: Global, digits: &str) -> Option<Request> {
 pub fn reply_of<L: Ledger>(alloc: Global, ledger: &mut L, digits: &str) -> Option<Vec<u8>> {
     let body = bytes_of(alloc, digits)?;
     deliver(alloc, ledger, body.as_slice())
+}
+
+/// Whether a ledger replies so to requests that are put together; nothing where it doesn't reply.
+pub fn put_together<L: Ledger>(
+    alloc: Global,
+    ledger: &mut L,
+    asked: &[(&str, &str)],
+) -> Option<bool> {
+    let mut requests = Vec::new(alloc);
+    for (request, _) in asked {
+        requests.push(request_of(alloc, request)?).ok()?;
+    }
+    let mut replies = Vec::new(alloc);
+    ledger.apply_all(&requests, &mut replies).ok()?;
+    for ((_, wanted), reply) in asked.iter().zip(&replies) {
+        if !is_body(alloc, body_of(alloc, reply)?.as_slice(), wanted) {
+            return Some(false);
+        }
+    }
+    Some(replies.len() == asked.len())
 }
 
 /// Whether a ledger replies so to a request; nothing where it doesn't reply.

@@ -5,6 +5,7 @@ mod index;
 mod lists;
 mod older;
 mod pages;
+mod rounds;
 mod steps;
 mod stops;
 mod worked;
@@ -302,7 +303,8 @@ fn rows_of_no_history(rt: HostRuntime) -> Result<(), Fail> {
 }
 
 /// On which days something was reserved: a day counts as soon as a reserve of it is granted, also
-/// where that is the earliest, and stays where all of it is released.
+/// where that is the earliest, and stays where all of it is released. A transaction begins as soon
+/// as it is asked for, whatever the answer is.
 const DAYS: &[Case] = &[(
     "days with a reserve",
     &[
@@ -324,11 +326,16 @@ const DAYS: &[Case] = &[(
             "84 0161 0000000000000001 00000003 00000001",
         )]),
         Step::Days(Some((2, 3))),
+        Step::Until(u32::MAX, Some((2, 3))),
+        Step::Until(2, Some((2, 2))),
+        Step::Until(1, None),
         Step::Replies(&[(
             "01 0161 0000000000000001 00000004 00000003 0000000000015180 0174 00000004",
             "82 0161 0000000000000001 00000004 00000000 00000003",
         )]),
         Step::Days(Some((2, 3))),
+        Step::Until(3, Some((1, 3))),
+        Step::Until(1, Some((1, 1))),
         Step::Replies(&[(
             "01 0161 0000000000000001 00000005 00000003 0000000000015180 0174 00000003",
             "81 0161 0000000000000001 00000005 00000003",

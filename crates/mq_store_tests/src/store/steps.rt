@@ -51,6 +51,8 @@ pub enum Step {
     Wrong(&'static str, i64),
     /// Something was reserved on these days, the first and the last; or on none.
     Days(Option<(u32, u32)>),
+    /// Up to that day transactions began on these, the first and the last; or on none.
+    Until(u32, Option<(u32, u32)>),
 }
 
 /// A list of steps, with its name.
@@ -160,6 +162,17 @@ fn days_of<S: Alter>(ledger: &mut SqlLedger<S>) -> Result<Option<(u32, u32)>, Le
     }
 }
 
+/// On which days transactions began. Without clauses, as `ask`.
+fn days_until<S: Alter>(
+    ledger: &mut SqlLedger<S>,
+    until: u32,
+) -> Result<Option<(u32, u32)>, LedgerFault> {
+    match ledger.transaction_days(until) {
+        Ok(days) => Ok(days.map(|days| (days.oldest, days.newest))),
+        Err(fault) => Err(fault),
+    }
+}
+
 fn is_fault(answer: Result<Reply, LedgerFault>) -> bool {
     matches!(answer, Err(LedgerFault::Store))
 }
@@ -198,6 +211,10 @@ fn take_inside<S: Alter>(alloc: Global, ledger: &mut SqlLedger<S>, step: &Step) 
         Step::Days(days) => {
             let is_so = matches!(days_of(ledger), Ok(found) if found == *days);
             wanted(is_so, "other days")
+        }
+        Step::Until(until, days) => {
+            let is_so = matches!(days_until(ledger, *until), Ok(found) if found == *days);
+            wanted(is_so, "other days of transactions")
         }
         Step::GoesBy(minutes, default) => {
             let is_so = *ledger.zone() == zone(*minutes) && ledger.default_cap() == *default;

@@ -2,6 +2,8 @@
 //! version: a file of theirs stops at some call, at each in turn, and they are opened again over
 //! what is left of the files.
 
+mod rounds;
+
 use super::older::FIRST_VERSION;
 use super::steps::{Outcome, audit, is_refused, make, open};
 use super::worked::{RESERVED_TWICE_SETTLED_ONCE, RETIRED};
