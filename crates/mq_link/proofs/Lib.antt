@@ -1,1 +1,2 @@
 pub mod BodySteps
+pub mod KeptSteps

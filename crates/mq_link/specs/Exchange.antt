@@ -1,5 +1,5 @@
 -- What one exchange with the quota server writes and reads over its connection, and why it fails.
-use Rattle.std.specs.Prelude.{ℕ, List, Option}
+use Rattle.std.specs.Prelude.{ℕ, Bool, true, false, List, Option}
 use Rattle.std.specs.Io.KnownBytes.{Appends}
 use Rattle.std.specs.IoError.{error_kind}
 use Rattle.std.specs.declared.io.ErrorKind.{ErrorKind}
@@ -11,8 +11,9 @@ use Rattle.mq_link.specs.declared.body.BodyFault.{BodyFault}
 use Rattle.mq_link.specs.declared.body.BodyFault.TheVariants as body
 use Rattle.mq_link.specs.declared.link.LinkFault.{LinkFault}
 use Rattle.mq_link.specs.declared.link.LinkFault.TheVariants.{Down, TimedOut, Memory}
+use Rattle.mq_link.specs.declared.kept.KeptStream.{KeptStream}
 use Rattle.mq_link.specs.declared.trouble.Trouble.{Trouble}
-use Rattle.mq_link.specs.declared.trouble.Trouble.TheVariants.{System, Empty, Unconnected, Memory as OutOfMemory}
+use Rattle.mq_link.specs.declared.trouble.Trouble.TheVariants.{System, Empty, Memory as OutOfMemory}
 
 -- a call that took too long timed out; whatever else went wrong, the server can't be reached
 abbrev pub fault_of : ErrorKind → LinkFault
@@ -31,17 +32,27 @@ abbrev pub trouble_fault : Trouble → LinkFault
 trouble_fault (System error) = fault_of (error_kind error)
 trouble_fault Empty = Down
 trouble_fault OutOfMemory = Memory
-trouble_fault Unconnected = Down
+
+-- whether a fault may come of a connection that was closed
+abbrev pub is_down : LinkFault → Bool
+is_down Down = true
+is_down _ = false
+
+-- whether a connection that was kept is gone: a call over it failed, and not for want of time
+abbrev pub is_gone : Trouble → Bool
+is_gone (System error) = is_down (fault_of (error_kind error))
+is_gone _ = false
 
 -- where connections over TCP lead, and how long each may take to be made
 pub record Route : Type 0 where
   pub address : SocketAddr
   pub timeout : Duration
 
--- what makes the connections of a link, and the connection that is open
+-- what makes the connections of a link, whether it keeps them, and the connection that it kept
 pub record LinkState (C S : Type 0) : Type 0 where
   pub connector : C
-  pub stream : Option S
+  pub keeps : Bool
+  pub kept : Option (KeptStream S)
 
 -- Of the streams of a kind, some are new, and each reports the bytes that were written to it.
 

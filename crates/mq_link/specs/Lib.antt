@@ -4,5 +4,7 @@ pub mod Link
 pub mod Body
 -- what an exchange over TCP writes and reads, and why it fails
 pub mod Exchange
+-- a connection that a link keeps
+pub mod Keeping
 -- what a log has of the times without an answer
 pub mod Outage

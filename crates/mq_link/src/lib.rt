@@ -6,7 +6,7 @@
 //! over whatever makes its connections ([`Connect`]), the program's [`Connector`] over sockets, and
 //! [`LoggedLink`] is any link with a log of its outages. [`TimedStream`] has a stream waited for
 //! until a deadline and no longer; the server, which waits for all its connections at once, takes
-//! [`deadline_after`] alone. From `mq_client/src/tries.rt`:
+//! [`deadline_after`] and [`moment_after`] alone. From `mq_client/src/tries.rt`:
 //!
 //!     match link.exchange(framed.frame.as_slice(), body) {
 //!         Ok(()) => answered(verdict_in(&framed.request, body.as_slice())),
@@ -21,6 +21,7 @@
 
 mod body;
 mod connect;
+mod kept;
 mod link;
 mod logged;
 mod outage;
@@ -30,8 +31,9 @@ mod trouble;
 
 pub use body::{BodyFault, read_body};
 pub use connect::{Connect, Connector};
+pub use kept::KeptStream;
 pub use link::{ExchangeOutcome, Link, LinkFault, ReportedExchange};
 pub use logged::{Explain, LoggedLink};
 pub use tcp::TcpLink;
-pub use timed::{TimedStream, deadline_after};
+pub use timed::{TimedStream, deadline_after, moment_after};
 pub use trouble::Trouble;

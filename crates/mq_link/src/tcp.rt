@@ -1,16 +1,17 @@
-//! The link to the quota server over TCP: a connection for each exchange.
-ghost use Rattle.std.specs.Prelude.{◌≡◌, ◌≢◌, ℕ, List, [], ◌∷◌, Option, None, IfSome, IfOk, Err};
-ghost use Rattle.std.specs.Prelude.{OnOk, option_map, suc};
-ghost use Rattle.std.specs.Prelude.{OnErr, IfErr, MatchOption};
+//! The link to the quota server over TCP: a connection for each exchange, or one for many.
+ghost use Rattle.std.specs.Prelude.{◌≡◌, ◌≢◌, ◌∷◌, [], ℕ, List, Option, None, Err, IfOk, IfErr};
+ghost use Rattle.std.specs.Prelude.{OnOk, OnErr, false, option_map, suc, true};
 ghost use Rattle.std.specs.Io.KnownBytes.{Appends};
 ghost use Rattle.mq_lemmas.specs.Told.{Tells};
 ghost use Rattle.mq_link.specs.declared.link.ReportedExchange.{ReportedExchange};
 ghost use Rattle.mq_link.specs.Link.{outcome_of};
 ghost use Rattle.mq_link.specs.Body.{IsReceived, IsHeadOnly, IsEmptyHead};
-ghost use Rattle.mq_link.specs.Exchange.{LinkState, IsSent, IsExchange, trouble_fault};
+ghost use Rattle.mq_link.specs.Exchange.{IsExchange, IsSent, trouble_fault};
+ghost use Rattle.mq_link.specs.Keeping.{Asks, IsCarried, IsKept, TriesOne};
 
 use crate::body::read_body;
 use crate::connect::{Connect, Connector};
+use crate::kept::KeptStream;
 use crate::link::{Link, LinkFault};
 use crate::logged::Explain;
 use crate::timed::{TimedStream, deadline_after};
@@ -63,7 +64,6 @@ fn read_within<K: Clock, S: Read + OpenStream + Drop>(
         × IsHeadOnly (S.remaining stream) left }
     ensures no_bytes { result ≡ Err Trouble.Empty → (left : Option (List ℕ))
         × IsEmptyHead (S.remaining stream) left }
-    ensures connected { result ≢ Err Trouble.Unconnected }
 {
     reply.clear();
     match timed(stream, clock, timeout) {
@@ -75,14 +75,15 @@ fn read_within<K: Clock, S: Read + OpenStream + Drop>(
     }
 }
 
-/// A link that makes a new connection for each frame. Contracts see what makes the connections, and
-/// the connection that is open.
+/// A link that makes a new connection for each frame, or keeps the one that it made. Contracts see
+/// what makes the connections, whether the link keeps them, and the connection that it kept.
 #[derive(Drop)]
 pub struct TcpLink<'a, K, C: Connect> {
     connector: C,
     clock: &'a K,
     timeout: Duration,
-    stream: Option<C::Stream>,
+    keeps: bool,
+    kept: Option<KeptStream<C::Stream>>,
     trouble: Option<Trouble>,
 }
 
@@ -91,12 +92,16 @@ impl<'a, K, C: Connect> Model for TcpLink<'a, K, C> {
 
     ghost Value = { LinkState C C.Stream };
 
-    ghost view = { λ link. record { connector = link.connector; stream = link.stream } };
+    ghost view = { λ link. record {
+      connector = link.connector;
+      keeps = link.keeps;
+      kept = link.kept;
+    } };
 }
 
 impl<'a, R: Net + Clock> TcpLink<'a, R, Connector<'a, R>> {
-    /// A link to this address, with no connection. `timeout`, above 0, is how long it may take to
-    /// connect, how long to write a whole frame, and how long to read a whole reply.
+    /// A link to this address, with no connection, that keeps none. `timeout`, above 0, is how long
+    /// it may take to connect, how long to write a whole frame, and how long to read a whole reply.
     pub fn new(
         net: &'a R,
         address: SocketAddr,
@@ -104,7 +109,8 @@ impl<'a, R: Net + Clock> TcpLink<'a, R, Connector<'a, R>> {
     ) -> TcpLink<'a, R, Connector<'a, R>>
         ensures { result ≡ record {
           connector = record { address = address; timeout = timeout };
-          stream = None;
+          keeps = false;
+          kept = None;
         } }
     {
         TcpLink::over(Connector::new(net, address, timeout), net, timeout)
@@ -112,37 +118,38 @@ impl<'a, R: Net + Clock> TcpLink<'a, R, Connector<'a, R>> {
 }
 
 impl<'a, K: Clock, C: Connect> TcpLink<'a, K, C> {
-    /// A link over the connections that are made so, with none yet. `timeout`, above 0, is how long
-    /// it may take to write a whole frame, and how long to read a whole reply.
+    /// A link over the connections that are made so, with none yet, that keeps none. `timeout`,
+    /// above 0, is how long it may take to write a whole frame, and how long to read a whole reply.
     pub fn over(connector: C, clock: &'a K, timeout: Duration) -> TcpLink<'a, K, C>
-        ensures { result ≡ record { connector = connector; stream = None } }
+        ensures { result ≡ record { connector = connector; keeps = false; kept = None } }
     {
         TcpLink {
             connector,
             clock,
             timeout,
-            stream: None,
+            keeps: false,
+            kept: None,
             trouble: None,
         }
     }
 
-    /// Makes a new connection, writes the frame whole and ends the writing side. Where it fails no
-    /// connection is left.
-    pub fn send(&mut self, frame: &[u8]) -> Result<(), LinkFault>
-        ensures sent { OnOk result ((sent : C.Stream) × (self.new.stream ≡ Some sent)
-            × IsSent C.is_new C.Stream.contents frame.now sent) }
-        ensures closed { OnErr result (self.new.stream ≡ None) }
+    /// The same link, which keeps its connection from here on, or keeps none. Over a connection that
+    /// is kept a frame and its reply have one timeout together.
+    pub fn keeping(self, keeps: bool) -> TcpLink<'a, K, C>
+        ensures { result ≡ record self.entry { keeps = keeps } }
+    {
+        TcpLink { keeps, ..self }
+    }
+
+    /// Makes a new connection, writes the frame whole and ends the writing side.
+    pub fn send(&mut self, frame: &[u8]) -> Result<C::Stream, LinkFault>
+        ensures sent { IfOk result (IsSent C.is_new C.Stream.contents frame.now) }
         ensures no_memory { IfErr result (λ fault. fault ≢ LinkFault.Memory) }
         ensures tried { C.tried self.new.connector ≡ option_map suc (C.tried self.old.connector) }
+        ensures same { self.new ≡ record self.old { connector = self.new.connector } }
     {
-        // (what an exchange before it left is none of this one's)
-        self.stream = None;
-        self.trouble = None;
         match self.connect_and_write(frame) {
-            Ok(stream) => {
-                self.stream = Some(stream);
-                Ok(())
-            }
+            Ok(stream) => Ok(stream),
             Err(error) => Err(self.fail(Trouble::System(error))),
         }
     }
@@ -162,30 +169,56 @@ impl<'a, K: Clock, C: Connect> TcpLink<'a, K, C> {
     fn connect_and_write(&mut self, frame: &[u8]) -> io::Result<C::Stream>
         ensures sent { IfOk result (IsSent C.is_new C.Stream.contents frame.now) }
         ensures tried { C.tried self.new.connector ≡ option_map suc (C.tried self.old.connector) }
-        ensures stream { self.new.stream ≡ self.old.stream }
+        ensures same { self.new ≡ record self.old { connector = self.new.connector } }
     {
         let stream = self.connector.connect()?;
         write_frame(timed(stream, self.clock, self.timeout)?, frame)
     }
 
-    /// Reads one frame's body and drops the connection, also at a fault. Without a connection, at
-    /// the end of the input and at a length of 0 it is `Down`.
-    pub fn receive(&mut self, reply: &mut Vec<u8>) -> Result<(), LinkFault>
-        ensures closed { self.new ≡ record { connector = self.old.connector; stream = None } }
-        ensures body { MatchOption self.old.stream (result ≡ Err LinkFault.Down)
-            (λ stream. OnOk result ((left : Option (List ℕ))
-            × IsReceived (C.Stream.remaining stream) left reply.new.items)) }
+    /// Reads one frame's body and drops the connection, also at a fault. At the end of the input and
+    /// at a length of 0 it is `Down`.
+    pub fn receive(&mut self, stream: C::Stream, reply: &mut Vec<u8>) -> Result<(), LinkFault>
+        ensures same { self.new ≡ self.old }
+        ensures body { OnOk result ((left : Option (List ℕ))
+            × IsReceived (C.Stream.remaining stream) left reply.new.items) }
         ensures empty { OnErr result (reply.new.items ≡ []) }
-        ensures memory { IfSome self.old.stream (λ stream. result ≡ Err LinkFault.Memory →
-            (left : Option (List ℕ)) × IsHeadOnly (C.Stream.remaining stream) left) }
+        ensures memory { result ≡ Err LinkFault.Memory → (left : Option (List ℕ))
+            × IsHeadOnly (C.Stream.remaining stream) left }
     {
-        reply.clear();
-        let Some(stream) = self.stream.take() else {
-            return Err(self.fail(Trouble::Unconnected));
-        };
         match read_within(stream, self.clock, self.timeout, reply) {
             Ok(()) => Ok(()),
             Err(trouble) => Err(self.fail(trouble)),
+        }
+    }
+
+    /// Exchanges a frame over the connection that was kept, and once more over a new one where that
+    /// is gone, with the rest of its time. Where none was kept, it goes over a new one.
+    fn ask(
+        &mut self,
+        kept: Option<KeptStream<C::Stream>>,
+        frame: &[u8],
+        reply: &mut Vec<u8>,
+    ) -> Result<Option<KeptStream<C::Stream>>, Trouble>
+        ensures asked { IfOk result (λ now. Asks C.is_new C.tried C.Stream.contents
+            C.Stream.remaining frame.now reply.new.items self.old.connector kept
+            self.new.connector now) }
+        ensures empty { OnErr result (reply.new.items ≡ []) }
+        ensures once { TriesOne C.tried self.old.connector kept self.new.connector }
+        ensures same { self.new ≡ record self.old { connector = self.new.connector } }
+    {
+        reply.clear();
+        let Some(kept) = kept else {
+            let opened = KeptStream::new(self.connector.connect()?);
+            let end = deadline_after(self.clock, self.timeout)?;
+            return opened.exchange(self.clock, self.timeout, end, frame, reply);
+        };
+        let end = deadline_after(self.clock, self.timeout)?;
+        match kept.exchange(self.clock, self.timeout, end, frame, reply) {
+            Err(trouble) if trouble.is_gone() => {
+                let opened = KeptStream::new(self.connector.connect()?);
+                opened.exchange(self.clock, self.timeout, end, frame, reply)
+            }
+            ended => ended,
         }
     }
 }
@@ -205,8 +238,8 @@ impl<K: Clock, C: Connect> Explain for TcpLink<'_, K, C> {
 }
 
 impl<K: Clock, C: Connect> Link for TcpLink<'_, K, C> {
-    /// Sends the frame over a new connection and reads one body of 1 to 65,535 bytes; no connection
-    /// is left.
+    /// Sends the frame over a new connection, or over the one that was kept, and reads one body of
+    /// 1 to 65,535 bytes. After a fault no connection is left.
     fn exchange(&mut self, frame: &[u8], reply: &mut Vec<u8>) -> Result<(), LinkFault>
         // (it reports none)
         ensures told { Tells {X = ReportedExchange} None None (record {
@@ -215,16 +248,46 @@ impl<K: Clock, C: Connect> Link for TcpLink<'_, K, C> {
         }
             ∷ []) }
         ensures empty { OnErr result (reply.new.items ≡ []) }
-        // The frame was written whole over a new connection, and the body is the one that was read.
-        ensures exchanged { OnOk result (IsExchange C.is_new C.Stream.contents C.Stream.remaining
-            frame.now
+        ensures closed { OnErr result (self.new.kept ≡ None) }
+        ensures keeps { self.new.keeps ≡ self.old.keeps }
+
+        // Where no connection is to be kept, one is tried at each exchange, and none is left: the
+        // frame was written whole over it, and the body is the one that was read.
+        ensures tried { self.old.keeps ≡ false →
+            C.tried self.new.connector ≡ option_map suc (C.tried self.old.connector) }
+        ensures exchanged { self.old.keeps ≡ false → OnOk result (IsExchange C.is_new
+            C.Stream.contents C.Stream.remaining frame.now reply.new.items) }
+        ensures alone { self.old.keeps ≡ false → self.new.kept ≡ None }
+
+        // Where one is, that goes over the one that was kept, or over the only new one.
+        ensures asked { self.old.keeps ≡ true → OnOk result (Asks C.is_new C.tried
+            C.Stream.contents C.Stream.remaining frame.now reply.new.items self.old.connector
+            self.old.kept self.new.connector self.new.kept) }
+        ensures once { self.old.keeps ≡ true → TriesOne C.tried self.old.connector self.old.kept
+            self.new.connector }
+
+        // So as many bodies were read from a connection as frames were written to it before, and
+        // the next one is that of the next frame.
+        ensures carried { IsKept C.is_new C.Stream.contents C.Stream.remaining self.old.kept →
+            OnOk result (IsCarried C.is_new C.Stream.contents C.Stream.remaining frame.now
             reply.new.items) }
-        // A connection is tried at each exchange.
-        ensures tried { C.tried self.new.connector ≡ option_map suc (C.tried self.old.connector) }
-        ensures closed { self.new.stream ≡ None }
+        ensures kept { IsKept C.is_new C.Stream.contents C.Stream.remaining self.old.kept →
+            IsKept C.is_new C.Stream.contents C.Stream.remaining self.new.kept }
     {
         reply.clear();
-        self.send(frame)?;
-        self.receive(reply)
+        self.trouble = None;
+        // (a fault leaves none)
+        let kept = self.kept.take();
+        if !self.keeps {
+            let stream = self.send(frame)?;
+            return self.receive(stream, reply);
+        }
+        match self.ask(kept, frame, reply) {
+            Ok(kept) => {
+                self.kept = kept;
+                Ok(())
+            }
+            Err(trouble) => Err(self.fail(trouble)),
+        }
     }
 }

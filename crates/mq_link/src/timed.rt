@@ -37,7 +37,7 @@ fn wait_until(clock: &impl Clock, deadline: Instant, timeout: Duration) -> io::R
 }
 
 /// The moment that is so long after another; it fails as a bad input where no clock shows that.
-fn moment_after(now: Instant, time: Duration) -> io::Result<Instant>
+pub fn moment_after(now: Instant, time: Duration) -> io::Result<Instant>
     ensures fits { IsOk result ↔ FitsClock (instant_nanos now + as_nanos time) }
     ensures after { IfOk result (λ moment. instant_nanos moment
         ≡ instant_nanos now + as_nanos time) }

@@ -1,7 +1,7 @@
 //! Why an exchange brought no reply, for those who look after the link.
 ghost use Rattle.std.specs.Prelude.{◌≡◌};
 ghost use Rattle.std.specs.IoError.{error_kind};
-ghost use Rattle.mq_link.specs.Exchange.{body_trouble, fault_of, trouble_fault};
+ghost use Rattle.mq_link.specs.Exchange.{body_trouble, fault_of, is_gone, trouble_fault};
 
 use crate::body::BodyFault;
 use crate::link::LinkFault;
@@ -17,8 +17,6 @@ pub enum Trouble {
     Empty,
     /// The reply found no memory.
     Memory,
-    /// There is no connection.
-    Unconnected,
 }
 
 /// A call that took too long is `TimedOut`, whatever else went wrong is `Down`.
@@ -43,6 +41,16 @@ impl From<BodyFault> for Trouble {
     }
 }
 
+impl From<io::Error> for Trouble {
+    ghost use Rattle.mq_link.specs.declared.trouble.Trouble.TheVariants.{System};
+
+    ghost from_gives = { λ error trouble. trouble ≡ System error };
+
+    fn from(error: io::Error) -> Trouble {
+        Trouble::System(error)
+    }
+}
+
 impl Trouble {
     /// The same, as a link reports it.
     pub fn fault(&self) -> LinkFault
@@ -51,8 +59,18 @@ impl Trouble {
     {
         match self {
             Trouble::System(error) => fault_of(error),
-            Trouble::Empty | Trouble::Unconnected => LinkFault::Down,
+            Trouble::Empty => LinkFault::Down,
             Trouble::Memory => LinkFault::Memory,
+        }
+    }
+
+    /// Whether a connection that was kept is gone: a call over it failed, and not for want of time.
+    pub fn is_gone(&self) -> bool
+        ensures { result ≡ is_gone self.now }
+    {
+        match self {
+            Trouble::System(error) => fault_of(error) == LinkFault::Down,
+            Trouble::Empty | Trouble::Memory => false,
         }
     }
 }
@@ -67,7 +85,6 @@ impl fmt::Display for Trouble {
             },
             Trouble::Empty => f.write_str("a reply of no bytes"),
             Trouble::Memory => f.write_str("no memory for its reply"),
-            Trouble::Unconnected => f.write_str("no connection"),
         }
     }
 }
