@@ -25,6 +25,7 @@ from ledger import Ledger, frame, number, replay, serve, text
 
 sys.path.append(str(Path(__file__).resolve().parent.parent / "program"))
 
+import clocks  # noqa: E402
 from ends import Server, World  # noqa: E402
 
 
@@ -160,8 +161,15 @@ def by_server(world, dice, connections, default, zone):
     rest = list(connections)
     while rest:
         count = dice.randint(1, len(rest)) if dice.random() < 0.5 else len(rest)
+        # (by the server's clock no moment is ahead)
         with Server(
-            world, words=options, store=path, default=default, timeout=20_000, **zone.settings
+            world,
+            words=options,
+            limit=clocks.late(),
+            store=path,
+            default=default,
+            timeout=20_000,
+            **zone.settings,
         ) as server:
             came += [server.ask(stream) for stream in rest[:count]]
             # after its reply the ends of all before are logged

@@ -1,6 +1,7 @@
 -- What is seen of a request, over what was there before it.
-use Rattle.std.proofs.Common.{◌≡◌, ℕ, List, Option, Result, sym, subst}
+use Rattle.std.proofs.Common.{◌≡◌, ℕ, List, Option, Result, ap, sym, subst}
 use Rattle.std.specs.declared.net.SocketAddr.{SocketAddr}
+use Rattle.mq_permits.specs.declared.peer.Peer.{Peer}
 use Rattle.mq_request.specs.declared.message.Reply.{Reply}
 use Rattle.mq_request.specs.declared.message.Request.{Request}
 use Rattle.mq_ledger.specs.declared.ledger.LedgerFault.{LedgerFault}
@@ -13,6 +14,10 @@ use Rattle.mq_watch.specs.Seen.{Sees, SeesPut, TellsUse}
 use Rattle.mq_watch.specs.declared.notes.Notes.{Notes}
 use Rattle.mq_watch.specs.declared.notice.Notice.{Notice}
 use Rattle.mq_watch.specs.declared.notice.RequestNotices.{RequestNotices}
+
+-- one peer has one address
+pub same_address : (p p' : Peer) → p' ≡ p → p'.address ≡ p.address
+same_address p p' is = ap (λ (q : Peer). q.address) is
 
 -- what is seen after a question and the request itself, which leave zone, peer and notes
 pub seen_put : (z z' : Zone) (p p' : SocketAddr) (n n' new : Notes) (before : Result (Option ℕ) LedgerFault) (answer : Result Reply LedgerFault)

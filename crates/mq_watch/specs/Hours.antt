@@ -11,6 +11,10 @@ seconds_at None = None
 abbrev pub nearest_moment : ℕ → ℕ
 nearest_moment seconds = min (max seconds FIRST_MOMENT) LAST_MOMENT
 
+-- the day of a clock in milliseconds since 1970, on days that go so
+abbrev pub clock_day : (ℕ → ℕ) → ℕ → ℕ
+clock_day day millis = day (nearest_moment (millis / 1000))
+
 -- days with at least one day between them
 abbrev pub AreFar : ℕ → ℕ → Type 0
 AreFar day today = (day + 1 < today) ⊎ (today + 1 < day)

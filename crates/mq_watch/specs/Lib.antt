@@ -1,4 +1,5 @@
 pub mod Ahead
+pub mod Allowed
 pub mod Asked
 pub mod Hours
 pub mod Known
@@ -6,3 +7,5 @@ pub mod Nearing
 pub mod Notices
 pub mod Seen
 pub mod Storms
+pub mod Today
+pub mod Unanswered

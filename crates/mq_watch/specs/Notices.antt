@@ -1,5 +1,6 @@
 -- What is logged of a request: its values, their order and their levels.
 use Rattle.std.specs.Prelude.{List, [], ◌∷◌, Option, None, Result, Ok, Err}
+use Rattle.std.specs.Borrow.{Bor}
 use Rattle.std.specs.declared.net.SocketAddr.{SocketAddr}
 use Rattle.log.specs.declared.level.Level.{Level}
 use Rattle.log.specs.declared.level.Level.TheVariants.{Error, Warn, Info}
@@ -11,6 +12,11 @@ use Rattle.mq_watch.specs.declared.notice.Notice.TheVariants.{Limit, Retire, Ahe
 use Rattle.mq_watch.specs.declared.notice.RequestNotices.{RequestNotices}
 use Rattle.mq_watch.specs.declared.notice.OrderVerdict.{OrderVerdict}
 use Rattle.mq_watch.specs.declared.notice.OrderVerdict.TheVariants as verdicts
+
+-- an answer of which the reply was lent
+abbrev pub answered : Result (Bor Reply) LedgerFault → Result Reply LedgerFault
+answered (Ok reply) = Ok reply.now
+answered (Err fault) = Err fault
 
 -- what an answer says of a limit or a retire
 abbrev pub verdict : Result Reply LedgerFault → OrderVerdict

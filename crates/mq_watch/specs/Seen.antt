@@ -1,9 +1,10 @@
 -- What is seen of a request in the log: by its words and its answer, its peer, the server's clock, the ledger's days, and what
 -- was noted within the hour.
-use Rattle.std.specs.Prelude.{◌≡◌, ◌≢◌, ◌⊎◌, ⊤, ℕ, ◌<◌, nat_le, if◌then◌else◌, Bool, false, IsTrue, List, [], ◌∷◌, ◌++◌, length, All, Option, Some, None, is_some, IfSome, IsSome, IsNone, Result, Ok, Err}
+use Rattle.std.specs.Prelude.{◌≡◌, ◌≢◌, ◌⊎◌, ⊤, ℕ, ◌/◌, ◌<◌, nat_le, if◌then◌else◌, Bool, false, IsTrue, List, [], ◌∷◌, ◌++◌, length, All, Option, Some, None, is_some, IfSome, IsSome, IsNone, Result, Ok, Err}
 use Rattle.std.specs.Net.Socket.{socket_ip}
 use Rattle.std.specs.declared.net.SocketAddr.{SocketAddr}
 use Rattle.std.specs.declared.net.ip_addr.IpAddr.{IpAddr}
+use Rattle.mq_permits.specs.declared.peer.Peer.{Peer}
 use Rattle.mq_request.specs.declared.message.Id.{Id}
 use Rattle.mq_request.specs.declared.message.Reply.{Reply}
 use Rattle.mq_request.specs.declared.message.Reply.TheVariants as reply
@@ -20,15 +21,17 @@ use Rattle.mq_watch.specs.Hours.{IsOff, IsOver, nearest_moment, seconds_at}
 use Rattle.mq_watch.specs.Known.{IsKnownAt, known}
 use Rattle.mq_watch.specs.Nearing.{IsLeft, IsNear, IsOpen, four_fifths}
 use Rattle.mq_watch.specs.Notices.{nothing, verdict}
-use Rattle.mq_watch.specs.Storms.{Asks, Counts}
+use Rattle.mq_watch.specs.Storms.{Asks, Counts, TellsOnce, octets_of_ip}
+use Rattle.mq_watch.specs.declared.strangers.Strangers.{Strangers}
 use Rattle.mq_watch.specs.declared.askers.Asker.{Asker}
 use Rattle.mq_watch.specs.declared.askers.Askers.{Askers}
+use Rattle.mq_watch.specs.declared.calendar.ServerTime.{ServerTime}
 use Rattle.mq_watch.specs.declared.hours.NamedHosts.{NamedHosts}
 use Rattle.mq_watch.specs.declared.nearing.Nearing.{Nearing}
 use Rattle.mq_watch.specs.declared.nearing.Usage.{Usage}
 use Rattle.mq_watch.specs.declared.notes.Notes.{Notes}
 use Rattle.mq_watch.specs.declared.notice.Notice.{Notice}
-use Rattle.mq_watch.specs.declared.notice.Notice.TheVariants.{Limit, Retire, Ahead, FarDay, OtherAddress, OldRun, Refusals, NearLimit, FailedQuestion}
+use Rattle.mq_watch.specs.declared.notice.Notice.TheVariants.{Limit, Retire, Ahead, FarDay, AheadDay, OtherAddress, OldRun, Refusals, NearLimit, FailedQuestion, Forbidden}
 use Rattle.mq_watch.specs.declared.notice.RequestNotices.{RequestNotices}
 use Rattle.mq_watch.specs.declared.notice.OrderVerdict.{OrderVerdict}
 use Rattle.mq_watch.specs.declared.notice.OrderVerdict.TheVariants.{Set}
@@ -197,13 +200,48 @@ abbrev pub IsRetire : Id → OrderVerdict → Option Notice → Type 0
 IsRetire id v (Some (Retire i u)) = (i.now ≡ id) × (u ≡ v)
 IsRetire id v _ = ⊥
 
--- the line of a retire that is ahead of the server's clock
-abbrev pub IsAheadLine : Request → Option ℕ → Option Notice → Type 0
-IsAheadLine (request.Retire id) (Some now) (Some (Ahead i n)) = (i.now ≡ id) × (n ≡ now)
-IsAheadLine _ _ _ = ⊥
+-- the line of a retire that is ahead of the server's clock, in milliseconds
+abbrev pub IsAheadLine : Id → ℕ → Option Notice → Type 0
+IsAheadLine id now (Some (Ahead i n)) = (i.now ≡ id) × (n ≡ now)
+IsAheadLine id now _ = ⊥
 
-abbrev pub SeesAhead : SocketAddr → Request → Option ℕ → RequestNotices → Type 0
-SeesAhead peer r now seen = (seen ≡ record (nothing peer) { main = seen.main }) × IsAheadLine r now seen.main
+-- this host reserves for this day, which is ahead of that one
+abbrev pub IsAheadDay : List ℕ → ℕ → ℕ → Notice → Type 0
+IsAheadDay host day today (AheadDay h d t) = (h.now ≡ host) × (d ≡ day) × (t ≡ today)
+IsAheadDay host day today _ = ⊥
+
+-- A host reserves for a day that is ahead of today: that is told once an hour at most, beside other far days.
+pub record SeesAheadDay (host : List ℕ) (day : ℕ) (now : ServerTime) (old new : NamedHosts) (seen : Option Notice) : Type 0 where
+  pub names : Names old host (now.millis / 1000) (is_some seen) new
+  pub says : IfSome seen (IsAheadDay host day now.today)
+
+-- what is seen of a request of this peer that isn't put to the ledger, since it is ahead of this time
+abbrev pub SeesAhead : (ℕ → ℕ) → SocketAddr → Option ServerTime → Notes → Notes → RequestNotices → Request → Type 0
+SeesAhead day peer (Some now) old new seen (request.Retire id) =
+    IsAheadLine id now.millis seen.main × (seen ≡ record (nothing peer) { main = seen.main }) × (new ≡ old)
+SeesAhead day peer (Some now) old new seen (request.Reserve id txn moment login count) =
+    SeesAheadDay id.host (day moment) now old.hosts new.hosts seen.day
+    × (seen ≡ record (nothing peer) { day = seen.day }) × (new ≡ record old { hosts = new.hosts })
+SeesAhead day peer now old new seen _ = ⊥
+
+-- its peer may not ask this request
+abbrev pub IsForbidden : Request → Notice → Type 0
+IsForbidden r (Forbidden request) = request.now ≡ r
+IsForbidden r _ = ⊥
+
+-- A request came from an address that may not ask it: that is told once an hour and address.
+pub record SeesStranger (address : IpAddr) (now : ℕ) (old new : Strangers) (seen : Option Notice) (r : Request) : Type 0 where
+  pub tells : (before : Option (Unit {0})) → IsKnownAt old.addresses.since old.addresses.names now (octets_of_ip address) before
+      → TellsOnce before (is_some seen) (known new.addresses.names (octets_of_ip address))
+  pub others : (l : List ℕ) (before : Option (Unit {0})) → l ≢ octets_of_ip address
+      → IsKnownAt old.addresses.since old.addresses.names now l before → known new.addresses.names l ≡ before
+  pub says : IfSome seen (IsForbidden r)
+
+-- what is seen of a request that isn't put to the ledger, since this peer may not ask it; nothing where the clock can't be read
+abbrev pub SeesForbidden : Peer → Option ℕ → Strangers → Strangers → RequestNotices → Request → Type 0
+SeesForbidden peer None old new seen r = (seen ≡ nothing peer.address) × (new ≡ old)
+SeesForbidden peer (Some now) old new seen r =
+    SeesStranger (socket_ip peer.address) now old new seen.main r × (seen ≡ record (nothing peer.address) { main = seen.main })
 
 -- A granted reserve may near the limit; no other reserve asks the ledger.
 abbrev pub SeesGrant : Result Reply LedgerFault → List ℕ → ℕ → Option (List ReportedCall) → Option (List ReportedCall) → Nearing → Nearing → Option Notice → Type 0

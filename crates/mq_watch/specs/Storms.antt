@@ -1,6 +1,9 @@
--- What is noted of hosts and logins in an hour: from where a host asks, and how often a login is refused.
-use Rattle.std.specs.Prelude.{◌≡◌, ◌≢◌, ◌⊎◌, ◌↔◌, ℕ, ◌+◌, Bool, false, IsTrue, Option, None, Some, unwrap_or}
+-- What is noted of hosts, logins and addresses in an hour: from where a host asks, how often a login is refused, and from
+-- where something was asked that isn't allowed.
+use Rattle.std.specs.Prelude.{◌≡◌, ◌≢◌, ◌⊎◌, ◌↔◌, ℕ, ◌+◌, Bool, true, false, IsTrue, List, Option, None, Some, unwrap_or}
+use Rattle.std.specs.Net.Addr.{ipv4_octets, ipv6_octets}
 use Rattle.std.specs.declared.net.ip_addr.IpAddr.{IpAddr}
+use Rattle.std.specs.declared.net.ip_addr.IpAddr.TheVariants.{V4, V6}
 use Rattle.mq_watch.specs.declared.askers.Asker.{Asker}
 use Rattle.mq_watch.specs.declared.askers.Asker.TheVariants.{One, Several}
 
@@ -18,3 +21,13 @@ Asks (Some Several) address other now = (other ≡ None) × (now ≡ Some Severa
 abbrev pub Counts : Option ℕ → Bool → Option ℕ → Type 0
 Counts before due now =
     ((now ≡ Some (unwrap_or before 0 + 1)) × (IsTrue due ↔ unwrap_or before 0 ≡ 1000)) ⊎ ((now ≡ before) × (due ≡ false))
+
+-- the octets of an address
+abbrev pub octets_of_ip : IpAddr → List ℕ
+octets_of_ip (V4 a) = ipv4_octets a
+octets_of_ip (V6 a) = ipv6_octets a
+
+-- A line that names something is told where none did in this hour, and it is noted, or there was no memory or place for it.
+abbrev pub TellsOnce : Option (Unit {0}) → Bool → Option (Unit {0}) → Type 0
+TellsOnce None told now = ((told ≡ true) × (now ≡ Some tt)) ⊎ ((told ≡ false) × (now ≡ None))
+TellsOnce (Some known) told now = (told ≡ false) × (now ≡ Some tt)

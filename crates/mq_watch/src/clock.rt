@@ -2,10 +2,12 @@
 ghost use Rattle.std.specs.Prelude.{◌≡◌, ◌<◌, ◌/◌, ◌^◌};
 ghost use Rattle.std.specs.Option.{SomeIff};
 ghost use Rattle.std.specs.Time.{system_time_nanos};
+ghost use Rattle.mq_ledger.specs.Day.{day_of};
 ghost use Rattle.mq_request.specs.Range.{IsMoment};
 ghost use Rattle.mq_request.specs.declared.bounds.TheConstants.{FIRST_MOMENT, LAST_MOMENT};
-ghost use Rattle.mq_watch.specs.Hours.{nearest_moment, seconds_at};
+ghost use Rattle.mq_watch.specs.Hours.{clock_day, nearest_moment, seconds_at};
 
+use mq_ledger::Zone;
 use mq_request::bounds::{FIRST_MOMENT, LAST_MOMENT};
 use std::rt::Clock;
 use std::time::{SystemTime, UNIX_EPOCH};
@@ -33,6 +35,14 @@ pub fn seconds_of(now: Option<u64>) -> Option<u64>
         Some(millis) => Some(millis / 1_000),
         None => None,
     }
+}
+
+/// The day of a clock that shows so many milliseconds since 1970, or of the first or last moment
+/// there is.
+pub fn clock_day(zone: &Zone, millis: u64) -> u32
+    ensures { result ≡ clock_day (day_of zone.now) millis }
+{
+    zone.day_at(moment_of(millis / 1_000))
 }
 
 /// The moment of so many seconds since 1970-01-01T00:00:00Z, or the first or last moment there is.

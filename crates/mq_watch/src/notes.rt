@@ -3,20 +3,23 @@ ghost use Rattle.std.specs.Prelude.{◌≡◌, ◌<◌, None, Some, Ok, IfSome};
 ghost use Rattle.mq_request.specs.Range.{IsDay, IsLogin, IsMoment};
 ghost use Rattle.mq_ledger.specs.Day.{day_of};
 ghost use Rattle.mq_watch.specs.Asked.{IsAsked};
-ghost use Rattle.mq_watch.specs.Notices.{verdict};
-ghost use Rattle.mq_watch.specs.Seen.{IsUseOf, SeesAddress, SeesAgain, SeesDay, SeesGranted};
-ghost use Rattle.mq_watch.specs.Seen.{SeesLimit, SeesLowering, SeesRefusal, SeesRefusals};
-ghost use Rattle.mq_watch.specs.Seen.{SeesReserve, SeesRun, SeesSet, TellsBefore};
+ghost use Rattle.mq_watch.specs.Notices.{answered, verdict};
+ghost use Rattle.mq_watch.specs.Seen.{IsUseOf, SeesAddress, SeesAgain, SeesAheadDay, SeesDay};
+ghost use Rattle.mq_watch.specs.Seen.{SeesForbidden, SeesGranted, SeesLimit, SeesLowering, SeesRefusal, SeesRefusals};
+ghost use Rattle.mq_watch.specs.Seen.{SeesReserve, SeesRun, SeesSet, SeesStranger, TellsBefore};
 
 use crate::askers::Askers;
 use crate::asking::ask_usage;
+use crate::calendar::ServerTime;
 use crate::clock::moment_of;
 use crate::hours::{NamedHosts, far_days};
 use crate::nearing::Nearing;
 use crate::notice::{Notice, OrderVerdict, RequestNotices, verdict_of};
 use crate::refusals::Refusals;
+use crate::strangers::Strangers;
 use mq_ledger::{Ledger, LedgerFault, Zone};
-use mq_request::{Host, Id, Login, Reply};
+use mq_permits::Peer;
+use mq_request::{Host, Id, Login, Reply, Request};
 use std::alloc::Global;
 use std::net::{IpAddr, SocketAddr};
 
@@ -33,6 +36,8 @@ pub struct Notes {
     pub refusals: Refusals,
     /// The logins that near their limits.
     pub nearing: Nearing,
+    /// The addresses from which something was asked that isn't allowed.
+    pub strangers: Strangers,
 }
 
 impl Notes {
@@ -44,6 +49,7 @@ impl Notes {
             askers: Askers::new(alloc),
             refusals: Refusals::new(alloc),
             nearing: Nearing::new(alloc),
+            strangers: Strangers::new(alloc),
         }
     }
 
@@ -56,11 +62,11 @@ impl Notes {
         id: &'r Id,
         moment: u64,
         login: &'r Login,
-        answer: &Result<Reply, LedgerFault>,
+        answer: Result<&Reply, LedgerFault>,
         now: Option<u64>,
     ) -> RequestNotices<'r>
         requires { IsMoment moment }
-        ensures sees { SeesReserve (day_of zone.now) peer id.now moment login.now answer.now now
+        ensures sees { SeesReserve (day_of zone.now) peer id.now moment login.now (answered answer.entry) now
             self.old self.new result }
         ensures peer { result.peer ≡ peer }
         ensures others { (result.question ≡ None) × (result.main ≡ None) }
@@ -83,10 +89,10 @@ impl Notes {
         &mut self,
         id: &'r Id,
         login: &'r Login,
-        answer: &Result<Reply, LedgerFault>,
+        answer: Result<&Reply, LedgerFault>,
         seconds: u64,
     ) -> Option<Notice<'r>>
-        ensures sees { SeesRefusal id.now login.now answer.now seconds self.old self.new result }
+        ensures sees { SeesRefusal id.now login.now (answered answer.entry) seconds self.old self.new result }
         ensures hosts { self.new.hosts ≡ self.old.hosts }
         ensures askers { self.new.askers ≡ self.old.askers }
         ensures nearing { self.new.nearing ≡ self.old.nearing }
@@ -112,6 +118,62 @@ fn see_day<'r>(
     let (day, today) = far_days(zone, moment, moment_of(seconds))?;
     if hosts.is_due(host, seconds) {
         Some(Notice::FarDay { host, day, today })
+    } else {
+        None
+    }
+}
+
+/// That a host's reserve isn't taken, since its day is ahead of today. Once an hour, as of other far
+/// days.
+pub fn see_ahead_day<'r>(
+    hosts: &mut NamedHosts,
+    host: &'r Host,
+    day: u32,
+    now: ServerTime,
+) -> Option<Notice<'r>>
+    ensures { SeesAheadDay host.now day now hosts.old hosts.new result }
+{
+    if hosts.is_due(host, now.millis / 1_000) {
+        Some(Notice::AheadDay {
+            host,
+            day,
+            today: now.today,
+        })
+    } else {
+        None
+    }
+}
+
+/// That a request isn't taken, since its peer may not ask it: once an hour and address, where the
+/// clock can be read. In seconds.
+pub fn see_forbidden<'r>(
+    strangers: &mut Strangers,
+    peer: &Peer,
+    request: &'r Request,
+    seconds: Option<u64>,
+) -> RequestNotices<'r>
+    ensures { SeesForbidden peer.now seconds strangers.old strangers.new result request.now }
+{
+    match seconds {
+        Some(seconds) => RequestNotices {
+            main: see_stranger(strangers, peer.address.ip(), request, seconds),
+            ..RequestNotices::nothing(peer.address)
+        },
+        None => RequestNotices::nothing(peer.address),
+    }
+}
+
+/// That something was asked from an address that isn't allowed, once an hour.
+fn see_stranger<'r>(
+    strangers: &mut Strangers,
+    address: IpAddr,
+    request: &'r Request,
+    seconds: u64,
+) -> Option<Notice<'r>>
+    ensures { SeesStranger address seconds strangers.old strangers.new result request.now }
+{
+    if strangers.is_due(address, seconds) {
+        Some(Notice::Forbidden { request })
     } else {
         None
     }
@@ -152,10 +214,10 @@ fn see_refusals<'r>(
 pub fn see_run<'r>(
     retired: &mut NamedHosts,
     id: &'r Id,
-    answer: &Result<Reply, LedgerFault>,
+    answer: Result<&Reply, LedgerFault>,
     now: Option<u64>,
 ) -> Option<Notice<'r>>
-    ensures { SeesRun id.now answer.now now retired.old retired.new result }
+    ensures { SeesRun id.now (answered answer.entry) now retired.old retired.new result }
 {
     let (Ok(Reply::Old { .. }), Some(seconds)) = (answer, now) else {
         return None;
@@ -209,12 +271,12 @@ pub fn see_limit<'r, L: Ledger>(
     from_day: u32,
     cap: u32,
     before: Result<Option<u32>, LedgerFault>,
-    answer: &Result<Reply, LedgerFault>,
+    answer: Result<&Reply, LedgerFault>,
 ) -> RequestNotices<'r>
     requires login { IsLogin login.now }
     requires day { IsDay from_day }
     ensures asked { IsAsked L.told L.book L.has_kept L.is_sound L.has_store ledger.old ledger.new }
-    ensures sees { SeesLimit peer login.now from_day cap before (verdict answer.now)
+    ensures sees { SeesLimit peer login.now from_day cap before (verdict (answered answer.entry))
         (L.told ledger.old) (L.told ledger.new)
         nearing.old nearing.new result }
     ensures from { IfSome result.main (TellsBefore before) }

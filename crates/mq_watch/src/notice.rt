@@ -1,11 +1,11 @@
 //! What is to be logged of a request, as a value, and its line.
 ghost use Rattle.std.specs.Prelude.{◌≡◌};
-ghost use Rattle.mq_watch.specs.Notices.{in_order, level_of, nothing, verdict};
+ghost use Rattle.mq_watch.specs.Notices.{answered, in_order, level_of, nothing, verdict};
 
 use crate::nearing::Usage;
 use log::Level;
 use mq_ledger::LedgerFault;
-use mq_request::{EscapedText, Host, Id, Login, Reply};
+use mq_request::{EscapedText, Host, Id, Login, Reply, Request};
 use std::fmt;
 use std::net::{IpAddr, SocketAddr};
 
@@ -27,8 +27,8 @@ pub enum OrderVerdict {
 }
 
 /// What an answer says of a limit or a retire.
-pub fn verdict_of(answer: &Result<Reply, LedgerFault>) -> OrderVerdict
-    ensures { result ≡ verdict answer.now }
+pub fn verdict_of(answer: Result<&Reply, LedgerFault>) -> OrderVerdict
+    ensures { result ≡ verdict (answered answer.entry) }
 {
     match answer {
         Ok(Reply::LimitSet { .. }) => OrderVerdict::Set,
@@ -40,7 +40,7 @@ pub fn verdict_of(answer: &Result<Reply, LedgerFault>) -> OrderVerdict
         Ok(Reply::Conflict { .. }) => OrderVerdict::Conflict,
         Ok(Reply::Old { .. }) => OrderVerdict::Old,
         Ok(_) => OrderVerdict::Other,
-        Err(fault) => OrderVerdict::Fault(*fault),
+        Err(fault) => OrderVerdict::Fault(fault),
     }
 }
 
@@ -86,6 +86,12 @@ pub enum Notice<'a> {
         day: u32,
         today: u32,
     },
+    /// A host reserves for a day that is ahead of today, and that wasn't taken.
+    AheadDay {
+        host: &'a Host,
+        day: u32,
+        today: u64,
+    },
     /// A host asks that asked from this other address before.
     OtherAddress {
         host: &'a Host,
@@ -108,6 +114,10 @@ pub enum Notice<'a> {
     },
     /// The ledger's store failed at a question of the log.
     FailedQuestion,
+    /// A peer may not ask this, and it wasn't taken.
+    Forbidden {
+        request: &'a Request,
+    },
 }
 
 impl Notice<'_> {
@@ -157,6 +167,13 @@ impl fmt::Display for Notice<'_> {
                     "host {host} reserves for day {day}, and today is day {today}: its clock or the server's is wrong"
                 )
             }
+            Notice::AheadDay { host, day, today } => {
+                let host = EscapedText(host.as_slice());
+                write!(
+                    f,
+                    "host {host} reserves for day {day}, and today is day {today}: its clock or the server's is wrong, and its recipients get 451"
+                )
+            }
             Notice::OtherAddress { host, other } => {
                 let host = EscapedText(host.as_slice());
                 write!(
@@ -192,6 +209,25 @@ impl fmt::Display for Notice<'_> {
             Notice::FailedQuestion => {
                 f.write_str("the ledger's store failed at a question of the log")
             }
+            Notice::Forbidden { request } => write_forbidden(f, request),
+        }
+    }
+}
+
+/// What a peer may not ask.
+fn write_forbidden<W: fmt::Write>(f: &mut fmt::Formatter<W>, request: &Request) -> fmt::Result {
+    match request {
+        Request::Limit { .. } => f.write_str("may not set limits"),
+        Request::Usage { .. } | Request::List { .. } => {
+            f.write_str("may not ask what logins have used")
+        }
+        Request::Retire { id } => {
+            let host = EscapedText(id.host.as_slice());
+            write!(f, "may not retire runs of host {host}")
+        }
+        Request::Reserve { id, .. } | Request::Settle { id, .. } | Request::Release { id, .. } => {
+            let host = EscapedText(id.host.as_slice());
+            write!(f, "may not ask for host {host}")
         }
     }
 }

@@ -1,84 +1,227 @@
-//! A ledger, and what is to be seen of the requests that are put to it.
-ghost use Rattle.std.specs.Prelude.{◌≡◌, [], ◌∷◌, ◌++◌, IfOk, IfErr, IfNone, IfSome, OnErr, OnOk};
-ghost use Rattle.std.specs.Prelude.{Err};
+//! A ledger, which requests are put to it, and what is to be seen of them.
+ghost use Rattle.std.specs.Prelude.{◌≡◌, [], ◌∷◌, ◌++◌, All, IfOk, IfErr, IfNone, IfSome, OnErr, OnOk};
+ghost use Rattle.std.specs.Prelude.{Err, IsTrue, false};
 ghost use Rattle.mq_request.specs.Range.{IsReply, IsRequest};
-ghost use Rattle.mq_ledger.specs.Answer.{build, reply};
+ghost use Rattle.mq_ledger.specs.Answer.{build, history_of, replies_after, reply};
 ghost use Rattle.mq_ledger.specs.Arrivals.{first};
 ghost use Rattle.mq_ledger.specs.Day.{day_of};
 ghost use Rattle.mq_ledger.specs.History.{requests};
-ghost use Rattle.mq_watch.specs.Ahead.{IsAhead};
+ghost use Rattle.mq_permits.specs.Permits.{may_ask};
+ghost use Rattle.mq_watch.specs.Ahead.{IsAhead, MayBePutWithOthers};
+ghost use Rattle.mq_watch.specs.Allowed.{may_each_ask};
 ghost use Rattle.mq_watch.specs.Asked.{FailsAtQuestion, IsAsked, IsCapBefore, IsPut, LacksCap};
-ghost use Rattle.mq_watch.specs.Seen.{Sees, SeesAhead, SeesPut, TellsFrom, TellsUse};
+ghost use Rattle.mq_watch.specs.Notices.{answered};
+ghost use Rattle.mq_watch.specs.Hours.{seconds_at};
+ghost use Rattle.mq_watch.specs.Seen.{Sees, SeesAhead, SeesForbidden, SeesPut, TellsFrom, TellsUse};
+ghost use Rattle.mq_watch.specs.Today.{millis_in};
+ghost use Rattle.mq_watch.specs.Unanswered.{answer_of, IsFault};
 
-use crate::ahead::is_ahead;
+use crate::ahead::{is_ahead, may_be_put_together};
+use crate::allowed::may_each_ask;
 use crate::asking::{ask_usage, cap_of};
+use crate::calendar::ServerTime;
 use crate::clock::seconds_of;
-use crate::notes::{Notes, see_granted, see_limit, see_run};
+use crate::notes::{Notes, see_ahead_day, see_forbidden, see_granted, see_limit, see_run};
 use crate::notice::{Notice, RequestNotices, verdict_of};
+use crate::unanswered::Unanswered;
 use mq_ledger::{Ledger, LedgerFault};
+use mq_permits::{Peer, Permits, may_ask};
 use mq_request::{Reply, Request};
-use std::net::SocketAddr;
 
-/// A ledger, whose requests come now, and what was noted of those that came.
+/// A ledger, whose request came last, and what was noted of those that came.
 #[derive(Drop)]
 pub struct Watch<L> {
     pub ledger: L,
-    pub peer: SocketAddr,
+    pub peer: Peer,
+    /// From whom the requests came that were put together last, in their order.
+    pub peers: Vec<Peer>,
     pub notes: Notes,
 }
 
 /// What a request is answered, and what is to be logged of it.
+#[derive(Drop)]
+pub struct NoticedRequest<'r> {
+    pub answer: Result<Reply, Unanswered>,
+    pub seen: RequestNotices<'r>,
+}
+
+/// What a ledger answered a request that was put to it, and what is to be logged of it.
 #[derive(Drop)]
 pub struct NoticedAnswer<'r> {
     pub answer: Result<Reply, LedgerFault>,
     pub seen: RequestNotices<'r>,
 }
 
+impl<'r> NoticedAnswer<'r> {
+    /// The same of a request, which the ledger answered.
+    fn of_request(self) -> NoticedRequest<'r>
+        ensures answer { answer_of result.answer ≡ self.entry.answer }
+        ensures fault { IfErr result.answer IsFault }
+        ensures seen { result.seen ≡ self.entry.seen }
+    {
+        let NoticedAnswer { answer, seen } = self;
+        NoticedRequest {
+            answer: match answer {
+                Ok(reply) => Ok(reply),
+                Err(fault) => Err(Unanswered::Fault(fault)),
+            },
+            seen,
+        }
+    }
+}
+
 impl<L: Ledger> Watch<L> {
-    /// Puts a request to the ledger at this moment of the server's clock, in milliseconds since
-    /// 1970, but a retire that is ahead of it.
-    pub fn take<'r>(&mut self, request: &'r Request, now: Option<u64>) -> NoticedAnswer<'r>
+    /// Puts a request of this peer to the ledger at this time of the server's clock, but one that
+    /// its peer may not ask, and one that is ahead of it.
+    pub fn take<'r>(
+        &mut self,
+        permits: Option<&Permits>,
+        peer: Peer,
+        request: &'r Request,
+        now: Option<ServerTime>,
+    ) -> NoticedRequest<'r>
         requires { IsRequest request.now }
-        ensures ahead { IsAhead request.now now → (result.answer ≡ Err LedgerFault.Memory)
-            × (self.new ≡ self.old)
-            × SeesAhead self.old.peer request.now now result.seen }
-        ensures put { (IsAhead request.now now → ⊥) →
-            IsPut request.now result.answer (L.told self.old.ledger) (L.told self.new.ledger) }
-        ensures peer { self.new.peer ≡ self.old.peer }
-        ensures seen { (IsAhead request.now now → ⊥) → SeesPut
-            (day_of (L.book self.old.ledger).zone) self.old.peer result.answer now
+        ensures forbidden { may_ask permits.entry peer request.now ≡ false →
+            (result.answer ≡ Err Unanswered.Forbidden)
+            × (self.new.ledger ≡ self.old.ledger)
+            × SeesForbidden peer (seconds_at (millis_in now)) self.old.notes.strangers
+            self.new.notes.strangers result.seen request.now
+            × (self.new.notes ≡ record self.old.notes { strangers = self.new.notes.strangers }) }
+        ensures ahead { IsTrue (may_ask permits.entry peer request.now) →
+            IsAhead (day_of (L.book self.old.ledger).zone) request.now now →
+            (result.answer ≡ Err Unanswered.Ahead)
+            × (self.new.ledger ≡ self.old.ledger)
+            × SeesAhead (day_of (L.book self.old.ledger).zone) peer.address now
+            self.old.notes self.new.notes result.seen request.now }
+        ensures put { IsTrue (may_ask permits.entry peer request.now) →
+            (IsAhead (day_of (L.book self.old.ledger).zone) request.now now → ⊥) →
+            IsPut request.now (answer_of result.answer) (L.told self.old.ledger)
+            (L.told self.new.ledger)
+            × IfErr result.answer IsFault }
+        ensures peer { self.new.peer ≡ peer }
+        ensures peers { self.new.peers ≡ self.old.peers }
+        ensures seen { IsTrue (may_ask permits.entry peer request.now) →
+            (IsAhead (day_of (L.book self.old.ledger).zone) request.now now → ⊥) →
+            SeesPut (day_of (L.book self.old.ledger).zone) peer.address
+            (answer_of result.answer) (millis_in now)
             (L.told self.new.ledger)
             self.old.notes self.new.notes result.seen request.now }
         ensures usage { L.has_kept self.new.ledger → L.is_sound self.old.ledger
             → TellsUse (L.book self.new.ledger) request.now result.seen.main }
 
         // As `Ledger` says of `apply`.
-        ensures in_range { IfOk result.answer IsReply }
+        ensures in_range { IfOk (answer_of result.answer) IsReply }
         ensures same_zone { (L.book self.new.ledger).zone ≡ (L.book self.old.ledger).zone }
         ensures same_default { (L.book self.new.ledger).default ≡ (L.book self.old.ledger).default }
         ensures kept { L.has_kept self.new.ledger → L.has_kept self.old.ledger }
         ensures no_store { L.has_store self.new.ledger → L.has_store self.old.ledger }
-        ensures store { result.answer ≡ Err LedgerFault.Store → L.has_store self.old.ledger }
+        ensures store { answer_of result.answer ≡ Err LedgerFault.Store
+            → L.has_store self.old.ledger }
         ensures reply { L.has_kept self.new.ledger → L.is_sound self.old.ledger
             → (let b = L.book self.old.ledger in
-            IfOk result.answer (λ r. r ≡ reply (day_of b.zone) b.default b.history request.now)) }
+            IfOk (answer_of result.answer) (λ r. r
+            ≡ reply (day_of b.zone) b.default b.history request.now)) }
         ensures history { L.has_kept self.new.ledger → L.is_sound self.old.ledger
             → (let b = L.book self.old.ledger in
-            OnOk result.answer ((L.book self.new.ledger).history
+            OnOk (answer_of result.answer) ((L.book self.new.ledger).history
             ≡ build (day_of b.zone) b.default (first (requests b.history ++ request.now ∷ [])))) }
         ensures fault { L.has_kept self.new.ledger → L.is_sound self.old.ledger →
-            OnErr result.answer ((L.book self.new.ledger).history
+            OnErr (answer_of result.answer) ((L.book self.new.ledger).history
             ≡ (L.book self.old.ledger).history) }
         ensures sound { L.has_kept self.new.ledger → L.is_sound self.old.ledger
             → L.is_sound self.new.ledger }
     {
-        if is_ahead(request, now) {
-            return NoticedAnswer {
-                answer: Err(LedgerFault::Memory),
-                seen: see_ahead(self.peer, request, now),
+        self.peer = peer;
+        if !may_ask(permits, &peer, request) {
+            let seconds = seconds_of(ServerTime::millis_in(now));
+            return NoticedRequest {
+                answer: Err(Unanswered::Forbidden),
+                seen: see_forbidden(&mut self.notes.strangers, &peer, request, seconds),
             };
         }
-        self.put(request, now)
+        if is_ahead(request, self.ledger.zone(), now) {
+            return NoticedRequest {
+                answer: Err(Unanswered::Ahead),
+                seen: self.see_ahead(request, now),
+            };
+        }
+        self.put(request, ServerTime::millis_in(now)).of_request()
+    }
+
+    /// Puts requests to the ledger together, in their order, each of the peer at its
+    /// place. Where one of them may not be asked by its peer, or has to be put by itself, none is put.
+    pub fn put_all(
+        &mut self,
+        permits: Option<&Permits>,
+        peers: Vec<Peer>,
+        arrivals: &[Request],
+        replies: &mut Vec<Reply>,
+        now: Option<ServerTime>,
+    ) -> Result<(), LedgerFault>
+        requires { All IsRequest arrivals.now }
+        ensures allowed { OnOk result (IsTrue (may_each_ask permits.entry peers.items
+            arrivals.now)) }
+        ensures together { OnOk result
+            (All (MayBePutWithOthers (day_of (L.book self.old.ledger).zone) now) arrivals.now) }
+        ensures peers { OnOk result (self.new.peers ≡ peers) }
+
+        // As `Ledger` says of `apply_all`.
+        ensures in_range { OnOk result (All IsReply replies.new.items) }
+        ensures same_zone { (L.book self.new.ledger).zone ≡ (L.book self.old.ledger).zone }
+        ensures same_default { (L.book self.new.ledger).default ≡ (L.book self.old.ledger).default }
+        ensures kept { L.has_kept self.new.ledger → L.has_kept self.old.ledger }
+        ensures no_store { L.has_store self.new.ledger → L.has_store self.old.ledger }
+        ensures store { result ≡ Err LedgerFault.Store → L.has_store self.old.ledger }
+        ensures replies { L.has_kept self.new.ledger → L.is_sound self.old.ledger
+            → (let b = L.book self.old.ledger in
+            OnOk result (replies.new.items
+            ≡ replies_after (day_of b.zone) b.default (requests b.history) arrivals.now)) }
+        ensures history { L.has_kept self.new.ledger → L.is_sound self.old.ledger
+            → (let b = L.book self.old.ledger in
+            OnOk result ((L.book self.new.ledger).history
+            ≡ history_of (day_of b.zone) b.default (requests b.history ++ arrivals.now))) }
+        ensures fault { L.has_kept self.new.ledger → L.is_sound self.old.ledger →
+            OnErr result ((L.book self.new.ledger).history ≡ (L.book self.old.ledger).history) }
+        ensures sound { L.has_kept self.new.ledger → L.is_sound self.old.ledger
+            → L.is_sound self.new.ledger }
+    {
+        if !may_each_ask(permits, peers.as_slice(), arrivals)
+            || !may_be_put_together(arrivals, self.ledger.zone(), now)
+        {
+            return Err(LedgerFault::Memory);
+        }
+        self.peers = peers;
+        self.ledger.apply_all(arrivals, replies)
+    }
+
+    /// What is to be seen of a request that is ahead, and isn't put to the ledger.
+    fn see_ahead<'r>(&mut self, request: &'r Request, now: Option<ServerTime>) -> RequestNotices<'r>
+        requires { IsRequest request.now }
+        ensures ledger { self.new.ledger ≡ self.old.ledger }
+        ensures peer { self.new.peer ≡ self.old.peer }
+        ensures seen { IsAhead (day_of (L.book self.old.ledger).zone) request.now now →
+            SeesAhead (day_of (L.book self.old.ledger).zone) self.old.peer.address now
+            self.old.notes self.new.notes result request.now }
+        ensures peers { self.new.peers ≡ self.old.peers }
+    {
+        let nothing = RequestNotices::nothing(self.peer.address);
+        match (request, now) {
+            (Request::Retire { id }, Some(now)) => RequestNotices {
+                main: Some(Notice::Ahead {
+                    id,
+                    now: now.millis,
+                }),
+                ..nothing
+            },
+            (Request::Reserve { id, moment, .. }, Some(now)) => {
+                let day = self.ledger.zone().day_at(*moment);
+                RequestNotices {
+                    day: see_ahead_day(&mut self.notes.hosts, &id.host, day, now),
+                    ..nothing
+                }
+            }
+            _ => nothing,
+        }
     }
 
     /// Puts a request to the ledger, and says what is to be seen of it. Where a question before it
@@ -88,8 +231,9 @@ impl<L: Ledger> Watch<L> {
         ensures put { IsPut request.now result.answer (L.told self.old.ledger)
             (L.told self.new.ledger) }
         ensures peer { self.new.peer ≡ self.old.peer }
-        ensures seen { SeesPut (day_of (L.book self.old.ledger).zone) self.old.peer result.answer
-            now (L.told self.new.ledger)
+        ensures peers { self.new.peers ≡ self.old.peers }
+        ensures seen { SeesPut (day_of (L.book self.old.ledger).zone) self.old.peer.address
+            result.answer now (L.told self.new.ledger)
             self.old.notes self.new.notes result.seen request.now }
         ensures usage { L.has_kept self.new.ledger → L.is_sound self.old.ledger
             → TellsUse (L.book self.new.ledger) request.now result.seen.main }
@@ -119,7 +263,7 @@ impl<L: Ledger> Watch<L> {
             Ok(_) => self.ledger.apply(request),
             Err(fault) => Err(fault),
         };
-        let seen = self.look(request, before, &answer, now);
+        let seen = self.look(request, before, lent(&answer), now);
         NoticedAnswer { answer, seen }
     }
 
@@ -128,6 +272,7 @@ impl<L: Ledger> Watch<L> {
     fn cap_before(&mut self, request: &Request) -> Result<Option<u32>, LedgerFault>
         requires { IsRequest request.now }
         ensures peer { self.new.peer ≡ self.old.peer }
+        ensures peers { self.new.peers ≡ self.old.peers }
         ensures notes { self.new.notes ≡ self.old.notes }
         ensures asked { IsAsked L.told L.book L.has_kept L.is_sound L.has_store self.old.ledger
             self.new.ledger }
@@ -157,25 +302,26 @@ impl<L: Ledger> Watch<L> {
 
     /// What is to be seen of a request that was answered so. A limit came where a question said
     /// this cap before.
-    fn look<'r>(
+    pub fn look<'r>(
         &mut self,
         request: &'r Request,
         before: Result<Option<u32>, LedgerFault>,
-        answer: &Result<Reply, LedgerFault>,
+        answer: Result<&Reply, LedgerFault>,
         now: Option<u64>,
     ) -> RequestNotices<'r>
         requires { IsRequest request.now }
         ensures asked { IsAsked L.told L.book L.has_kept L.is_sound L.has_store self.old.ledger
             self.new.ledger }
         ensures peer { self.new.peer ≡ self.old.peer }
-        ensures sees { Sees (day_of (L.book self.old.ledger).zone) self.old.peer before answer.now
-            now (L.told self.old.ledger)
+        ensures peers { self.new.peers ≡ self.old.peers }
+        ensures sees { Sees (day_of (L.book self.old.ledger).zone) self.old.peer.address before
+            (answered answer.entry) now (L.told self.old.ledger)
             (L.told self.new.ledger) self.old.notes self.new.notes result request.now }
         ensures from { TellsFrom request.now before result.main }
         ensures usage { L.has_kept self.new.ledger → L.is_sound self.old.ledger
             → TellsUse (L.book self.old.ledger) request.now result.main }
     {
-        let peer = self.peer;
+        let peer = self.peer.address;
         match request {
             Request::Limit {
                 login,
@@ -233,15 +379,12 @@ impl<L: Ledger> Watch<L> {
     }
 }
 
-/// What is to be seen of a retire that isn't put to the ledger.
-fn see_ahead(peer: SocketAddr, request: &Request, now: Option<u64>) -> RequestNotices<'_>
-    ensures { IsAhead request.now now → SeesAhead peer request.now now result }
+/// An answer whose reply is lent.
+fn lent(answer: &Result<Reply, LedgerFault>) -> Result<&Reply, LedgerFault>
+    ensures { answered result ≡ answer.now }
 {
-    match (request, now) {
-        (Request::Retire { id }, Some(now)) => RequestNotices {
-            main: Some(Notice::Ahead { id, now }),
-            ..RequestNotices::nothing(peer)
-        },
-        _ => RequestNotices::nothing(peer),
+    match answer {
+        Ok(reply) => Ok(reply),
+        Err(fault) => Err(*fault),
     }
 }

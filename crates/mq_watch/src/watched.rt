@@ -1,20 +1,27 @@
 //! A ledger that logs what comes to it.
-ghost use Rattle.std.specs.Prelude.{◌≡◌, [], ◌∷◌, ◌++◌, IfOk, OnErr, OnOk, Err};
+ghost use Rattle.std.specs.Prelude.{◌≡◌, ◌⊎◌, [], ◌∷◌, ◌++◌, All, IfOk, OnErr, OnOk, Err, IsTrue};
 ghost use Rattle.mq_request.specs.Range.{IsReply, IsRequest};
-ghost use Rattle.mq_ledger.specs.Answer.{build, reply};
+ghost use Rattle.mq_ledger.specs.Answer.{build, history_of, replies_after, reply};
 ghost use Rattle.mq_ledger.specs.Arrivals.{first};
 ghost use Rattle.mq_ledger.specs.Day.{day_of};
 ghost use Rattle.mq_ledger.specs.History.{requests};
-ghost use Rattle.mq_watch.specs.Ahead.{IsAhead};
+ghost use Rattle.mq_ledger.specs.Leaving.{LeavesLedger};
+ghost use Rattle.mq_permits.specs.Permits.{may_ask};
+ghost use Rattle.mq_watch.specs.Allowed.{may_each_ask};
+ghost use Rattle.mq_watch.specs.Ahead.{IsAhead, MayBePutWithOthers};
 ghost use Rattle.mq_watch.specs.Asked.{IsPut};
+ghost use Rattle.mq_watch.specs.Unanswered.{answer_of};
 
+use crate::calendar::{Calendar, LedgerDays, ServerTime};
 use crate::clock::millis_of;
 use crate::hear::Hear;
 use crate::notes::Notes;
 use crate::notice::{Notice, RequestNotices};
-use crate::watch::{NoticedAnswer, Watch};
+use crate::unanswered::Unanswered;
+use crate::watch::{NoticedRequest, Watch};
 use log::{Log, log};
 use mq_ledger::{Ledger, LedgerFault, Zone};
+use mq_permits::{Peer, Permits};
 use mq_request::{Reply, Request};
 use std::alloc::Global;
 use std::marker::Model;
@@ -28,13 +35,19 @@ use std::rt::Clock;
 /// day, that the login nears its limit. For the log it asks the other one what logins have used,
 /// which leaves it as it was. Contracts see the other one.
 ///
-/// A retire that is more than an hour ahead of the server's clock doesn't come to the other one. It
-/// is answered as if memory had run out, so that it may be sent again: once taken, it would refuse
-/// its host's filters until then.
+/// Requests that the other one takes together are logged once it has. A limit among them wants a
+/// question before it, so then none is taken together.
+///
+/// What a peer may not ask, by the permits, doesn't come to the other one ([`Hear`]), nor a
+/// retire that is more than an hour ahead of the server's clock, or a reserve whose day is more than
+/// one after today ([`Calendar`]). It is answered as if memory had run out, so that it may be sent
+/// again: once taken, such a retire would refuse its host's filters until then, and what a reserve
+/// uses would stay until that day.
 #[derive(Drop)]
 pub struct WatchedLedger<'a, L, C, G> {
     pub(crate) watch: Watch<L>,
     clock: &'a C,
+    calendar: Calendar,
     log: &'a G,
 }
 
@@ -45,19 +58,40 @@ impl<'a, L, C, G> Model for WatchedLedger<'a, L, C, G> {
 }
 
 impl<'a, L: Ledger, C: Clock, G: Log> WatchedLedger<'a, L, C, G> {
-    /// The ledger, with a log of what comes to it. Nobody has asked yet.
-    pub fn new(clock: &'a C, log: &'a G, alloc: Global, ledger: L) -> WatchedLedger<'a, L, C, G>
+    /// The ledger, with a log of what comes to it. Nobody has asked yet. It has something reserved
+    /// on these days, or on none.
+    pub fn new(
+        clock: &'a C,
+        log: &'a G,
+        alloc: Global,
+        ledger: L,
+        days: Option<LedgerDays>,
+    ) -> WatchedLedger<'a, L, C, G>
         ensures { result ≡ ledger }
     {
+        let calendar = Calendar::new(ledger.zone(), days, millis_of(clock));
         WatchedLedger {
             watch: Watch {
                 ledger,
-                peer: SocketAddr::new(Ipv4Addr::UNSPECIFIED.into(), 0),
+                peer: Peer {
+                    address: SocketAddr::new(Ipv4Addr::UNSPECIFIED.into(), 0),
+                    here: None,
+                },
+                peers: Vec::new(alloc),
                 notes: Notes::new(alloc),
             },
             clock,
+            calendar,
             log,
         }
+    }
+
+    /// The server's time, where the clock can be read.
+    fn tell_time(&mut self) -> Option<ServerTime>
+        ensures { self.new ≡ self.old }
+    {
+        let now = millis_of(self.clock);
+        self.calendar.tell(self.watch.ledger.zone(), now)
     }
 
     /// The ledger, as the calls left it.
@@ -67,44 +101,67 @@ impl<'a, L: Ledger, C: Clock, G: Log> WatchedLedger<'a, L, C, G> {
         let WatchedLedger {
             watch,
             clock: _,
+            calendar: _,
             log: _,
         } = self;
         let Watch {
             ledger,
             peer: _,
+            peers: _,
             notes: _,
         } = watch;
         ledger
     }
 
-    /// The same log around another ledger: what was noted stays, and whose requests come. The
-    /// former ledger comes back.
+    /// The same log around another ledger: what was noted stays, and what counts as today. The former ledger comes back.
     pub fn take_over<M: Ledger>(self, ledger: M) -> (L, WatchedLedger<'a, M, C, G>)
         ensures former { result.0 ≡ self.entry }
         ensures ledger { result.1 ≡ ledger }
     {
-        let WatchedLedger { watch, clock, log } = self;
+        let WatchedLedger {
+            watch,
+            clock,
+            calendar,
+            log,
+        } = self;
         let Watch {
             ledger: former,
             peer,
+            peers,
             notes,
         } = watch;
         let watch = Watch {
             ledger,
             peer,
+            peers,
             notes,
         };
-        (former, WatchedLedger { watch, clock, log })
+        let watched = WatchedLedger {
+            watch,
+            clock,
+            calendar,
+            log,
+        };
+        (former, watched)
     }
 
-    /// Puts a request to the ledger at this moment of the server's clock, in milliseconds since
-    /// 1970, but a retire that is ahead of it, and logs what is to be seen of it.
-    fn take(&mut self, request: &Request, now: Option<u64>) -> Result<Reply, LedgerFault>
+    /// Puts a request of this peer to the ledger at this time of the server's clock, as
+    /// [`Watch::take`] does, and logs what is to be seen of it.
+    fn take(
+        &mut self,
+        permits: Option<&Permits>,
+        peer: Peer,
+        request: &Request,
+        now: Option<ServerTime>,
+    ) -> Result<Reply, LedgerFault>
         requires { IsRequest request.now }
-        ensures ahead { IsAhead request.now now → (result ≡ Err LedgerFault.Memory)
+        ensures allowed { OnOk result (IsTrue (may_ask permits.entry peer request.now)) }
+        ensures ahead { IsAhead (day_of (L.book self.old).zone) request.now now →
+            (result ≡ Err LedgerFault.Memory)
             × (self.new ≡ self.old) }
-        ensures put { (IsAhead request.now now → ⊥) →
-            IsPut request.now result (L.told self.old) (L.told self.new) }
+        ensures put { (IsAhead (day_of (L.book self.old).zone) request.now now → ⊥) →
+            IsPut request.now result (L.told self.old) (L.told self.new)
+            ⊎ ((result ≡ Err LedgerFault.Memory) × (self.new ≡ self.old)) }
 
         // As `Ledger` says of `apply`.
         ensures in_range { IfOk result IsReply }
@@ -122,9 +179,92 @@ impl<'a, L: Ledger, C: Clock, G: Log> WatchedLedger<'a, L, C, G> {
             OnErr result ((L.book self.new).history ≡ (L.book self.old).history) }
         ensures sound { L.has_kept self.new → L.is_sound self.old → L.is_sound self.new }
     {
-        let NoticedAnswer { answer, seen } = self.watch.take(request, now);
+        let NoticedRequest { answer, seen } = self.watch.take(permits, peer, request, now);
         log_seen(self.log, &seen);
-        answer
+        answered(answer)
+    }
+
+    /// Puts requests to the ledger together, as [`Watch::put_all`] does, and logs what is to be seen
+    /// of each, in their order.
+    fn take_all(
+        &mut self,
+        permits: Option<&Permits>,
+        peers: Vec<Peer>,
+        arrivals: &[Request],
+        replies: &mut Vec<Reply>,
+        now: Option<ServerTime>,
+    ) -> Result<(), LedgerFault>
+        requires { All IsRequest arrivals.now }
+        ensures allowed { OnOk result (IsTrue (may_each_ask permits.entry peers.items arrivals.now)) }
+        ensures together { OnOk result
+            (All (MayBePutWithOthers (day_of (L.book self.old).zone) now) arrivals.now) }
+
+        // As `Ledger` says of `apply_all`.
+        ensures in_range { OnOk result (All IsReply replies.new.items) }
+        ensures same_zone { (L.book self.new).zone ≡ (L.book self.old).zone }
+        ensures same_default { (L.book self.new).default ≡ (L.book self.old).default }
+        ensures kept { L.has_kept self.new → L.has_kept self.old }
+        ensures no_store { L.has_store self.new → L.has_store self.old }
+        ensures store { result ≡ Err LedgerFault.Store → L.has_store self.old }
+        ensures replies { L.has_kept self.new → L.is_sound self.old → (let b = L.book self.old in
+            OnOk result (replies.new.items
+            ≡ replies_after (day_of b.zone) b.default (requests b.history) arrivals.now)) }
+        ensures history { L.has_kept self.new → L.is_sound self.old → (let b = L.book self.old in
+            OnOk result ((L.book self.new).history
+            ≡ history_of (day_of b.zone) b.default (requests b.history ++ arrivals.now))) }
+        ensures fault { L.has_kept self.new → L.is_sound self.old →
+            OnErr result ((L.book self.new).history ≡ (L.book self.old).history) }
+        ensures sound { L.has_kept self.new → L.is_sound self.old → L.is_sound self.new }
+    {
+        self.watch.put_all(permits, peers, arrivals, replies, now)?;
+        self.see_each(arrivals, replies.as_slice(), ServerTime::millis_in(now));
+        Ok(())
+    }
+
+    /// Logs what is to be seen of requests that were taken together, in their order.
+    fn see_each(&mut self, arrivals: &[Request], replies: &[Reply], now: Option<u64>)
+        requires { All IsRequest arrivals.now }
+        ensures leaves { LeavesLedger L.book L.has_kept L.is_sound L.has_store self.old self.new }
+        ensures history { L.has_kept self.new → L.is_sound self.old →
+            (L.book self.new).history ≡ (L.book self.old).history }
+    {
+        for at in 0..arrivals.len() {
+            self.hear_at(at);
+            self.see(&arrivals[at], replies.get(at), now);
+        }
+    }
+
+    /// What is seen now was asked by the peer of the request at this place.
+    fn hear_at(&mut self, at: usize)
+        ensures { self.new ≡ self.old }
+    {
+        if let Some(peer) = self.watch.peers.get(at) {
+            self.watch.peer = *peer;
+        }
+    }
+
+    /// Logs what is to be seen of a request that was taken with others, but for a limit.
+    fn see(&mut self, request: &Request, reply: Option<&Reply>, now: Option<u64>)
+        requires { IsRequest request.now }
+        ensures leaves { LeavesLedger L.book L.has_kept L.is_sound L.has_store self.old self.new }
+        ensures history { L.has_kept self.new → L.is_sound self.old →
+            (L.book self.new).history ≡ (L.book self.old).history }
+    {
+        let Some(reply) = reply else {
+            return;
+        };
+        let seen = self.watch.look(request, Ok(None), Ok(reply), now);
+        log_seen(self.log, &seen);
+    }
+}
+
+/// How a server answers a request.
+fn answered(answer: Result<Reply, Unanswered>) -> Result<Reply, LedgerFault>
+    ensures { result ≡ answer_of answer }
+{
+    match answer {
+        Ok(reply) => Ok(reply),
+        Err(cause) => Err(cause.fault()),
     }
 }
 
@@ -144,8 +284,25 @@ fn log_notice<G: Log>(log: &G, peer: SocketAddr, notice: &Notice<'_>) {
 }
 
 impl<L: Ledger, C: Clock, G: Log> Hear for WatchedLedger<'_, L, C, G> {
-    fn hear(&mut self, peer: SocketAddr) {
-        self.watch.peer = peer;
+    fn apply_of(
+        &mut self,
+        permits: Option<&Permits>,
+        peer: Peer,
+        request: &Request,
+    ) -> Result<Reply, LedgerFault> {
+        let now = self.tell_time();
+        self.take(permits, peer, request, now)
+    }
+
+    fn apply_all_of(
+        &mut self,
+        permits: Option<&Permits>,
+        peers: Vec<Peer>,
+        arrivals: &[Request],
+        replies: &mut Vec<Reply>,
+    ) -> Result<(), LedgerFault> {
+        let now = self.tell_time();
+        self.take_all(permits, peers, arrivals, replies, now)
     }
 }
 
@@ -172,8 +329,10 @@ impl<L: Ledger, C: Clock, G: Log> Ledger for WatchedLedger<'_, L, C, G> {
         self.watch.ledger.default_cap()
     }
 
+    // Whoever has the ledger itself may ask everything, as the peer whose request came last.
     fn apply(&mut self, request: &Request) -> Result<Reply, LedgerFault> {
-        let now = millis_of(self.clock);
-        self.take(request, now)
+        let now = self.tell_time();
+        let peer = self.watch.peer;
+        self.take(None, peer, request, now)
     }
 }

@@ -10,6 +10,7 @@ import signal
 import socket
 import time
 
+import clocks
 import wire
 from books import Books
 from cases.filters import LIMIT, PROCEED, REGISTRATION, SERVICE
@@ -87,6 +88,8 @@ class Play:
             store=self.path,
             default=DEFAULT,
             listen=self.listen,
+            # (the mails are of today by the server's clock)
+            limit=clocks.at(self.at),
         )
         self.equal("a server listens", self.server.port, int(self.listen.rpartition(":")[2]))
 

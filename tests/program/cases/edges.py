@@ -7,6 +7,7 @@ tests/model says what is answered.
 import string
 import time
 
+import clocks
 import wire
 from books import RETIRE, Books
 from ends import Server, ledger_settings
@@ -267,7 +268,7 @@ def over_a_file(world, checks, offset, all_sent):
     """All rows over one file, which is closed after the first half of each, and opened again; then
     each half once more."""
     path, books = f"{world.folder}/edges{offset}", Books(offset, MOST)
-    settings = {"store": path, "default": MOST, "offset": offset}
+    settings = {"store": path, "default": MOST, "offset": offset, "limit": clocks.late()}
     with Server(world, words=["--create"], **settings) as server:
         asked(
             checks,

@@ -11,6 +11,7 @@ import stat
 import subprocess
 import time
 
+import clocks
 import wire
 from books import LIMIT, RETIRE, Books
 from cases.as_used import quiet_port
@@ -86,11 +87,11 @@ def kept(books, again):
 
 
 def left_by_a_server(world, name, stream, **settings):
-    """The path of a file whose server took this stream and was killed, and the books that took
-    it."""
+    """The path of a file whose server took this stream, of any moments, and was killed, and the
+    books that took it."""
     path, zone = f"{world.folder}/{name}", settings.get("rule") or settings.get("offset", 0)
     books = Books(zone, settings.get("default", 3))
-    with Server(world, words=["--create"], store=path, **settings) as server:
+    with Server(world, words=["--create"], store=path, limit=clocks.late(), **settings) as server:
         came = server.ask(stream)
         server.process.kill()
         server.status()

@@ -10,7 +10,7 @@ import re
 import clocks
 from cases.stopping import caps, not_today
 from ends import OF_REQUESTS, Server, fault, ledger_settings, wait_until
-from wire import limit, page, reserve
+from wire import RETRY, limit, page, reserve
 
 SECONDS_OF_DAY = 86_400
 DAY = 20_784
@@ -129,28 +129,36 @@ def days_of_commands(world, checks, what, east, zone):
 
 def days_of_a_server(world, checks, what, east, zone):
     """What is reserved of a day that is two away from today is warned of, by the server's clock and
-    zone, to the second."""
+    zone, to the second; and isn't taken, where that day is to come."""
     midnight = begin_of(DAY, east)
     for second, moment, today in (
         ("before it", midnight - BEFORE, DAY - 1),
         ("from it on", midnight, DAY),
     ):
         with Server(world, default=9, limit=clocks.at(moment), **zone) as server:
+            taken = []
             for n, day in enumerate(range(DAY - 3, DAY + 3), start=1):
                 # (the first second of a day, or its last)
                 at = begin_of(day, east) + (0 if n % 2 else SECONDS_OF_DAY - 1)
-                server.ask(reserve(n, txn=n, at=at, host=b"mx%d" % n, login=b"u%d" % n))
+                reply = server.ask(reserve(n, txn=n, at=at, host=b"mx%d" % n, login=b"u%d" % n))
+                if reply != RETRY:
+                    taken.append(day)
             lines = [it for it in server.all_log_lines() if OF_REQUESTS in it]
         came = [re.sub(r".*: host", "host", it, count=1) for it in lines]
         wanted = [
             (
                 f"host mx{n} reserves for day {day}, and today is day {today}: its clock or the"
-                " server's is wrong"
+                f" server's is wrong{', and its recipients get 451' * (day > today)}"
             )
             for n, day in enumerate(range(DAY - 3, DAY + 3), start=1)
             if abs(day - today) > 1
         ]
         checks.equal(f"midnight of zone {what}, {second}: wrong clocks", came, wanted)
+        checks.equal(
+            f"midnight of zone {what}, {second}: days that are taken",
+            taken,
+            list(range(DAY - 3, today + 2)),
+        )
 
 
 def nights_at_three(world, checks, what, east, zone):

@@ -18,7 +18,7 @@ from cases.causes import BY_RULE
 from cases.forgetting import left_by_a_server
 from cases.peers import name_of
 from cases.rules import CENTRAL_EUROPE
-from cases.watching import INFO, WARN, Watched, clock_line, near_line
+from cases.watching import INFO, WARN, Watched, ahead_line, clock_line, near_line
 from ends import (
     LOCKED,
     NO_DATABASE,
@@ -172,7 +172,7 @@ def far_by_the_day(world, checks, zone, settings):
         checks.equal(
             f"zone {zone}: a second after tomorrow",
             it.lines(reserve(4, last + 1, host=b"mx2")),
-            [clock_line("mx2", day + 2, day)],
+            [ahead_line("mx2", day + 2, day)],
         )
 
 

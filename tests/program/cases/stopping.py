@@ -3,6 +3,7 @@ over the real server, with filters that send, and over a server that answers by 
 import threading
 import time
 
+import clocks
 from cases.filters import LIMIT, PROCEED
 from cases.rules import CENTRAL_EUROPE
 from cases.zones import WORKED_DAYS
@@ -892,7 +893,8 @@ def today_alone(world, checks):
         wait_past_midnight(minutes)
     now = int(time.time())
     today = now // 86_400
-    with Server(world, default=9) as server:
+    # (by the server's clock none of these days is to come)
+    with Server(world, default=9, limit=clocks.late()) as server:
         words = ["--server", server.address, "--host", "admin", "--login", "u"]
         server.ask(
             b"".join(

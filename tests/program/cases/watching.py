@@ -68,6 +68,11 @@ def clock_line(host, of, day):
     )
 
 
+def ahead_line(host, of, day):
+    level, text = clock_line(host, of, day)
+    return level, f"{text}, and its recipients get 451"
+
+
 class Watched:
     """A server, and what it logs of the requests that it is asked."""
 
@@ -417,11 +422,13 @@ def clocks(world, checks):
         checks.equal(
             "three days before", it.lines(reserve(4, day - 3)), [clock_line("a", day - 3, day)]
         )
-        checks.equal("three days after, within the hour", it.lines(reserve(5, day + 3)), [])
+        checks.equal(
+            "three days after, within the hour", it.ask(reserve(5, day + 3)), (wire.RETRY, [])
+        )
         checks.equal(
             "three days after, of another host",
-            it.lines(reserve(6, day + 3, host=b"mx2")),
-            [clock_line("mx2", day + 3, day)],
+            it.ask(reserve(6, day + 3, host=b"mx2")),
+            (wire.RETRY, [ahead_line("mx2", day + 3, day)]),
         )
         checks.equal("a settle of long ago", it.lines(wire.settle(7, host=b"mx3")), [])
 

@@ -1,5 +1,5 @@
 use Rattle.std.proofs.Common.{Err, ap, ◌∙◌, inl, inr}
-use Rattle.mq_watch.proofs.Looks.{seen_put, tells_after}
+use Rattle.mq_watch.proofs.Looks.{same_address, seen_put, tells_after}
 use Rattle.mq_watch.proofs.Questions.{calls_after, calls_before, calls_it}
 use Rattle.mq_watch.proofs.watch.Watch.put.Goals.{in-Ok, in-Err}
 use Rattle.mq_watch.proofs.watch.Watch.put.Goals as goal
@@ -17,12 +17,12 @@ returns-clause-put g c = elim c.match-before.branch [
 
 pub returns-clause-seen : goal.returns-clause-seen
 returns-clause-seen g c = elim c.match-before.branch [
-  | in-Ok w ↦ seen_put _ _ _ _ _ _ _ _ _ _ _ _ _ _ c.look-seen.ensures.sees
+  | in-Ok w ↦ seen_put _ _ _ _ _ _ _ _ _ _ _ _ _ _ (rw c.lent.ensures at c.look-seen.ensures.sees)
       (rw w.self-is (w.apply-answer.ensures.same_zone ∙ c.cap_before-before.ensures.asked.zone))
-      (rw w.self-is c.cap_before-before.ensures.peer) (rw w.self-is c.cap_before-before.ensures.notes)
-  | in-Err w ↦ seen_put _ _ _ _ _ _ _ _ _ _ _ _ _ _ c.look-seen.ensures.sees
+      (same_address c.args.self.now.peer c.match-before.self.peer (rw w.self-is c.cap_before-before.ensures.peer)) (rw w.self-is c.cap_before-before.ensures.notes)
+  | in-Err w ↦ seen_put _ _ _ _ _ _ _ _ _ _ _ _ _ _ (rw c.lent.ensures at c.look-seen.ensures.sees)
       (rw w.self-is c.cap_before-before.ensures.asked.zone)
-      (rw w.self-is c.cap_before-before.ensures.peer) (rw w.self-is c.cap_before-before.ensures.notes)
+      (same_address c.args.self.now.peer c.match-before.self.peer (rw w.self-is c.cap_before-before.ensures.peer)) (rw w.self-is c.cap_before-before.ensures.notes)
 ]
 
 pub returns-clause-usage : goal.returns-clause-usage
