@@ -3,10 +3,12 @@
 use crate::logged_limits::LoggedLimits;
 use crate::moves::Moves;
 use crate::pauses::Pauses;
+use crate::retired::RetiredRun;
 use crate::tries::{FramedRequest, log_text};
 use crate::verdict::Verdict;
 use crate::warnings::{RefusedRequest, UnansweredRequest, is_refusal};
 use log::{Level, Log};
+use mq_request::Request;
 use std::alloc::Global;
 
 /// What the log has of a client's requests, so that what lasts or comes again is warned of once.
@@ -15,6 +17,9 @@ pub struct Journal {
     limits: LoggedLimits,
     moves: Moves,
     pauses: Pauses,
+    retired: RetiredRun,
+    /// The second of smtpd's line whose requests come next.
+    seconds: u64,
 }
 
 impl Journal {
@@ -24,7 +29,14 @@ impl Journal {
             limits: LoggedLimits::new(alloc),
             moves: Moves::new(),
             pauses: Pauses::new(),
+            retired: RetiredRun::new(),
+            seconds: 0,
         }
+    }
+
+    /// The next requests come of a line of this second.
+    pub fn set_seconds(&mut self, seconds: u64) {
+        self.seconds = seconds;
     }
 
     /// Logs what a reply decided about a request, where the log has a line for it.
@@ -32,9 +44,19 @@ impl Journal {
         self.pauses.end(rt);
         self.moves.see(&framed.request);
         self.limits.log_refusal(rt, framed, verdict);
+        self.note_run(rt, &framed.request, verdict);
         if is_refusal(verdict) {
             let level = self.moves.level(&framed.request, verdict);
             log_text(rt, level, &RefusedRequest { framed, verdict });
+        }
+    }
+
+    /// Logs whether the run of a request is retired, where the log is to have a line for it.
+    fn note_run<R: Log>(&mut self, rt: &R, request: &Request, verdict: Verdict) {
+        if verdict == Verdict::Old {
+            self.retired.log_refusal(rt, request, self.seconds);
+        } else {
+            self.retired.log_answer(rt, request);
         }
     }
 

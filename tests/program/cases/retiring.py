@@ -13,11 +13,15 @@ from books import Books
 from cases.audits import SOUND, audit, edited
 from cases.edges import answers
 from cases.filters import (
+    AUTH,
+    BEGIN,
     COMMIT,
+    CONFIG,
     INPUT,
     LIMIT,
     MX1,
     PROCEED,
+    RCPT,
     RELEASE,
     RESERVE,
     SERVICE,
@@ -143,6 +147,14 @@ SIZES = [0, 1, 32, 40, 41, *range(2_048, 24_577, 2_048), 65_536, 131_072, 262_14
 # open messages of a run that is given up while its server is killed
 OPEN = 800
 KILLS_OF_A_RETIRE = 24
+# what the filter of host mx1 says of its run 1
+RUN_IS_RETIRED = (
+    "[ERROR mq_client::retired] run 1 of host mx1 is retired, recipients are answered 451: restart"
+    ' smtpd, but first see "A filter that is retired" in OPERATING.md'
+)
+RUN_IS_TAKEN = (
+    "[WARN  mq_client::retired] run 1 of host mx1 isn't retired at the server that answers now"
+)
 ANOTHER_ZONE, NOT_OURS = "store has another zone", "store is not this ledger"
 BY_RULE = {"offset": None, "rule": CENTRAL_EUROPE}
 
@@ -151,12 +163,14 @@ def run(world, checks):
     worked(world, checks)
     a_file(world, checks)
     older_files(world, checks)
+    without_the_index(world, checks)
     killed_as_it_opens(world, checks)
     ended_as_it_opens(world, checks)
     killed_within_a_retire(world, checks)
     refused(world, checks)
     without_room(world, checks)
     a_retired_filter(world, checks)
+    what_a_retired_filter_says(world, checks)
     a_host_that_is_restarted(world, checks)
     commands(world, checks)
 
@@ -354,6 +368,46 @@ def older_files(world, checks):
         came,
         (fault("store is damaged: login u day 1"), OF_VERSION_1),
     )
+
+
+# What has the name of the ledger's index, by what makes it, and whether it is made again.
+NAMED_AS_THE_INDEX = {
+    "a table": "CREATE TABLE usage_by_day (note TEXT)",
+    "a view": "CREATE VIEW usage_by_day AS SELECT login FROM usage",
+    "an index of another table": "CREATE INDEX usage_by_day ON trans (login)",
+    "an index of other columns": "CREATE INDEX usage_by_day ON usage (settled)",
+}
+BY_THAT_NAME = {
+    "by name": "SELECT type, tbl_name, sql FROM sqlite_schema WHERE name = 'usage_by_day'"
+}
+
+
+def without_the_index(world, checks):
+    """A file of an older version in which something else has the index's name is opened all the
+    same, keeps that, and answers lists without the index."""
+    for version, settings, zone in ((1, {}, 0), (2, BY_RULE, CENTRAL_EUROPE), (3, {}, 0)):
+        for named, statement in NAMED_AS_THE_INDEX.items():
+            what, books = f"a file of version {version}, with {named} of that name", Books(zone)
+            replies = [books.serve(frame) for frame in FOUR]
+            path = written(
+                world,
+                f"index-{version}-{named.replace(' ', '-')}",
+                *of_version(version, books),
+                statement,
+            )
+            before = answers_of(path, BY_THAT_NAME)
+            with Server(world, store=path, **settings) as server:
+                new = b"".join(
+                    wire.reserve(n, txn=n, login=b"%02d" % n, at=86_400 * (1 + n % 3))
+                    for n in range(10, 40)
+                ) + b"".join(wire.page(day=day) for day in range(1, 4))
+                checks.equal(
+                    f"{what}: replies again, and lists",
+                    ([server.ask(frame) for frame in FOUR], server.ask(new)),
+                    (replies, books.serve(new)),
+                )
+            checks.equal(f"{what}: what has it then", answers_of(path, BY_THAT_NAME), before)
+            same_rows(checks, f"{what}, opened", path, books)
 
 
 def killed_as_it_opens(world, checks):
@@ -598,12 +652,13 @@ def without_room(world, checks):
     )
 
 
+def is_old(heard):
+    """The answer to a request of the filter of mx1 whose run is retired."""
+    return wire.old(int.from_bytes(heard[15:19], "big"), **MX1)
+
+
 def a_retired_filter(world, checks):
     """It answers 451 and asks each request once; its closings are removed with a warning."""
-
-    def is_old(heard):
-        return wire.old(int.from_bytes(heard[15:19], "big"), **MX1)
-
     # (a third question would be answered)
     errors = scripted(
         world,
@@ -619,9 +674,49 @@ def a_retired_filter(world, checks):
         "a retired filter",
         errors,
         [
+            RUN_IS_RETIRED,
             of_a_try("reserve", 1, "the run is retired"),
             of_a_try("release", 2, "the run is retired"),
         ],
+    )
+
+
+def what_a_retired_filter_says(world, checks):
+    """It says so as an error at once and then each minute, by the seconds of smtpd's lines, as long
+    as the server refuses its requests for that; and at once again after another server took one."""
+
+    def is_granted(heard):
+        number = int.from_bytes(heard[15:19], "big")
+        return wire.granted(number, number, **MX1)
+
+    def said(replies, moments):
+        recipients = [RCPT.replace(b"1576146010", b"%010d" % at) for at in moments]
+        with Script(replies) as server:
+            came = world.filter(server.address, CONFIG + AUTH + BEGIN + b"".join(recipients))
+        return came[0], came[1].count(SERVICE), came[2].splitlines()
+
+    at = 1_576_146_010
+    # (the clock goes back before the last four)
+    seconds = (0, 0, 30, 59, 60, 61, 119, 120, 50, 51, 109, 110)
+    is_due = (True, False, False, False, True, False, False, True, True, False, False, True)
+    wanted = []
+    for number, due in enumerate(is_due, start=1):
+        wanted += [RUN_IS_RETIRED] * due
+        wanted.append(of_a_try("reserve", number, "the run is retired"))
+    checks.equal(
+        "a retired filter that is asked for minutes: the status, its 451s and its log",
+        said([is_old] * len(seconds), [at + it for it in seconds]),
+        (0, len(seconds), wanted),
+    )
+    refused = [of_a_try("reserve", number, "the run is retired") for number in (1, 3)]
+    checks.equal(
+        "a filter that is retired at one of two servers: the status, its 451s and its log",
+        said([is_old, is_granted] * 2, [at, at + 1, at + 2, at + 3]),
+        (
+            0,
+            2,
+            [RUN_IS_RETIRED, refused[0], RUN_IS_TAKEN, RUN_IS_RETIRED, refused[1], RUN_IS_TAKEN],
+        ),
     )
 
 
