@@ -1,5 +1,5 @@
 -- Small facts of choices, options and lists.
-use Rattle.std.proofs.Common.{◌≡◌, ◌&&◌, ℕ, zero, suc, Bool, true, false, List, [], ◌∷◌, ◌++◌, subst, refl, Option, None, Some, if◌then◌else◌}
+use Rattle.std.proofs.Common.{◌≡◌, ◌&&◌, ℕ, zero, suc, Bool, true, false, List, [], ◌∷◌, subst, refl, Option, None, Some, if◌then◌else◌}
 use Rattle.mq_client.proofs.Words.{AllByRecursion, CloseEnd, HeldTransaction, Release, Request, Settle, Source, closing_of, id_of, is_commit, nat_le, none_some, option_map, slice_get, some_is}
 
 pub nil_cons : {A : Type 0} (x : A) (xs : List A) → [] ≡ x ∷ xs → ⊥

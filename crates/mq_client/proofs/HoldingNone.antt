@@ -2,6 +2,7 @@
 use Rattle.std.proofs.Common.{◌≡◌, ℕ, ◌-◌, true, false, List, [], ◌∷◌, refl, ap, ◌∙◌, sym, subst, Option, None, Some, is_some, arith, not, if◌then◌else◌}
 use Rattle.mq_client.proofs.Words.{AllByRecursion, Answers, Asks, Closes, Closing, Decision, FilterLine, Filters, FullLogin, Holding, Meaning, Query, ReportLine, Spans, Step, Takes, at_line, closing, filter, held_back, is_full, is_over, nat_le, nat_lt, or_second, push, query, still, still_paused}
 use Rattle.std.proofs.lemmas.Bool.Decides.{nat_tests}
+use Rattle.mq_client.specs.Holding.{minute_of}
 use Rattle.mq_line.specs.declared.results.Decision.TheVariants.{RejectLimit, RejectService}
 
 at_once : (since seconds : ℕ) → is_over 0 since seconds ≡ true
@@ -33,15 +34,15 @@ record IsFree (h : Holding) : Type 0 where
   paused : h.paused ≡ None
   full : h.full ≡ []
 
-none_held : (h : Holding) (login : List ℕ) → IsFree h → held_back h login ≡ None
-none_held h login f =
-    subst (λ (l : List FullLogin). (if is_full login l then Some RejectLimit else (if is_some h.paused then Some RejectService else None)) ≡ None) (sym f.full) (subst (λ (o : Option ℕ). (if is_some o then Some RejectService else None) ≡ None) (sym f.paused) refl)
+none_held : (h : Holding) (login : List ℕ) (moment : ℕ) → IsFree h → held_back h login moment ≡ None
+none_held h login moment f =
+    subst (λ (l : List FullLogin). (if is_full login (minute_of moment) l then Some RejectLimit else (if is_some h.paused then Some RejectService else None)) ≡ None) (sym f.full) (subst (λ (o : Option ℕ). (if is_some o then Some RejectService else None) ≡ None) (sym f.paused) refl)
 
 loud_none : (step : Option Step) → step ≡ None → IsLoud step
 loud_none step e = subst IsLoud (sym e) tt
 
 loud_answers : (h : Holding) (q : Query) (step : Option Step) (d : Decision) → IsFree h → Answers h q step d → IsLoud step
-loud_answers h (Asks txn moment login) step d f (group, is, answer) = subst IsLoud (sym is) (ap is_some (none_held h login f))
+loud_answers h (Asks txn moment login) step d f (group, is, answer) = subst IsLoud (sym is) (ap is_some (none_held h login moment f))
 loud_answers h q step d f a = loud_none step a.0
 
 loud_closes : (h : Holding) (c : Option Closing) (step : Option Step) → IsFree h → Closes (is_some h.paused) c step → IsLoud step

@@ -18,3 +18,5 @@ pub mod Ending
 pub mod Numbering
 pub mod Returning
 pub mod HoldingNone
+pub mod Freeing
+pub mod Reasoning

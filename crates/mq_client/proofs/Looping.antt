@@ -9,6 +9,8 @@ use Rattle.mq_client.specs.declared.fault.FilterFault.TheVariants as faults
 use Rattle.mq_client.specs.declared.filter.Filter.{Filter}
 use Rattle.mq_lemmas.proofs.Telling.{Tells-none, Tells-trans}
 use Rattle.mq_client.proofs.Supplying.{concat_push}
+use Rattle.mq_client.specs.Run.{IsReasonedAt}
+use Rattle.mq_client.proofs.Reasoning.{reasoned, reasons}
 
 -- nothing was done
 pub Does-still : (now : Outside) → Does now now None []
@@ -137,6 +139,11 @@ carries_take m f f' old new step text h does takes holdup now count = λ o bytes
 
 -- ---- where the filter stops
 
+-- each 550 with no question had its reason so far
+reasoned_at : (spans : Spans) (stage : Stage) (steps : List Step) (text : List ℕ) (h : Holding) → HasText spans stage steps text h → IsReasonedAt spans h stage steps text
+reasoned_at spans BeforeReady steps text h t = tt
+reasoned_at spans (AfterReady L) steps text h (results, filters, whole) = (results, whole, reasons spans L steps results h filters)
+
 pub stops : (o : Outside) (pieces : List (List ℕ)) (left : List ℕ) (f : Filter) (source : Option (List ℕ)) (old new : Outside) (read_failed write_failed : Bool) (fault : FilterFault) (step : Option Step) (front rest : List ℕ)
     → SoFar o (concat pieces) left f old → Does old new step front
     → ((stage : Stage) → IsAt f stage → IsFound fault stage pieces left source read_failed write_failed)
@@ -152,6 +159,7 @@ stops o pieces left f source old new read_failed write_failed fault step front r
   whole = s.whole;
   reaches = s.reaches;
   has_text = s.has_text;
+  reasoned = reasoned_at o.client.spans s.stage s.steps s.text f.holdup.1 s.has_text;
   found = found s.stage s.is_at;
   step = step;
   front = front;
@@ -254,6 +262,7 @@ ends o bytes held f sink told told' client client' group e s h none tells makes 
       whole = subst (Holds bytes s.lines) none s.whole;
       ready = rw is at s.reaches;
       filters = filters;
+      reasoned = reasoned o.client.spans L s.steps results f.holdup.1 filters;
       written = subst (Appends o.sink sink) whole s.written;
       exchanged = told_push o.told told told' s.steps (Some (record { action = Drain; group = group; quiet = false })) s.exchanged tells;
       made = makes_push o.client client client' s.steps (Some (record { action = Drain; group = group; quiet = false })) s.made makes;

@@ -56,10 +56,10 @@ same_answers k (Asks txn moment login) session token s t d c text more (g, step,
   kind = ap kind_of step ∙ sym (ap kind_of step');
   quiet = ap quiet_of step ∙ sym (ap quiet_of step');
   text_is = λ same.
-      let q : Bool = is_some (held_back k login) in
+      let q : Bool = is_some (held_back k login moment) in
       let both = some_is (record { action = Ask txn moment login; group = g; quiet = q }) (record { action = Ask txn moment login; group = h; quiet = q }) (sym step ∙ same ∙ step') in
       let group : g ≡ h = ap (λ (x : Step). x.group) both in
-      e ∙ ap (result_text session token) (answer ∙ ap (λ l. decision_by (held_back k login) l) group ∙ sym answer') ∙ sym f;
+      e ∙ ap (result_text session token) (answer ∙ ap (λ l. decision_by (held_back k login moment) l) group ∙ sym answer') ∙ sym f;
 }
 same_answers k q session token s t d c text more h i e f = record { kind = ap kind_of (h.0 ∙ sym i.0); quiet = ap quiet_of (h.0 ∙ sym i.0); text_is = λ same. e ∙ ap (result_text session token) (h.1 ∙ sym i.1) ∙ sym f }
 

@@ -1,6 +1,6 @@
 -- Reads made one after another.
 use Rattle.mq_lemmas.proofs.Telling.{Tells-none, Tells-trans}
-use Rattle.std.proofs.Common.{◌≡◌, ◌<◌, ◌≤◌, ℕ, List, [], ◌∷◌, ◌++◌, length, length-append, sym, ap, ◌∙◌, subst, append_assoc, append-nil, arith, Option, None, Some}
+use Rattle.std.proofs.Common.{◌≡◌, ◌<◌, ◌≤◌, ℕ, List, [], ◌∷◌, ◌++◌, length, length-append, sym, ap, ◌∙◌, subst, append-nil, arith}
 use Rattle.std.proofs.lemmas.List.Folds.{concat-append}
 use Rattle.mq_client.proofs.Words.{Consumes, Consumes-trans, IsPiece, Supplies, Supply, Tells, all_push, concat, Consumes-nil}
 

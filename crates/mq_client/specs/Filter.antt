@@ -58,8 +58,8 @@ abbrev pub Answers : Holding → Query → Option Step → Decision → Type 0
 Answers h Passes step d = (step ≡ None) × (d ≡ Proceed)
 Answers h Refuses step d = (step ≡ None) × (d ≡ RejectService)
 Answers h (Asks txn moment login) step d = (group : List Exchange)
-    × (step ≡ Some (record { action = Ask txn moment login; group = group; quiet = is_some (held_back h login) }))
-    × (d ≡ decision_by (held_back h login) group)
+    × (step ≡ Some (record { action = Ask txn moment login; group = group; quiet = is_some (held_back h login moment) }))
+    × (d ≡ decision_by (held_back h login moment) group)
 
 -- the step that a closing makes: in a pause it joins those that wait, and none is sent
 abbrev pub Closes : (paused : Bool) → Option Closing → Option Step → Type 0

@@ -14,6 +14,8 @@ pub mod Numbers
 pub mod Holding
 -- what each line has the client do, and what is written for it
 pub mod Filter
+-- why it answers by the limit with no question
+pub mod Reasons
 -- a whole run of the filter: what it read, wrote and did, and how it ended
 pub mod Run
 -- which faults come of what a run reads
@@ -28,6 +30,8 @@ pub mod FramedRequests
 pub mod Inside
 -- why a recipient is refused with no exchange
 pub mod Causes
+-- when the log says that the run is retired
+pub mod RetiredRuns
 -- the logins whose limit is in the log
 pub mod LoggedLimits
 -- the warnings that recipients of a session are refused
@@ -36,5 +40,7 @@ pub mod GivenWarnings
 pub mod Verdict
 -- what comes of a request's tries
 pub mod TriesOutcome
+-- what the filter hears of requests and closings
+pub mod Freeing
 -- the loop over lines: how far it has come, and what each of its parts adds
 pub mod Loop

@@ -14,6 +14,7 @@ use Rattle.mq_client.specs.Exchanges.{Exchange}
 use Rattle.mq_client.specs.Past.{Step, drained, State, StandsAt, view, MakesAll, told_steps}
 use Rattle.mq_client.specs.Holding.{Holding, nothing_held}
 use Rattle.mq_client.specs.Filter.{Takes, at_line, push, Filters, is_filter, answer_count}
+use Rattle.mq_client.specs.Reasons.{AreReasoned, IsReasoned, turns}
 use Rattle.mq_client.specs.declared.spans.Spans.{Spans}
 use Rattle.mq_client.specs.declared.fault.FilterFault.{FilterFault}
 use Rattle.mq_client.specs.declared.fault.FilterFault.TheVariants as faults
@@ -92,6 +93,18 @@ HasText spans BeforeReady steps text h = (steps ≡ []) × (text ≡ []) × (h �
 HasText spans (AfterReady L) steps text h = (results : List ℕ) × Filters spans L steps results h
     × (text ≡ registration ++ results)
 
+-- each 550 with no question has its reason, also that of whatever line comes next
+pub record HasReasons (spans : Spans) (h : Holding) (L : List Meaning) (steps : List Step) (text : List ℕ) : Type 0 where
+  pub so_far : AreReasoned spans.hold L steps text
+  pub next : (m : Meaning) (step : Option Step) (written : List ℕ) → Takes (at_line spans m h) L m step written
+      → IsReasoned spans.hold (turns L steps) m step written
+
+-- the same at a stage
+abbrev pub IsReasonedAt : Spans → Holding → Stage → List Step → List ℕ → Type 0
+IsReasonedAt spans h BeforeReady steps text = Unit {0}
+IsReasonedAt spans h (AfterReady L) steps text = (results : List ℕ) × (text ≡ registration ++ results)
+    × HasReasons spans h L steps results
+
 -- what stands outside of the filter: what the sink holds, what the link told, and the client
 pub record Outside : Type 0 where
   pub sink : Option (List ℕ)
@@ -115,6 +128,7 @@ pub record EndsWith (o : Outside) (bytes : List ℕ) (now : Outside) (e : RunEnd
   pub whole : Holds bytes lines []
   pub ready : IsReady lines after_ready
   pub filters : Filters o.client.spans after_ready steps results holding
+  pub reasoned : AreReasoned o.client.spans.hold after_ready steps results
   pub written : Appends o.sink now.sink (registration ++ results)
   pub exchanged : Tells o.told now.told (told_steps (drained group steps))
   pub made : MakesAll o.client now.client (drained group steps)
@@ -196,6 +210,7 @@ pub record StopsAt (o : Outside) (pieces : List (List ℕ)) (source : Option (Li
   pub whole : Holds (concat pieces) lines left
   pub reaches : Reaches lines stage
   pub has_text : HasText o.client.spans stage steps text holding
+  pub reasoned : IsReasonedAt o.client.spans holding stage steps text
   pub found : IsFound f stage pieces left source read_failed write_failed
   pub step : Option Step
   pub front : List ℕ

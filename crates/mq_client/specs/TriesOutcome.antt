@@ -1,9 +1,10 @@
 -- What comes of a request's tries.
-use Rattle.std.specs.Prelude.{◌≡◌, List, Bool, true, false, Option, Some, None}
+use Rattle.std.specs.Prelude.{◌≡◌, ℕ, List, Bool, true, false, Option, Some, None}
 use Rattle.mq_request.specs.declared.message.Reply.{Reply}
 use Rattle.mq_client.specs.Exchanges.{Exchange, has_timed_out}
 use Rattle.mq_client.specs.Verdict.{IsVerdict}
 use Rattle.mq_client.specs.declared.verdict.Verdict.{Verdict}
+use Rattle.mq_client.specs.declared.verdict.Verdict.TheVariants as verdict
 use Rattle.mq_client.specs.declared.tries.TriesOutcome.{TriesOutcome}
 use Rattle.mq_client.specs.declared.tries.TriesOutcome.TheVariants as tried
 
@@ -23,6 +24,11 @@ abbrev pub is_late : TriesOutcome → Bool
 is_late (tried.Decided v) = false
 is_late tried.Undecided = false
 is_late tried.TimedOut = true
+
+-- how many recipients were given back
+abbrev pub given_by : TriesOutcome → ℕ
+given_by (tried.Decided (verdict.Released held)) = held
+given_by _ = 0
 
 -- it came of these exchanges, of which this reply decided
 pub record ComesOf (decided : Option Reply) (group : List Exchange) (t : TriesOutcome) : Type 0 where

@@ -12,7 +12,7 @@ abbrev pub Says : Reply → Verdict → Type 0
 Says (reply.Granted id used) v = v ≡ verdict.Granted
 Says (reply.Full id used cap) v = v ≡ verdict.Full used cap
 Says (reply.Settled id count) v = v ≡ verdict.Settled
-Says (reply.Released id held) v = v ≡ verdict.Released
+Says (reply.Released id held) v = v ≡ verdict.Released held
 Says (reply.Closed id) v = v ≡ verdict.Closed
 Says (reply.Mismatch id) v = v ≡ verdict.Mismatch
 Says (reply.TooMany id held) v = v ≡ verdict.TooMany held

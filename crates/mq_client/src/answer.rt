@@ -9,9 +9,10 @@ ghost use Rattle.mq_track.specs.State.{TracksAt};
 ghost use Rattle.mq_line.specs.Grammar.{Meaning};
 ghost use Rattle.mq_line.specs.Results.{result_text};
 ghost use Rattle.mq_lemmas.specs.Told.{Tells};
-ghost use Rattle.std.specs.Option.{option_copied};
+ghost use Rattle.std.specs.Option.{option_map};
 ghost use Rattle.mq_client.specs.Past.{Step, Ask};
-ghost use Rattle.mq_client.specs.Holding.{times_out, full_by, full_in, noted_by};
+ghost use Rattle.mq_client.specs.Holding.{Holding, times_out, full_by, full_in, freed_in, noted_by};
+ghost use Rattle.mq_client.specs.Freeing.{shown_full};
 ghost use Rattle.mq_client.specs.Causes.{cause_of};
 ghost use Rattle.mq_client.specs.Filter.{is_login, is_moment, query_at, query};
 ghost use Rattle.mq_client.specs.Filter.{decision_of, Answers};
@@ -20,7 +21,7 @@ ghost use Rattle.mq_client.specs.Loop.{MakesOne, told_one, Does, Replies, IsCut}
 
 use crate::client::Client;
 use crate::fault::FilterFault;
-use crate::holdup::Holdup;
+use crate::holdup::{FullAnswer, Holdup};
 use crate::recipient_answer::RecipientAnswer;
 use crate::refusal::RefusalCause;
 use log::Log;
@@ -82,15 +83,15 @@ struct Ruling<'a> {
     decision: Decision,
     /// No try decided, and one ran out of time.
     timed_out: bool,
-    /// The login that was answered by the limit.
-    full: Option<&'a [u8]>,
+    /// What was answered by the limit.
+    full: Option<FullAnswer<'a>>,
 }
 
 /// An answer that no request was made for.
 fn unasked<'a>(decision: Decision) -> Ruling<'a>
     ensures decision { result.decision ≡ decision }
     ensures timed_out { result.timed_out ≡ false }
-    ensures full { option_copied result.full ≡ None }
+    ensures full { option_map shown_full result.full ≡ None }
 {
     Ruling {
         decision,
@@ -99,12 +100,13 @@ fn unasked<'a>(decision: Decision) -> Ruling<'a>
     }
 }
 
-/// The login, where its limit is reached.
-fn full_login(answer: RecipientAnswer, login: &[u8]) -> Option<&[u8]>
-    ensures { (txn moment : ℕ) → option_copied result ≡ full_by (Ask txn moment login.now) answer }
+/// The login and the moment of its transaction, where its limit is reached.
+fn full_answer(answer: RecipientAnswer, login: &[u8], moment: u64) -> Option<FullAnswer<'_>>
+    ensures { (txn : ℕ) → option_map shown_full result
+        ≡ full_by (Ask txn moment login.now) answer }
 {
     match answer {
-        RecipientAnswer::Full => Some(login),
+        RecipientAnswer::Full => Some(FullAnswer { login, moment }),
         _ => None,
     }
 }
@@ -134,7 +136,8 @@ fn ask<'a, R: Log, K: Link>(
         × Tells (K.told link.old) (K.told link.new) (told_one step)
         × MakesOne client.old client.new step
         × Answers holdup.now.1 (query_at (Sending login.now txn moment)) step d.decision
-        × (d.timed_out ≡ times_out step) × (option_copied d.full ≡ full_in step)) }
+        × (d.timed_out ≡ times_out step) × (option_map shown_full d.full ≡ full_in step)
+        × ((h : Holding) → freed_in step h ≡ h)) }
     ensures client { OnErr result (client.new ≡ client.old) }
     ensures link { OnErr result (link.new ≡ link.old) }
 {
@@ -142,7 +145,7 @@ fn ask<'a, R: Log, K: Link>(
         client.warn_refused(rt, login, cause_of(login));
         return Ok(unasked(Decision::RejectService));
     }
-    if let Some(decision) = holdup.held_back(login) {
+    if let Some(decision) = holdup.held_back(login, moment) {
         // (its step is a quiet one: no exchange is made, and nothing changes)
         note_held_back(client, decision);
         return Ok(unasked(decision));
@@ -151,7 +154,7 @@ fn ask<'a, R: Log, K: Link>(
         Ok(asking) => Ok(Ruling {
             decision: decision_of(asking.answer),
             timed_out: asking.timed_out,
-            full: full_login(asking.answer, login),
+            full: full_answer(asking.answer, login, moment),
         }),
         Err(refused) => Err(refused),
     }
@@ -172,14 +175,15 @@ fn decide<'a, R: Log, K: Link>(
         × ((L : List Meaning) → TracksAt tracker.now L → Answers holdup.now.1
         (query L inquiry.entry.subsystem.now inquiry.entry.phase.now inquiry.entry.session.now) step
         d.decision)
-        × (d.timed_out ≡ times_out step) × (option_copied d.full ≡ full_in step)) }
+        × (d.timed_out ≡ times_out step) × (option_map shown_full d.full ≡ full_in step)
+        × ((h : Holding) → freed_in step h ≡ h)) }
     ensures client { OnErr result (client.new ≡ client.old) }
     ensures link { OnErr result (link.new ≡ link.old) }
 {
     if !is_recipient(inquiry.subsystem, inquiry.phase) {
         return Ok(unasked(Decision::Proceed));
     }
-    client.set_session(inquiry.session);
+    client.set_line(inquiry.session, Some(inquiry.seconds));
     match tracker.standing(inquiry.session) {
         Standing::Anonymous => Ok(unasked(Decision::Proceed)),
         Standing::Login { login, .. } => {

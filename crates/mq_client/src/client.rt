@@ -7,11 +7,13 @@ ghost use Rattle.mq_client.specs.Exchanges.{Exchange, told_all};
 ghost use Rattle.mq_client.specs.Past.{Step, Ask, Close, Drain, StandsAt, Makes, view, answer_of};
 ghost use Rattle.mq_client.specs.Past.{find, refuses, reserve_of, closing_of, answer_by, tries_in};
 ghost use Rattle.mq_client.specs.Exchanges.{AreTries, has_timed_out};
+ghost use Rattle.mq_client.specs.Holding.{freed};
 ghost use Rattle.mq_client.specs.HeldTransactions.{IsHeld};
 ghost use Rattle.mq_client.specs.FramedRequests.{IsFramed};
 ghost use Rattle.mq_request.specs.declared.message.Reply.{Reply};
 
 use crate::held_transaction::{HeldTransaction, closing_request, reserve_request};
+use crate::holdup::Holdup;
 use crate::journal::Journal;
 use crate::recipient_answer::{RecipientAnswer, TimedAnswer, answer_to};
 use crate::refusal::{GivenWarnings, RefusalCause, RefusedRecipient};
@@ -201,11 +203,15 @@ impl Client {
         self.outbox.len()
     }
 
-    /// The next requests are of this session, which the log names.
-    pub fn set_session(&mut self, session: &[u8])
+    /// The next requests come of a line of this session, which the log names, and of this second,
+    /// by which it says again what lasts.
+    pub fn set_line(&mut self, session: &[u8], seconds: Option<u64>)
         ensures { self.new ≡ self.old }
     {
         self.session = SessionName::of(session);
+        if let Some(seconds) = seconds {
+            self.journal.set_seconds(seconds);
+        }
     }
 
     /// Asks whether a recipient of a transaction may go through. `txn` is 1 to 4,294,967,295,
@@ -313,6 +319,34 @@ impl Client {
         ensures client { OnErr result (self.new ≡ self.old) }
         ensures link { OnErr result (link.new ≡ link.old) }
     {
+        let mut nobody = Holdup::new(self.alloc, self.spans);
+        self.close_and_free(rt, link, closing, paused, &mut nobody)
+    }
+
+    /// The same for a filter that holds logins back: one of which recipients were given back is
+    /// held back no longer.
+    pub fn close_and_free<R: Log, L: Link>(
+        &mut self,
+        rt: &R,
+        link: &mut L,
+        closing: Closing,
+        paused: bool,
+        holdup: &mut Holdup,
+    ) -> Result<bool, AllocError>
+        ensures ok { IfOk result (λ timed_out. (group : List Exchange)
+            × Tells (L.told link.old) (L.told link.new) (told_all group)
+            × Makes self.old self.new (record {
+              action = Close closing.txn closing.end;
+              group = group;
+              quiet = paused;
+            }) × (timed_out ≡ has_timed_out group)
+            × (holdup.new ≡ (holdup.old.0, freed group holdup.old.1))) }
+        // Memory is asked for only where there is something to close.
+        ensures unheld { find self.old.held closing.txn ≡ None → IsOk result }
+        ensures client { OnErr result (self.new ≡ self.old) }
+        ensures link { OnErr result (link.new ≡ link.old) }
+        ensures holdup { OnErr result (holdup.new ≡ holdup.old) }
+    {
         let Some(known) = self.held.get(closing.txn) else {
             return Ok(false);
         };
@@ -325,7 +359,15 @@ impl Client {
         self.numbers = number;
         let tries = tries_in(self.tries, paused);
         let journal = &mut self.journal;
-        let timed_out = send_all(rt, self.alloc, link, &mut self.outbox, tries, journal);
+        let timed_out = send_all(
+            rt,
+            self.alloc,
+            link,
+            &mut self.outbox,
+            tries,
+            journal,
+            holdup,
+        );
         self.journal.note_pause(rt, timed_out, self.spans.pause);
         Ok(timed_out)
     }
@@ -339,8 +381,17 @@ impl Client {
             → result ≡ length (view self.new.source P).waiting }
     {
         let (tries, journal) = (self.tries, &mut self.journal);
-        // (what follows the input's end is nothing that a pause could hold back)
-        let _ = send_all(rt, self.alloc, link, &mut self.outbox, tries, journal);
+        // (what follows the input's end is nothing that could be held back)
+        let mut nobody = Holdup::new(self.alloc, self.spans);
+        let _ = send_all(
+            rt,
+            self.alloc,
+            link,
+            &mut self.outbox,
+            tries,
+            journal,
+            &mut nobody,
+        );
         let left = self.outbox.len();
         left as u32
     }

@@ -13,7 +13,7 @@ ghost use Rattle.mq_track.specs.State.{TracksAt};
 ghost use Rattle.mq_lemmas.specs.Told.{Tells};
 ghost use Rattle.mq_client.specs.Past.{Step, State};
 ghost use Rattle.mq_client.specs.Filter.{Closes, after_line};
-ghost use Rattle.mq_client.specs.Holding.{nothing_held, seconds_in, times_out, full_in};
+ghost use Rattle.mq_client.specs.Holding.{nothing_held, seconds_in, times_out, full_in, freed_in};
 ghost use Rattle.mq_link.specs.declared.link.ReportedExchange.{ReportedExchange};
 ghost use Rattle.mq_client.specs.Run.{Outside, around, supply, Supplies, EndsWith, StopsAt};
 ghost use Rattle.mq_client.specs.Loop.{MakesOne, told_one, IsCut, IsSorted, IsRefused};
@@ -24,6 +24,7 @@ use crate::answer::{Inquiry, answer};
 use crate::client::Client;
 use crate::fault::FilterFault;
 use crate::holdup::Holdup;
+use crate::session::LineSession;
 use log::{Log, warn};
 use mq_line::{Line, LineFeed, read_line, write_registration};
 use mq_link::Link;
@@ -118,10 +119,14 @@ fn fault_of(fault: TrackFault) -> FilterFault
 }
 
 /// The session of a report or a request.
-fn session_of<'a>(line: &Line<'a>) -> &'a [u8] {
-    match line {
+fn session_of<'a>(line: &Line<'a>) -> LineSession<'a> {
+    let name = match line {
         Line::Report { session, .. } | Line::Filter { session, .. } => session,
-        _ => b"",
+        _ => b"".as_slice(),
+    };
+    LineSession {
+        name,
+        seconds: seconds_of(line),
     }
 }
 
@@ -139,9 +144,10 @@ fn seconds_of(line: &Line<'_>) -> Option<u64>
 /// was left undecided of which a try ran out of time.
 fn close<R: Log, K: Link>(
     rt: &R,
-    session: &[u8],
+    session: LineSession<'_>,
     closing: Option<Closing>,
     paused: bool,
+    holdup: &mut Holdup,
     link: &mut K,
     client: &mut Client,
 ) -> Result<bool, FilterFault>
@@ -149,7 +155,8 @@ fn close<R: Log, K: Link>(
         × Tells (K.told link.old) (K.told link.new) (told_one step)
         × MakesOne client.old client.new step × Closes paused closing step
         × (timed_out ≡ times_out step)
-        × (full_in step ≡ None)) }
+        × (full_in step ≡ None)
+        × (holdup.new ≡ (holdup.old.0, freed_in step holdup.old.1))) }
     ensures memory { OnErr result ((result ≡ Err FilterFault.Memory) × (is_some closing ≡ true)) }
     ensures client { OnErr result (client.new ≡ client.old) }
     ensures link { OnErr result (link.new ≡ link.old) }
@@ -157,8 +164,8 @@ fn close<R: Log, K: Link>(
     match closing {
         None => Ok(false),
         Some(closing) => {
-            client.set_session(session);
-            match client.close(rt, link, closing, paused) {
+            client.set_line(session.name, session.seconds);
+            match client.close_and_free(rt, link, closing, paused, holdup) {
                 Ok(timed_out) => Ok(timed_out),
                 Err(_) => Err(FilterFault::Memory),
             }
@@ -194,7 +201,7 @@ fn note<R: Log, K: Link>(
     match tracker.apply(line) {
         Ok(closing) => {
             let paused = holdup.is_paused();
-            match close(rt, session_of(line), closing, paused, link, client) {
+            match close(rt, session_of(line), closing, paused, holdup, link, client) {
                 Ok(timed_out) => {
                     holdup.note(seconds_of(line), timed_out);
                     Ok(())

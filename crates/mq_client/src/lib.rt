@@ -5,7 +5,7 @@
 //! sends what waits. [`run_filter`] reads smtpd's lines and answers them by it. From
 //! `mq_remote/src/subcommands/filter.rt`:
 //!
-//!     match run_filter(log, rt.alloc(), &mut input, &mut output, link, client) {
+//!     match run_filter(log, alloc, input, output, link, client) {
 //!         Ok(_) => Ok(0),
 //!
 //! It stands on `mq_line`, `mq_track`, `mq_request`, `mq_stream`, `mq_frame` and `mq_link`: it
@@ -28,6 +28,7 @@ mod named_request;
 mod pauses;
 mod recipient_answer;
 mod refusal;
+mod retired;
 mod session;
 mod spans;
 mod transactions;

@@ -6,6 +6,13 @@ use std::fmt;
 /// How many bytes of a session's name are kept. smtpd gives each a name of 16.
 const NAME: usize = 16;
 
+/// A session of smtpd, at a line that has a second where smtpd gives it one.
+#[derive(Clone, Copy)]
+pub struct LineSession<'a> {
+    pub name: &'a [u8],
+    pub seconds: Option<u64>,
+}
+
 /// The first bytes of a session's name, with bytes of 0 after a shorter one; or none.
 #[derive(Clone, Copy, PartialEq, Eq, Drop)]
 pub struct SessionName([u8; NAME]);

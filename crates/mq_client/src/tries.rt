@@ -9,11 +9,14 @@ ghost use Rattle.mq_client.specs.Exchanges.{told_all};
 ghost use Rattle.mq_frame.specs.Spelling.{request_frame};
 ghost use Rattle.mq_client.specs.Exchanges.{ran_out, has_timed_out};
 ghost use Rattle.mq_link.specs.declared.link.ExchangeOutcome.TheVariants.{Faulted};
-ghost use Rattle.mq_client.specs.TriesOutcome.{ComesOf, verdict_of, is_decided, is_late};
+ghost use Rattle.mq_client.specs.TriesOutcome.{ComesOf, verdict_of, is_decided, is_late, given_by};
+ghost use Rattle.mq_client.specs.Holding.{Holding, freed};
+ghost use Rattle.mq_client.specs.Freeing.{heard};
 ghost use Rattle.mq_request.specs.declared.message.Reply.{Reply};
 ghost use Rattle.mq_client.specs.declared.tries.FramedRequest.{FramedRequest as AnyFramedRequest};
 ghost use Rattle.mq_client.specs.FramedRequests.{IsFramed, requests_of};
 
+use crate::holdup::Holdup;
 use crate::journal::Journal;
 use crate::session::SessionName;
 use crate::verdict::{Verdict, is_other_reply, verdict_in};
@@ -95,6 +98,16 @@ impl TriesOutcome {
         ensures { result ≡ is_decided self }
     {
         matches!(self, TriesOutcome::Decided(_))
+    }
+
+    /// How many recipients the server gave back.
+    pub fn given_back(self) -> u32
+        ensures { result ≡ given_by self }
+    {
+        match self {
+            TriesOutcome::Decided(Verdict::Released(held)) => held,
+            _ => 0,
+        }
     }
 
     /// Whether no reply decides it, and a try ran out of time.
@@ -202,7 +215,8 @@ fn send<R: Log, L: Link>(
     requires { IsFramed closing.now }
     ensures { (group : List Exchange) × Tells (L.told link.old) (L.told link.new) (told_all group)
         × IsSent tries closing.now.request group (is_decided result)
-        × (has_timed_out group ≡ is_late result) }
+        × (has_timed_out group ≡ is_late result)
+        × ((h : Holding) → freed group h ≡ heard closing.now.request (given_by result) h) }
 {
     try_all(rt, alloc, link, closing, tries, journal)
 }
@@ -217,7 +231,7 @@ fn drop_front(outbox: &mut VecDeque<FramedRequest>)
 }
 
 /// Sends a queue from its front, until a request stays undecided, and answers whether a try of that
-/// one ran out of time.
+/// one ran out of time. What is held back hears of each.
 pub fn send_all<R: Log, L: Link>(
     rt: &R,
     alloc: Global,
@@ -225,12 +239,14 @@ pub fn send_all<R: Log, L: Link>(
     outbox: &mut VecDeque<FramedRequest>,
     tries: u32,
     journal: &mut Journal,
+    holdup: &mut Holdup,
 ) -> bool
     requires { AllByRecursion IsFramed outbox.old.items }
     ensures step { (group : List Exchange) × Tells (L.told link.old) (L.told link.new)
         (told_all group)
         × Sends tries (requests_of outbox.old.items) group (requests_of outbox.new.items)
-        × (result ≡ has_timed_out group) }
+        × (result ≡ has_timed_out group)
+        × (holdup.new ≡ (holdup.old.0, freed group holdup.old.1)) }
     ensures framed { AllByRecursion IsFramed outbox.new.items }
     ensures len { length outbox.new.items ≤ length outbox.old.items }
 {
@@ -240,6 +256,7 @@ pub fn send_all<R: Log, L: Link>(
         if !sent.is_decided() {
             return sent.has_timed_out();
         }
+        holdup.hear(&closing.request, sent);
         drop_front(outbox);
     }
     false

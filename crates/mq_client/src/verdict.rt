@@ -19,7 +19,8 @@ pub enum Verdict {
     /// So many are used of the limit.
     Full { used: u32, cap: u32 },
     Settled,
-    Released,
+    /// The server held this many, and gives them back.
+    Released(u32),
     Closed,
     Mismatch,
     /// The server holds this many only.
@@ -66,7 +67,7 @@ fn closing_verdict(id: &Id, reply: ReplyParts<'_>) -> Option<Verdict>
 {
     let (other, verdict) = match reply {
         ReplyParts::Settled { id, .. } => (id, Verdict::Settled),
-        ReplyParts::Released { id, .. } => (id, Verdict::Released),
+        ReplyParts::Released { id, held } => (id, Verdict::Released(held)),
         ReplyParts::Closed { id } => (id, Verdict::Closed),
         ReplyParts::Mismatch { id } => (id, Verdict::Mismatch),
         ReplyParts::TooMany { id, held } => (id, Verdict::TooMany(held)),

@@ -8,7 +8,7 @@
 //!     match tracker.apply(line) {
 //!         Ok(closing) => {
 //!             let paused = holdup.is_paused();
-//!             match close(rt, session_of(line), closing, paused, link, client) {
+//!             match close(rt, session_of(line), closing, paused, holdup, link, client) {
 //!
 //! It stands on `mq_line`, and knows what a line says; it knows nothing of recipients, requests and
 //! limits. Begin with `specs/Sessions.antt`, the login and the open transaction of a session, and

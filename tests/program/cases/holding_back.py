@@ -25,7 +25,7 @@ from cases.filters import (
     of_session,
 )
 from ends import SILENCE, Script, crowded_port, nobody_there, soon
-from wire import frame, granted, number, reserve
+from wire import frame, granted, number, release, released, reserve
 
 BOB = b"0123456789abcdef"
 # milliseconds within which a script's answer comes on a machine that has much else to do, and for
@@ -51,6 +51,8 @@ def run(world, checks):
     full_after_a_pause(world, checks)
     closings(world, checks)
     full_logins(world, checks)
+    the_next_minute(world, checks)
+    recipients_given_back(world, checks)
     a_full_login_in_a_pause(world, checks)
     as_many_as_may_be(world, checks)
     what_check_says(world, checks)
@@ -379,6 +381,81 @@ def full_logins(world, checks):
         "a full login without hold: the lines, the frames",
         (output, heard),
         (answer(LIMIT) * 2, [RESERVE, asked(2)]),
+    )
+
+
+def the_next_minute(world, checks):
+    """A message that begins in another minute may be of another day: its login is asked for."""
+    second = 1_576_146_060
+    begins = of_session(at(BEGIN, second), BOB)
+    bobs = at(of_session(RCPT, BOB), second)
+    front = CONFIG + AUTH + BEGIN + of_session(AUTH, BOB) + RCPT
+    output, heard, _, _ = scripted(
+        world,
+        front + begins + bobs + at(RCPT, second) + bobs,
+        [FULL, granted(2, 1, **MX1), granted(3, 2, **MX1)],
+        hold=60,
+    )
+    proceeds = answer(PROCEED, session=BOB)
+    of_the_next = [reserve(n, login=b"alice", at=second, txn=2, **MX1) for n in (2, 3)]
+    checks.equal(
+        "a full login, and its message of the next minute, hold = 60: the lines, the frames",
+        (output, heard),
+        (answer(LIMIT) + proceeds + answer(LIMIT) + proceeds, [RESERVE, *of_the_next]),
+    )
+    begins = of_session(at(BEGIN, second - 1), BOB)
+    output, heard, _, _ = scripted(world, front + begins + bobs, [FULL], hold=60)
+    checks.equal(
+        "a full login, and its message of the minute's last second: the lines, the frames",
+        (output, heard),
+        (answer(LIMIT) + answer(LIMIT, session=BOB), [RESERVE]),
+    )
+    output, heard, _, _ = scripted(
+        world,
+        front + of_session(at(BEGIN, second), BOB) + bobs + bobs + at(RCPT, second),
+        [FULL, numbered(FULL, 2)],
+        hold=60,
+    )
+    checks.equal(
+        "a login that is full in two minutes: the lines, the frames",
+        (output, heard),
+        (
+            answer(LIMIT) + answer(LIMIT, session=BOB) * 2 + answer(LIMIT),
+            [RESERVE, of_the_next[0]],
+        ),
+    )
+
+
+def recipients_given_back(world, checks):
+    """A message of a full login that is rolled back gives its recipients to the next one."""
+    bobs = of_session(RCPT, BOB)
+    rollback = COMMIT.replace(b"tx-commit", b"tx-rollback").replace(b"|1200", b"")
+    text = (
+        CONFIG
+        + AUTH
+        + BEGIN
+        + of_session(AUTH + BEGIN, BOB)
+        + RCPT
+        + bobs * 2
+        + rollback
+        + at(bobs, 1_576_146_011)
+    )
+    first, proceeds = answer(PROCEED), answer(PROCEED, session=BOB)
+    refused = answer(LIMIT, session=BOB)
+    given = release(3, login=b"alice", at=1_576_146_009, **MX1)
+    script = [GRANTED, numbered(FULL, 2), released(3, 1, **MX1), granted(4, 3, **MX1)]
+    output, heard, _, _ = scripted(world, text, script, hold=60)
+    checks.equal(
+        "a full login, and a message that is rolled back, hold = 60: the lines, the frames",
+        (output, heard),
+        (first + refused * 2 + proceeds, [RESERVE, asked(2, txn=2), given, asked(4, txn=2)]),
+    )
+    script[2] = released(3, 0, **MX1)
+    output, heard, _, _ = scripted(world, text, script, hold=60)
+    checks.equal(
+        "a full login, and a release that gives back none: the lines, the frames",
+        (output, heard),
+        (first + refused * 3, [RESERVE, asked(2, txn=2), given]),
     )
 
 

@@ -1,5 +1,6 @@
 use Rattle.std.proofs.Common.{◌≡◌, Bool, subst, sym, ap, ◌∙◌, Err, Option, None}
-use Rattle.mq_client.proofs.Words.{Closes, Closing, FilterFault, IsRefused, closing, meaning, noted, seconds_in, times_out, track_fault as fault}
+use Rattle.mq_client.specs.Holding.{freed_in}
+use Rattle.mq_client.proofs.Words.{Closes, Closing, FilterFault, Holding, IsRefused, Spans, closing, meaning, noted, seconds_in, times_out, track_fault as fault}
 use Rattle.mq_client.specs.declared.fault.FilterFault.TheVariants as faults
 use Rattle.mq_client.proofs.Looping.{accepted}
 use Rattle.mq_client.proofs.Refusing.{refused, may_by_closing}
@@ -8,7 +9,7 @@ use Rattle.mq_client.proofs.filter.note.Goals as goal
 pub returns-in-Ok-close-clause-ok : goal.returns-in-Ok-close-clause-ok
 returns-in-Ok-close-clause-ok g c =
     let m = meaning c.args.line.now in
-    let (step, told, made, closes, late, full) = c.in-Ok-close.ensures.ok in
+    let (step, told, made, closes, late, full, freed) = c.in-Ok-close.ensures.ok in
     let h = c.args.holdup.now in (
       step,
       told,
@@ -16,9 +17,10 @@ returns-in-Ok-close-clause-ok g c =
       λ L st.
           let none = accepted (fault L m) c.in-Ok.closing (c.in-Ok.ensures.refused L st) in
           (none, subst (λ (b : Bool). Closes b (closing L m) step) c.is_paused-paused.ensures (subst (λ (x : Option Closing). Closes c.is_paused-paused.result x step) (c.in-Ok.ensures.accepted L st none) closes), c.in-Ok.ensures.stands L st),
-      c.note.ensures ∙ ap (λ s. (h.0, noted h.0 s c.in-Ok-close.timed_out None h.1)) c.seconds_of.ensures
-          ∙ ap (λ b. (h.0, noted h.0 (seconds_in m) b None h.1)) late
-          ∙ ap (λ o. (h.0, noted h.0 (seconds_in m) (times_out step) o h.1)) (sym full),
+      c.note.ensures ∙ ap (λ (k : Spans × Holding). (k.0, noted k.0 c.seconds_of.result c.in-Ok-close.timed_out None k.1)) freed
+          ∙ ap (λ s. (h.0, noted h.0 s c.in-Ok-close.timed_out None (freed_in step h.1))) c.seconds_of.ensures
+          ∙ ap (λ b. (h.0, noted h.0 (seconds_in m) b None (freed_in step h.1))) late
+          ∙ ap (λ o. (h.0, noted h.0 (seconds_in m) (times_out step) o (freed_in step h.1))) (sym full),
     )
 
 pub returns-in-Err-clause-fault : goal.returns-in-Err-clause-fault

@@ -5,7 +5,7 @@ use Rattle.mq_client.proofs.client.Client.drain.Goals as goal
 
 pub returns-clause-step : goal.returns-clause-step
 returns-clause-step g c =
-    let (group, told, sends, late) = c.send_all.ensures.step in
+    let (group, told, sends, late, freed) = c.send_all.ensures.step in
     let i = c.self.inside in
     let d : State = record (state_of i) { waiting = requests_of c.send_all.new.outbox.items } in
     (group, told, subst (λ (s : State). Makes s d (record { action = Drain; group = group; quiet = false })) c.self.view_is (drained (state_of i) d group refl refl refl refl sends))
