@@ -1,9 +1,13 @@
 -- Ways through worlds, on which days may be forgotten or not.
-use Rattle.mq_world.proofs.Words.{Book, List, ℕ}
+use Rattle.mq_world.proofs.Words.{Book, List, [], ℕ}
 use Rattle.mq_world.specs.World.{Site, World, Reaches, AtOnce, Later}
 use Rattle.mq_world.specs.Forgetting.{ReachesForgetting, Steps}
 use Rattle.mq_world.specs.Together.{Together, ReachesTogether}
 use Rattle.mq_world.specs.Together as servers
+
+-- a world of one server
+abbrev pub alone : World → Together
+alone w = record { world = w; standby = [] }
 
 -- steps after steps
 pub joined : {site : Site} {w v z : World} → Reaches site w v → Reaches site v z → Reaches site w z

@@ -1,6 +1,5 @@
 -- Worlds whose ledger forgets days that are over, while runs go on.
 use Rattle.std.specs.Prelude.{ℕ, ◌≤◌}
-use Rattle.mq_ledger.specs.Legal.{Book}
 use Rattle.mq_forget.specs.Remembered.{remembered_book}
 use Rattle.mq_world.specs.World.{Site, World, Next}
 

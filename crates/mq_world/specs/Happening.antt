@@ -26,6 +26,8 @@ use Rattle.mq_world.specs.Law.{run_of, standing_of, counting, let_by, let_togeth
 use Rattle.mq_world.specs.Running.{ran, GoesOnAround, IsNew}
 use Rattle.mq_world.specs.Forgetting.{forgotten, ReachesForgetting}
 use Rattle.mq_world.specs.Together.{Together, ledgers, IsStartTogether, ReachesTogether, cap_of}
+use Rattle.mq_world.specs.RunningTogether.{OthersGoOnTogether, GoesOnAmid, with_run_in}
+use Rattle.mq_forget.specs.Remembered.{remembered_book}
 
 -- ---- reaching
 
@@ -258,3 +260,29 @@ pub record PassedEachLimit (site : Site) (start c : Together) : Type 0 where
   pub transactions : List Transaction
   pub distinct : AreDistinct transactions
   pub passes : AllByRecursion (λ b. cap_of login day b < let_together c.world login day transactions) (ledgers c)
+
+-- A run of a filter, as its contract has it, read its input to the end. While its one exchange was on its way the first
+-- server granted the recipient, then it forgot the days before this one, and the address moved to the second server, which
+-- had taken nothing. One recipient was let through.
+pub record RanOverANight (a b : Book) (day : ℕ) : Type 0 where
+  pub site : Site
+  pub start : Together
+  pub at_first : ledgers start ≡ unused a ∷ unused b ∷ []
+  pub is_start : IsStartTogether site start
+  pub transaction : Transaction
+  pub before : Outside
+  pub bytes : List ℕ
+  pub after : Outside
+  pub ended : RunEnd
+  pub ends : EndsWith before bytes after ended
+  pub is_new : IsNew site start.world (run_of transaction) before.client
+  pub later : Together
+  pub around : GoesOnAmid (OthersGoOnTogether site (run_of transaction) day) start (exchanges_in (drained ends.group ends.steps)) later
+  pub granting : Book
+  pub reserve : Request
+  pub had : requests granting.history ≡ reserve ∷ []
+  pub at_last : ledgers later ≡ unused b ∷ remembered_book day granting ∷ []
+  pub now : Together
+  pub is_then : now ≡ with_run_in later (run_of transaction) (ran ends.after_ready (drained ends.group ends.steps) true)
+  pub reached : ReachesTogether site start day now
+  pub is_one : let_by (standing_of now.world transaction) ≡ 1

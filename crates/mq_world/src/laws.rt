@@ -9,6 +9,7 @@ ghost use Rattle.mq_link.specs.declared.link.LinkFault.{LinkFault};
 ghost use Rattle.mq_link.specs.declared.link.ExchangeOutcome.TheVariants.{Answered, Faulted};
 ghost use Rattle.std.specs.Option.{option_map};
 ghost use Rattle.mq_line.specs.Grammar.{Meaning};
+ghost use Rattle.mq_permits.specs.declared.permits.Permits.{Permits};
 ghost use Rattle.mq_ledger.specs.Day.{ByOffset, day_of};
 ghost use Rattle.mq_ledger.specs.History.{Transaction, held, settled_in, reserved, settled};
 ghost use Rattle.mq_ledger.specs.Legal.{Book, IsLegalBook};
@@ -30,14 +31,17 @@ ghost use Rattle.mq_world.specs.World.{MayCome};
 ghost use Rattle.mq_world.specs.Forgetting.{forgotten, ReachesForgetting};
 ghost use Rattle.mq_world.specs.Together.{Together, ledgers, IsStartTogether, ReachesTogether};
 ghost use Rattle.mq_world.specs.Together.{kept_of, used_of, cap_of};
+ghost use Rattle.mq_world.specs.Permitted.{NextPermitted, ReachesPermitted};
 ghost use Rattle.mq_world.specs.Happening.{unused, IsReachable, HasLetOneThrough, WasAnsweredAgain};
 ghost use Rattle.mq_world.specs.Happening.{WasTakenTwice};
 ghost use Rattle.mq_world.specs.Happening.{CameLate, HasStopped, HasRunToItsEnd, WasRetired};
 ghost use Rattle.mq_world.specs.Happening.{WasHeldBack, WentOnThoughForgotten};
 ghost use Rattle.mq_world.specs.Happening.{PassedOnAForgottenDay, IsReachableTogether};
 ghost use Rattle.mq_world.specs.Happening.{WasGrantedByEach, WasSplit, PassedEachLimit};
+ghost use Rattle.mq_world.specs.Happening.{RanOverANight};
 ghost use Rattle.mq_world.specs.Running.{ran, step_of, unsent, amid, GoesOnAround, IsNew, lines_at};
 ghost use Rattle.mq_world.specs.Running.{IsOrOneMore};
+ghost use Rattle.mq_world.specs.RunningTogether.{GoesOnAmid, OthersGoOnTogether, with_run_in};
 ghost use Rattle.mq_world.specs.Law.{standing_of, counting, let_by, let_together, IsPastOf};
 
 use mq_client::{
@@ -178,6 +182,25 @@ pub fn never_past_the_limits_together()
     remembered_is_legal();
 }
 
+/// The same where the servers go by a table of who may ask what, and others send anything, from
+/// anywhere: what the table doesn't allow is never taken. So it is enough that from the addresses
+/// which the table gives for a host, or for administrators, nobody but the filter itself asks under
+/// that host and the filter's run.
+pub fn never_past_the_limits_by_addresses()
+    // What others send, and the table allows, is no request of a filter run.
+    ensures step { (site : Site) (permits : Permits) (w later : World)
+        → NextPermitted site permits w later → Next site w later }
+    ensures reached { (site : Site) (permits : Permits) (start c : Together) (F : ℕ)
+        → ReachesPermitted site permits start F c → ReachesTogether site start F c }
+    // So what transactions of a login and day let through is at most the sum of the limits.
+    ensures limit { (site : Site) (permits : Permits) (start c : Together) (F : ℕ)
+        → IsStartTogether site start → ReachesPermitted site permits start F c
+        → (l : List ℕ) (d : ℕ) (ts : List Transaction) → AreDistinct ts → F ≤ d →
+        let_together c.world l d ts ≤ sum_by (cap_of l d) (ledgers c) }
+{
+    never_past_the_limits_together();
+}
+
 /// What a filter run's contract allows is a way through worlds: no line, no exchange and no end of
 /// a run is one that the steps of a world leave out. What a run's contract says of it, it says with
 /// the same words as `run_filter`.
@@ -239,8 +262,35 @@ pub fn each_run_is_of_a_world()
         (l : List ℕ) (d : ℕ) (ts : List Transaction) → AreDistinct ts →
         let_together (with_run later s (ran h.after_ready (drained h.group h.steps) true)) l d ts
         ≤ cap later.ledger.default later.ledger.history l d }
+    // With several servers, while the address moves between them and any of them forgets days
+    // before F, as over a night, what all come to is reached too.
+    ensures whole_together { (site : Site) (start c later : Together) (F : ℕ) (s : Source)
+        (o : Outside) (bytes : List ℕ) (now : Outside) (e : RunEnd) (h : EndsWith o bytes now e) →
+        ReachesTogether site start F c → IsNew site c.world s o.client →
+        GoesOnAmid (OthersGoOnTogether site s F) c (exchanges_in (drained h.group h.steps)) later →
+        ReachesTogether site start F
+        (with_run_in later s (ran h.after_ready (drained h.group h.steps) true)) }
+    ensures stopped_together { (site : Site) (start c later : Together) (F : ℕ) (s : Source)
+        (o : Outside) (pieces : List (List ℕ))
+        (source : Option (List ℕ)) (now : Outside) (read_failed write_failed : Bool) (f : FilterFault)
+        (h : StopsAt o pieces source now read_failed write_failed f) →
+        ReachesTogether site start F c → IsNew site c.world s o.client →
+        GoesOnAmid (OthersGoOnTogether site s F) c (exchanges_in (push h.step h.steps)) later →
+        (lines : List Meaning) × IsOrOneMore lines (lines_at h.stage)
+        × ReachesTogether site start F
+        (with_run_in later s (after_stop (ran lines (push h.step h.steps) false))) }
+    // So what was let through of F and later days is at most the sum of the limits.
+    ensures limits { (site : Site) (start c later : Together) (F : ℕ) (s : Source)
+        (o : Outside) (bytes : List ℕ) (now : Outside) (e : RunEnd) (h : EndsWith o bytes now e) →
+        IsStartTogether site start → ReachesTogether site start F c →
+        IsNew site c.world s o.client →
+        GoesOnAmid (OthersGoOnTogether site s F) c (exchanges_in (drained h.group h.steps)) later →
+        (l : List ℕ) (d : ℕ) (ts : List Transaction) → AreDistinct ts → F ≤ d →
+        let_together (with_run later.world s (ran h.after_ready (drained h.group h.steps) true)) l d ts
+        ≤ sum_by (cap_of l d) (ledgers later) }
 {
     never_past_the_limit();
+    never_past_the_limits_together();
     // (each exchange of a step is the next one)
     in_turn();
 }
@@ -280,6 +330,9 @@ pub fn what_may_happen()
     ensures passed_each { (a b : Book) → IsLegalBook (unused a) → IsLegalBook (unused b)
         → b.zone ≡ a.zone →
         a.default ≡ 1 → b.default ≡ 1 → IsReachableTogether a b PassedEachLimit }
+    // A run goes on while its server forgets and the address moves.
+    ensures over_a_night { (a b : Book) (day : ℕ) → IsLegalBook (unused a) → IsLegalBook (unused b)
+        → b.zone ≡ a.zone → 1 ≤ a.default → RanOverANight a b day }
 {
     // (a run's contract leads to such a world)
     each_run_is_of_a_world();

@@ -12,8 +12,8 @@
 //! Of several servers, to each of which the address may move, `never_past_the_limits_together` says
 //! the same with the sum of their limits.
 //!
-//! It stands on `mq_line`, `mq_track`, `mq_request`, `mq_frame`, `mq_ledger`, `mq_link`,
-//! `mq_client` and `mq_forget`, by their definitions, laws and lemmas alone. Begin with
+//! It stands on `mq_line`, `mq_track`, `mq_request`, `mq_frame`, `mq_permits`, `mq_ledger`,
+//! `mq_link`, `mq_client` and `mq_forget`, by their definitions, laws and lemmas alone. Begin with
 //! `specs/World.antt`, what may happen, and `specs/Law.antt`, what was let through.
 #![tactic(auto)]
 

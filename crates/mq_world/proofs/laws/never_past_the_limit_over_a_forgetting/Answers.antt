@@ -5,10 +5,8 @@ use Rattle.mq_world.specs.Forgetting.{forgotten, ReachesForgetting, FromStart, S
 use Rattle.mq_world.specs.Together.{Together, IsStartTogether, ReachesTogether, kept_of, used_of, cap_of}
 use Rattle.mq_world.specs.Together as servers
 use Rattle.mq_world.proofs.Forgetting.{OfForgetting}
+use Rattle.mq_world.proofs.Ways.{alone}
 use Rattle.mq_world.proofs.laws.never_past_the_limit_over_a_forgetting.Goals as goal
-
-abbrev pub alone : World → Together
-alone w = record { world = w; standby = [] }
 
 start_alone : (site : Site) (w : World) → IsStart site w → IsStartTogether site (alone w)
 start_alone site w z = record { first = z; standby = tt; zones = tt }

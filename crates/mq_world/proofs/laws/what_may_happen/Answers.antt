@@ -13,10 +13,12 @@ use Rattle.mq_line.specs.declared.results.Decision.TheVariants.{Proceed}
 use Rattle.mq_request.specs.declared.message.Reply.TheVariants.{Granted, Old, Retired, Settled, TooMany}
 use Rattle.mq_client.proofs.Making as making
 use Rattle.mq_client.proofs.Looping.{makes_none, makes_push}
+use Rattle.mq_client.proofs.Reasoning.{reasoned}
 use Rattle.mq_client.specs.Past.{find}
 use Rattle.mq_track.specs.declared.closing.CloseEnd.TheVariants as ending
 use Rattle.mq_world.specs.World.{Site, World, fresh, MayCome, next_request, IsStart, after_line, after_end, with_on_way, after_exchange, after_stop, same_source, with_run, with_sent, after_arrival, reply_from, Next, Reads, ReadsEnd, Sends, Ends, Takes, OthersSend, Stops, Reaches, AtOnce, Later, IsOfOthers, IsFrameOfOthers, source_of}
-use Rattle.mq_world.specs.Happening.{unused, times_written, IsReachable, failed, brought, HasLetOneThrough, WasAnsweredAgain, WasTakenTwice, CameLate, HasStopped, HasRunToItsEnd, WasRetired, WasHeldBack, WentOnThoughForgotten, PassedOnAForgottenDay, IsReachableTogether, WasGrantedByEach, WasSplit, PassedEachLimit}
+use Rattle.mq_world.specs.Happening.{unused, times_written, IsReachable, failed, brought, HasLetOneThrough, WasAnsweredAgain, WasTakenTwice, CameLate, HasStopped, HasRunToItsEnd, WasRetired, WasHeldBack, WentOnThoughForgotten, PassedOnAForgottenDay, IsReachableTogether, WasGrantedByEach, WasSplit, PassedEachLimit, RanOverANight}
+use Rattle.mq_world.specs.RunningTogether.{OthersGoOnTogether, StillThere, WorldSteps, AddressMoves, LedgerForgets, GoesOnAmid, OthersAlone, OneMoreExchange, with_run_in, with_world}
 use Rattle.mq_world.specs.Law.{let_together}
 use Rattle.mq_world.specs.Running.{ran, step_of, OthersGoOn, NobodyYet, OneStep, GoesOnAround, Before, During, IsNew}
 use Rattle.mq_world.specs.Forgetting.{forgotten, ReachesForgetting, FromStart, Forgets}
@@ -578,6 +580,7 @@ ends_so = record {
   whole = record { whole = refl; each = (is_line (codes "config|ready") refl (omega arith), (is_line login_text refl (omega arith), (is_line begin_text refl (omega arith), (is_line recipient_text refl (omega arith), tt)))) };
   ready = is_ready;
   filters = filters;
+  reasoned = reasoned new_client.spans (mail_lines (codes "s") (codes "m") noon) (asking ∷ []) result nothing_held filters;
   written = refl;
   exchanged = refl;
   made = made;
@@ -793,6 +796,51 @@ passes_each a b fit one_a one_b =
       passes = (omega (arith, both_let, second, one_b), (omega (arith, both_let, first, one_a), tt));
     })
 
+-- over a night: the first server grants and forgets, and the address moves
+abbrev pub dawn : Book → Book → ℕ → Together
+dawn a b day = record { world = with_ledger (unused b) (forgotten day (around_run a)); standby = (forgotten day (around_run a)).ledger ∷ [] }
+
+goes_over : (a b : Book) (day : ℕ) → 1 ≤ a.default → GoesOnAmid (OthersGoOnTogether site here day) (both a b) (answered ∷ []) (dawn a b day)
+goes_over a b day le =
+    let asked : Together = with_world (both a b) (with_sent (start a) (request_frame (request here))) in
+    let grants_it : Together = with_world (both a b) (around_run a) in
+    let taken_once : OthersGoOnTogether site here day asked grants_it =
+    WorldSteps asked (around_run a) StillThere (Takes 0 (request_body (request here)) (request here) refl (record { bytes = refl; in_range = request_range })) refl in
+    OneMoreExchange answered [] (both a b) (dawn a b day) (dawn a b day) (OthersAlone (both a b) StillThere)
+    (AddressMoves (with_world grants_it (forgotten day (around_run a))) [] [] (unused b) (LedgerForgets grants_it day taken_once (omega arith)) refl)
+    (inr (inr (0, ap (λ r. Some (frame (reply_body r))) (grants 1 1 noon a le)))) StillThere
+
+-- each run is of worlds of several servers
+abbrev pub WholeRunsTogether : Type 0
+WholeRunsTogether = (site : Site) (start c later : Together) (F : ℕ) (s : Source) (o : Outside) (bytes : List ℕ) (now : Outside) (e : RunEnd) (h : EndsWith o bytes now e) → ReachesTogether site start F c → IsNew site c.world s o.client
+    → GoesOnAmid (OthersGoOnTogether site s F) c (exchanges_in (drained h.group h.steps)) later → ReachesTogether site start F (with_run_in later s (ran h.after_ready (drained h.group h.steps) true))
+
+runs_over_a_night : WholeRunsTogether → (a b : Book) (day : ℕ) → IsLegalBook (unused a) → IsLegalBook (unused b) → b.zone ≡ a.zone → 1 ≤ a.default → RanOverANight a b day
+unfolding ends_so floor
+runs_over_a_night whole a b day first second zone le = record {
+  site = site;
+  start = both a b;
+  at_first = refl;
+  is_start = record { first = is_start a first; standby = (is_start b second, tt); zones = (zone, tt) };
+  transaction = mail 1;
+  before = before_run;
+  bytes = text_of texts ++ [];
+  after = after_run;
+  ended = record { answers = 1; left = 0 };
+  ends = ends_so;
+  is_new = is_new a;
+  later = dawn a b day;
+  around = goes_over a b day le;
+  granting = (around_run a).ledger;
+  reserve = request here;
+  had = ap requests (first_entry a le);
+  at_last = refl;
+  now = with_run_in (dawn a b day) here (ran ends_so.after_ready (drained ends_so.group ends_so.steps) true);
+  is_then = refl;
+  reached = whole site (both a b) (both a b) (dawn a b day) day here before_run (text_of texts ++ []) after_run (record { answers = 1; left = 0 }) ends_so servers.FromStart (is_new a) (goes_over a b day le);
+  is_one = refl;
+}
+
 are_fit : (a b : Book) → IsLegalBook (unused a) → IsLegalBook (unused b) → b.zone ≡ a.zone → 1 ≤ a.default → 1 ≤ b.default → AreFit a b
 are_fit a b first second zone first_default second_default = record { first = first; second = second; zone = zone; first_default = first_default; second_default = second_default }
 
@@ -811,4 +859,5 @@ returns c = record {
   granted_by_each = λ a b first second zone le_a le_b. grants_by_each a b (are_fit a b first second zone le_a le_b);
   split = λ a b first second zone le_a le_b. splits a b (are_fit a b first second zone le_a le_b);
   passed_each = λ a b first second zone one_a one_b. passes_each a b (are_fit a b first second zone (omega (arith, one_a)) (omega (arith, one_b))) one_a one_b;
+  over_a_night = runs_over_a_night c.each_run_is_of_a_world.ensures.whole_together;
 }
