@@ -8,6 +8,7 @@ use crate::network::Network;
 use log::{Log, warn};
 use mio::unix::SourceFd;
 use mio::{Events, Interest, Poll, Token};
+use mq_permits::Peer;
 use std::alloc::Global;
 use std::collections::BTreeMap;
 use std::io;
@@ -82,13 +83,24 @@ impl<C: Clock, G: Log> Sockets<'_, C, G> {
     }
 }
 
+/// Whose requests come on a connection from this address.
+fn peer_of(stream: &TcpStream, address: SocketAddr) -> Peer {
+    // (a connection whose own address the system doesn't tell is one of another machine)
+    let here = stream.local_addr().ok();
+    Peer {
+        address,
+        here: here.map(|here| here.ip()),
+    }
+}
+
 impl<C: Clock, G: Log> Network for Sockets<'_, C, G> {
     ghost is_over = { λ sockets. sockets.acceptor.left ≡ Count 0 };
 
-    fn accept(&mut self, number: usize) -> Result<Option<SocketAddr>, RoomFault> {
-        let Some((stream, peer)) = self.acceptor.next(self.clock, self.log)? else {
+    fn accept(&mut self, number: usize) -> Result<Option<Peer>, RoomFault> {
+        let Some((stream, address)) = self.acceptor.next(self.clock, self.log)? else {
             return Ok(None);
         };
+        let peer = peer_of(&stream, address);
         match self.register(number, stream) {
             Ok(()) => Ok(Some(peer)),
             Err(cause) => {

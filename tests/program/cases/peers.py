@@ -190,7 +190,7 @@ def slow_and_broken(world, checks):
         for what, sent, wanted in [
             ("a peer that sends nothing", b"", b""),
             ("half a frame and no more", reserve(1)[:9], b""),
-            ("a request, then nothing", usage(), NOTHING_USED),
+            ("a request and half of one, then nothing", usage() + reserve(1)[:9], NOTHING_USED),
         ]:
             a_slow_peer(server, checks, what, sent, wanted)
     with Server(world) as server:
