@@ -16,7 +16,7 @@ for other in ("program", "model"):
 from checks import Checks
 from sweeping import Refusals
 
-GROUPS = ["replaying", "storing", "auditing", "filtering", "forgetting"]
+GROUPS = ["replaying", "storing", "together", "auditing", "filtering", "forgetting"]
 # in memory where there is such a folder: the runs' files are synced again and again
 FOLDER = "/dev/shm" if os.access("/dev/shm", os.W_OK) else None
 

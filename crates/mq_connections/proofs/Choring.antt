@@ -1,5 +1,5 @@
 -- A server goes on where a chore alongside leaves the book and what is told of it.
-use Rattle.std.proofs.Common.{◌≡◌, ℕ, List, [], ◌∷◌, ◌++◌, map, Bool, Option, Result, Err, refl, sym, subst, ap, ◌∙◌}
+use Rattle.std.proofs.Common.{◌≡◌, ℕ, List, [], ◌∷◌, ◌++◌, map, Option, Result, Err, refl, sym, subst, ap, ◌∙◌}
 use Rattle.mq_request.specs.declared.message.Request.{Request}
 use Rattle.mq_ledger.specs.declared.ledger.ReportedCall.{ReportedCall}
 use Rattle.mq_ledger.specs.Answer.{history_of}
@@ -45,10 +45,10 @@ all_taken : (rs : List Request) → arrivals (map taken rs) ≡ rs
 all_taken [] = refl
 all_taken (r ∷ rs) = ap (λ (xs : List Request). r ∷ xs) (all_taken rs)
 
-grown_of : (b later : Book) → HasCome b later → HasGrown b later
+pub grown_of : (b later : Book) → HasCome b later → HasGrown b later
 grown_of b later come = (map taken come.came, come.history ∙ ap (λ (rs : List Request). history_of (day_of b.zone) b.default (requests b.history ++ rs)) (sym (all_taken come.came)))
 
-come_of : (b later : Book) → later.zone ≡ b.zone → later.default ≡ b.default → HasGrown b later → HasCome b later
+pub come_of : (b later : Book) → later.zone ≡ b.zone → later.default ≡ b.default → HasGrown b later → HasCome b later
 come_of b later zone default grown = record { came = arrivals grown.0; zone = zone; default = default; history = grown.1 }
 
 -- requests came since

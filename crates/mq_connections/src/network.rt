@@ -5,8 +5,8 @@ ghost use Rattle.std.specs.Io.KnownBytes.{ReadConsumes, WriteAppends};
 ghost use Rattle.mq_connections.specs.Wires.{Leaves, Wire, unknown};
 
 use crate::fault::RoomFault;
+use mq_permits::Peer;
 use std::io;
-use std::net::SocketAddr;
 use std::time::{Duration, Instant};
 
 /// Connections that come, each under a number, and their streams, whose `read` and `write` mean
@@ -21,7 +21,7 @@ pub trait Network {
 
     /// The next connection, if one has come: it has this number from here on, and `accept` says who
     /// its peer is.
-    fn accept(&mut self, number: usize) -> Result<Option<SocketAddr>, RoomFault>
+    fn accept(&mut self, number: usize) -> Result<Option<Peer>, RoomFault>
         ensures fault { IfErr result (λ fault. fault ≡ RoomFault.Accept) }
         ensures same { (n : ℕ) → wire self.new n ≡ wire self.old n };
 

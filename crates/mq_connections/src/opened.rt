@@ -1,30 +1,36 @@
 //! A connection that is open, and its turns: none waits for the peer, so none holds back another
 //! connection.
 ghost use Rattle.std.specs.Prelude.{◌≡◌, ◌≢◌, ◌⊎◌, ◌<◌, ◌≤◌, ◌+◌, [], List, ℕ, ◌++◌, length, Err};
-ghost use Rattle.std.specs.Prelude.{None, Some, IfOk};
+ghost use Rattle.std.specs.Prelude.{None, Some, IfOk, Option, IsTrue};
+ghost use Rattle.mq_request.specs.declared.message.Request.{Request};
+ghost use Rattle.mq_permits.specs.Permits.{may_ask};
+ghost use Rattle.mq_connections.specs.Gained.{Gains, MayAsk};
+ghost use Rattle.std.specs.Time.{instant_nanos};
 ghost use Rattle.std.specs.Io.KnownBytes.{Appends, Consumes, Keeps};
 ghost use Rattle.mq_ledger.specs.Leaving.{LeavesLedger};
+ghost use Rattle.mq_ledger.specs.Legal.{Book, IsLegalBook};
+ghost use Rattle.mq_ledger.specs.declared.ledger.ReportedCall.{ReportedCall};
 ghost use Rattle.mq_server.specs.declared.connection.Progress.TheVariants.{Ended};
 ghost use Rattle.mq_server.specs.declared.input.TheConstants.{PIECE as piece_limit};
-ghost use Rattle.mq_server.specs.Held.{fresh};
+ghost use Rattle.mq_server.specs.Held.{IsAtRest, fresh};
 ghost use Rattle.mq_server.specs.Life.{Life, Lives, with_bytes, with_taken};
+ghost use Rattle.mq_connections.specs.Stays.{IsIdle, IsPutOff, late_fault};
 ghost use Rattle.mq_connections.specs.Turns.{ClosesAtEnd, Offers, Turns};
 
+use crate::lent::{Lending, Lent, PeerLedger};
 use crate::network::Network;
+use crate::stay::{Stay, Times};
 use mq_ledger::Ledger;
-use mq_link::deadline_after;
+use mq_permits::{Peer, Permits};
 use mq_server::laws::more_exchanges;
 use mq_server::{Connection, EndCause, PIECE, Progress, ServeFault};
 use mq_watch::Hear;
 use std::alloc::Global;
 use std::io;
 use std::io::ErrorKind;
-use std::net::SocketAddr;
+use std::marker::{Brand, PhantomData};
 use std::rt::Clock;
-use std::time::{Duration, Instant};
-
-/// How many timeouts a whole connection has.
-const TIMEOUTS: u32 = 2;
+use std::time::Instant;
 
 /// The most frames that are answered in one turn: their replies are held until the peer takes them,
 /// and a page of a list has up to 27 kilobytes.
@@ -34,45 +40,46 @@ const FRAMES: u32 = 8;
 /// writes.
 const TURNS: u32 = 32;
 
+/// After so many turns at least a connection has answered what came first.
+const FIRST_TURNS: u32 = 2;
+
 /// A connection that is open.
 #[derive(Drop)]
 pub struct OpenConnection {
-    pub peer: SocketAddr,
+    pub peer: Peer,
     pub connection: Connection,
-    /// The connection ends then, whatever its peer does.
-    deadline: Instant,
-    /// It ends then, if its peer neither sends nor takes anything before.
-    pub until: Instant,
+    pub stay: Stay,
 }
 
 impl OpenConnection {
-    /// A connection that was accepted now. `timeout` is how long nothing may come or be taken; the
-    /// whole has twice as long.
+    /// A connection that was accepted now.
     pub fn new(
         clock: &impl Clock,
         alloc: Global,
-        peer: SocketAddr,
-        timeout: Duration,
+        peer: Peer,
+        times: Times,
     ) -> io::Result<OpenConnection>
         ensures fresh { IfOk result (λ made. made.connection ≡ fresh made.connection.room) }
         ensures peer { IfOk result (λ made. made.peer ≡ peer) }
     {
-        let until = deadline_after(clock, timeout)?;
-        let deadline = deadline_after(clock, timeout.saturating_mul(TIMEOUTS))?;
+        let stay = Stay::begin(Instant::now(clock)?, times)?;
         Ok(OpenConnection {
             peer,
             connection: Connection::new(alloc),
-            deadline,
-            until,
+            stay,
         })
     }
 
-    /// Why a connection is given up whose time is over.
-    pub fn late_fault(&self) -> ServeFault {
-        if self.connection.replies().is_empty() {
-            ServeFault::Read
+    /// Why a connection is given up whose time is over. An idle one ends as it should.
+    pub fn late_fault(&self) -> Option<ServeFault>
+        ensures { result ≡ late_fault self.now.stay self.now.connection.replies }
+    {
+        if self.stay.is_idle() {
+            None
+        } else if self.connection.replies().is_empty() {
+            Some(ServeFault::Read)
         } else {
-            ServeFault::Write
+            Some(ServeFault::Write)
         }
     }
 
@@ -86,7 +93,7 @@ impl OpenConnection {
         alloc: Global,
         network: &mut N,
         number: usize,
-        timeout: Duration,
+        times: Times,
         ledger: &mut L,
     ) -> Progress
         // Of any ledger, sound or not.
@@ -107,12 +114,12 @@ impl OpenConnection {
     {
         more_exchanges();
         if !self.connection.replies().is_empty() {
-            return self.write_replies(clock, network, number, timeout);
+            return self.write_replies(clock, network, number, times);
         }
         match self.connection.answer(alloc, FRAMES, ledger) {
             Progress::Answered => Progress::Answered,
             Progress::Waits if !self.connection.replies().is_empty() => Progress::Answered,
-            Progress::Waits => self.read_more(clock, network, number, timeout),
+            Progress::Waits => self.read_more(clock, network, number, times),
             Progress::Ended(end) => self.end_turn(end),
         }
     }
@@ -151,7 +158,7 @@ impl OpenConnection {
         clock: &impl Clock,
         network: &mut N,
         number: usize,
-        timeout: Duration,
+        times: Times,
     ) -> Progress
         ensures others { (n : ℕ) → n ≢ number → N.wire network.new n ≡ N.wire network.old n }
         ensures end { self.new.connection.end ≡ self.old.connection.end }
@@ -169,11 +176,35 @@ impl OpenConnection {
             Ok(0) => Progress::Ended(Err(ServeFault::Write)),
             Ok(count) => {
                 self.connection.take_replies(count);
-                self.stay(clock, timeout);
+                self.note_activity(clock, times);
                 Progress::Answered
             }
             Err(error) if error.kind() == ErrorKind::WouldBlock => Progress::Waits,
             Err(_) => Progress::Ended(Err(ServeFault::Write)),
+        }
+    }
+
+    /// Reads what came where only that lets the connection go on; elsewhere it leaves all as it is.
+    pub fn read_turn<N: Network>(
+        &mut self,
+        clock: &impl Clock,
+        network: &mut N,
+        number: usize,
+        times: Times,
+    ) -> Progress
+        ensures others { (n : ℕ) → n ≢ number → N.wire network.new n ≡ N.wire network.old n }
+        ensures works { result ≢ Ended (Err ServeFault.Store) }
+        ensures stays { self.old.connection.end ≢ Some (Err ServeFault.Store)
+            → self.new.connection.end ≢ Some (Err ServeFault.Store) }
+        ensures turns { (b : Book) (told : Option (List ReportedCall)) → IsLegalBook b →
+            Turns b b.history told told result (N.wire network.old number)
+            (N.wire network.new number) self.old.connection self.new.connection }
+    {
+        more_exchanges();
+        if self.connection.is_waiting() {
+            self.read_more(clock, network, number, times)
+        } else {
+            Progress::Waits
         }
     }
 
@@ -183,7 +214,7 @@ impl OpenConnection {
         clock: &impl Clock,
         network: &mut N,
         number: usize,
-        timeout: Duration,
+        times: Times,
     ) -> Progress
         requires { self.old.connection.end ≡ None }
         ensures others { (n : ℕ) → n ≢ number → N.wire network.new n ≡ N.wire network.old n }
@@ -215,7 +246,7 @@ impl OpenConnection {
             }
             Ok(count) => match self.connection.receive(&piece[..count]) {
                 Ok(()) => {
-                    self.stay(clock, timeout);
+                    self.note_activity(clock, times);
                     Progress::Answered
                 }
                 Err(_) => Progress::Ended(Err(ServeFault::Memory)),
@@ -224,16 +255,31 @@ impl OpenConnection {
         }
     }
 
-    /// The peer sent or took something: its time begins again, and ends by the deadline.
-    fn stay(&mut self, clock: &impl Clock, timeout: Duration)
+    /// The peer sent or took something: its time begins again. (A clock that can't be read ends the
+    /// serving at its next wait.)
+    fn note_activity(&mut self, clock: &impl Clock, times: Times)
         ensures { self.new.connection ≡ self.old.connection }
     {
-        if let Ok(until) = deadline_after(clock, timeout) {
-            self.until = if until < self.deadline {
-                until
-            } else {
-                self.deadline
-            };
+        let Ok(now) = Instant::now(clock) else {
+            return;
+        };
+        if let Ok(stay) = self.stay_from(now, times) {
+            self.stay = stay;
+        }
+    }
+
+    /// Until when it stays open, as its peer has just sent or taken something: it is idle once all
+    /// that came was answered, and the replies were taken.
+    fn stay_from(&self, now: Instant, times: Times) -> io::Result<Stay>
+        ensures idle { IsAtRest self.now.connection → IfOk result
+            (IsIdle (instant_nanos now) times) }
+        ensures busy { ¬ IsAtRest self.now.connection → IfOk result
+            (IsPutOff (instant_nanos now) times self.now.stay) }
+    {
+        if self.connection.is_at_rest() {
+            Stay::idle(now, times)
+        } else {
+            self.stay.put_off(now, times)
         }
     }
 }
@@ -249,14 +295,17 @@ fn read_stop(error: &io::Error) -> Progress
     }
 }
 
-/// Gives a connection turns, as long as it has something to do and no other has waited for long.
+/// Gives a connection turns, as long as it has something to do and no other has waited for long. Of
+/// several, each has its first request answered; the next one is left for the next round, where it
+/// may be taken with those of the others.
 fn take_turns<N: Network, C: Clock, L: Ledger>(
     clock: &C,
     alloc: Global,
     network: &mut N,
     number: usize,
     opened: &mut OpenConnection,
-    timeout: Duration,
+    times: Times,
+    alone: bool,
     ledger: &mut L,
 ) -> Progress
     ensures others { (n : ℕ) → n ≢ number → N.wire network.new n ≡ N.wire network.old n }
@@ -273,8 +322,11 @@ fn take_turns<N: Network, C: Clock, L: Ledger>(
         opened.new.connection }
 {
     more_exchanges();
-    for _turn in 0..TURNS {
-        match opened.take_turn(clock, alloc, network, number, timeout, ledger) {
+    for turn in 0..TURNS {
+        if !alone && FIRST_TURNS <= turn && opened.connection.peek_request(alloc).is_some() {
+            return Progress::Answered;
+        }
+        match opened.take_turn(clock, alloc, network, number, times, ledger) {
             Progress::Answered => {}
             turn => return turn,
         }
@@ -282,17 +334,79 @@ fn take_turns<N: Network, C: Clock, L: Ledger>(
     Progress::Answered
 }
 
-/// Gives a connection turns. What it asks of the ledger comes from its peer.
-pub fn give_turns<N: Network, C: Clock, L: Ledger + Hear>(
+/// A ledger that comes back after turns of a connection, and what these came to.
+#[derive(Drop)]
+struct Turned<'l, 'p, L> {
+    lent: Lent<'l, 'p, L>,
+    progress: Progress,
+}
+
+impl<L> Turned<'_, '_, L> {
+    /// The ledger is no longer lent.
+    fn end(self) -> Progress
+        ensures ledger { self.exit.0.0.now ≡ self.entry.lent.ledger.now }
+        ensures progress { result ≡ self.entry.progress }
+    {
+        let Turned { lent: _, progress } = self;
+        progress
+    }
+}
+
+/// Gives a connection turns, over a ledger that is lent for the requests of its peer.
+fn take_lent_turns<'l, 'p, N: Network, C: Clock, L: Hear, K: Lending>(
     clock: &C,
     alloc: Global,
     network: &mut N,
     number: usize,
     opened: &mut OpenConnection,
-    timeout: Duration,
+    times: Times,
+    alone: bool,
+    lent: Lent<'l, 'p, L>,
+) -> Turned<'l, 'p, L>
+    requires reference { lent.ledger.ghost_name ≡ K.reference }
+    requires may { (request : Request) → may_ask lent.permits lent.peer request ≡ K.may request }
+    requires start { (L.book lent.ledger.now).history ≡ K.start }
+    ensures reference { result.lent.ledger.ghost_name ≡ lent.entry.ledger.ghost_name }
+    ensures others { (n : ℕ) → n ≢ number → N.wire network.new n ≡ N.wire network.old n }
+    ensures store { result.progress ≡ Ended (Err ServeFault.Store)
+        → opened.new.connection.end ≡ Some (Err ServeFault.Store) }
+    ensures works { opened.old.connection.end ≢ Some (Err ServeFault.Store) →
+        result.progress ≢ Ended (Err ServeFault.Store) → opened.new.connection.end ≢ Some
+        (Err ServeFault.Store) }
+    ensures leaves { LeavesLedger L.book L.has_kept L.is_sound L.has_store lent.entry.ledger.now
+        result.lent.ledger.now }
+    ensures turns { L.has_kept result.lent.ledger.now → L.is_sound lent.entry.ledger.now →
+        Turns (L.book lent.entry.ledger.now) (L.book result.lent.ledger.now).history
+        (L.told lent.entry.ledger.now) (L.told result.lent.ledger.now) result.progress
+        (N.wire network.old number) (N.wire network.new number) opened.old.connection
+        opened.new.connection }
+    ensures gains { L.has_kept result.lent.ledger.now → L.is_sound lent.entry.ledger.now →
+        Gains (λ request. IsTrue (K.may request)) K.start (L.book result.lent.ledger.now).history }
+{
+    let mut asked: PeerLedger<'l, 'p, L, K> = PeerLedger {
+        lent,
+        of: PhantomData,
+    };
+    let progress = take_turns(
+        clock, alloc, network, number, opened, times, alone, &mut asked,
+    );
+    let PeerLedger { lent, of: _ } = asked;
+    Turned { lent, progress }
+}
+
+/// Gives a connection turns, alone or as one of several. What the ledger gains by it is what the
+/// permits allow its peer.
+pub fn give_turns<N: Network, C: Clock, L: Hear>(
+    clock: &C,
+    alloc: Global,
+    network: &mut N,
+    number: usize,
+    opened: &mut OpenConnection,
+    times: Times,
+    alone: bool,
+    permits: Option<&Permits>,
     ledger: &mut L,
 ) -> Progress
-    ensures heard { L.hears ledger.old opened.old.peer }
     ensures others { (n : ℕ) → n ≢ number → N.wire network.new n ≡ N.wire network.old n }
     ensures store { result ≡ Ended (Err ServeFault.Store)
         → opened.new.connection.end ≡ Some (Err ServeFault.Store) }
@@ -305,7 +419,18 @@ pub fn give_turns<N: Network, C: Clock, L: Ledger + Hear>(
         (L.told ledger.new) result
         (N.wire network.old number) (N.wire network.new number) opened.old.connection
         opened.new.connection }
+    ensures gains { L.has_kept ledger.new → L.is_sound ledger.old →
+        Gains (MayAsk permits.entry opened.old.peer) (L.book ledger.old).history
+        (L.book ledger.new).history }
 {
-    ledger.hear(opened.peer);
-    take_turns(clock, alloc, network, number, opened, timeout, ledger)
+    let peer = opened.peer;
+    let lent = Lent {
+        ledger,
+        permits,
+        peer,
+    };
+    let turned = take_lent_turns::<N, C, L, Brand>(
+        clock, alloc, network, number, opened, times, alone, lent,
+    );
+    turned.end()
 }

@@ -4,25 +4,31 @@ ghost use Rattle.mq_ledger.specs.Leaving.{LeavesLedger};
 ghost use Rattle.mq_ledger.specs.declared.ledger.ReportedCall.{ReportedCall};
 ghost use Rattle.mq_ledger.specs.Legal.{Book};
 ghost use Rattle.mq_server.specs.Delivery.{HasGrown};
+ghost use Rattle.mq_connections.specs.Asking.{peer_of};
+ghost use Rattle.mq_connections.specs.Gained.{Gains, OneMayAsk, SomebodyMayAsk};
 ghost use Rattle.mq_connections.specs.Sessions.{GoesOn, GoesOnOrStops, KeepsGoing, Outside, held};
 ghost use Rattle.mq_connections.specs.Turns.{Closes};
 
 use crate::fault::RoomFault;
 use crate::network::Network;
 use crate::opened::{OpenConnection, give_turns};
+use crate::stay::Times;
 use log::{Log, error, warn};
-use mq_ledger::Ledger;
+use mq_permits::{Peer, Permits};
 use mq_server::laws::{a_life_is_served, more_deliveries, more_exchanges};
 use mq_server::{EndCause, PIECE, Progress, ServeFault};
 use mq_watch::Hear;
 use std::alloc::Global;
 use std::collections::BTreeMap;
-use std::net::SocketAddr;
 use std::rt::Clock;
 use std::time::{Duration, Instant};
 
 /// The most connections that are open at once: a process may commonly have 1,024 files.
 const PLACES: usize = 900;
+
+/// The most of these places that idle connections have, once all are taken: so the others, which
+/// just came or are answered, have some always.
+const IDLE_PLACES: usize = 600;
 
 /// The most connections that are accepted before others have their turns.
 const ACCEPTED: usize = 64;
@@ -30,10 +36,10 @@ const ACCEPTED: usize = 64;
 /// The connections that are open, each under its number: they are counted as they come, from 1 on.
 #[derive(Drop)]
 pub struct Room {
-    opened: BTreeMap<usize, OpenConnection>,
-    alloc: Global,
+    pub(crate) opened: BTreeMap<usize, OpenConnection>,
+    pub(crate) alloc: Global,
     /// The number of the connection that was accepted last.
-    last: usize,
+    pub(crate) last: usize,
 }
 
 impl Room {
@@ -60,14 +66,13 @@ impl Room {
             .map(|(_, until)| until.duration_since(now))
     }
 
-    /// Accepts the connections that have come. Where no place is left, the one that would be late
-    /// first is closed.
+    /// Accepts the connections that have come. Where no place is left, one is closed for each.
     pub fn accept<N: Network, C: Clock, G: Log>(
         &mut self,
         clock: &C,
         log: &G,
         network: &mut N,
-        timeout: Duration,
+        times: Times,
     ) -> Result<(), RoomFault>
         ensures fault { IfErr result (λ fault. fault ≡ RoomFault.Accept) }
         ensures goes { (old : Outside) (book : Book) (told : Option (List ReportedCall)) →
@@ -84,7 +89,7 @@ impl Room {
                 return Ok(());
             };
             self.last = number;
-            self.add(clock, log, network, peer, timeout);
+            self.add(clock, log, network, peer, times);
         }
         Ok(())
     }
@@ -95,8 +100,8 @@ impl Room {
         clock: &C,
         log: &G,
         network: &mut N,
-        peer: SocketAddr,
-        timeout: Duration,
+        peer: Peer,
+        times: Times,
     )
         ensures last { self.new.last ≡ self.old.last }
         ensures goes { (old : Outside) (book : Book) (told : Option (List ReportedCall))
@@ -107,7 +112,7 @@ impl Room {
             self.old.last (held self.new.opened) None }
     {
         a_life_is_served();
-        let open = match OpenConnection::new(clock, self.alloc, peer, timeout) {
+        let open = match OpenConnection::new(clock, self.alloc, peer, times) {
             Ok(open) => open,
             Err(cause) => {
                 warn!(log; "connection of {peer}: {cause}");
@@ -123,7 +128,7 @@ impl Room {
         network.close(self.last);
     }
 
-    /// Closes the connection that would be late first, where no place is left.
+    /// Closes a connection where no place is left.
     fn make_place<N: Network, G: Log>(&mut self, log: &G, network: &mut N)
         ensures last { self.new.last ≡ self.old.last }
         ensures goes { KeepsGoing (held self.old.opened) (N.wire network.old) (held self.new.opened)
@@ -132,7 +137,7 @@ impl Room {
         if self.opened.len() < PLACES {
             return;
         }
-        let Some((number, _)) = self.first_late() else {
+        let Some(number) = self.first_to_go() else {
             return;
         };
         let Some(open) = self.close(network, number) else {
@@ -143,13 +148,14 @@ impl Room {
     }
 
     /// Gives each connection of which something came its turns.
-    pub fn serve<N: Network, C: Clock, G: Log, L: Ledger + Hear>(
+    pub fn serve<N: Network, C: Clock, G: Log, L: Hear>(
         &mut self,
         clock: &C,
         log: &G,
         network: &mut N,
         ready: &[usize],
-        timeout: Duration,
+        times: Times,
+        permits: Option<&Permits>,
         ledger: &mut L,
     ) -> Result<(), RoomFault>
         ensures leaves { LeavesLedger L.book L.has_kept L.is_sound L.has_store ledger.old ledger.new }
@@ -169,22 +175,31 @@ impl Room {
             } in
             GoesOn old before self.old.last (held self.old.opened) None →
             GoesOnOrStops old after self.new.last (held self.new.opened) RoomFault.Store result) }
+        ensures gains { L.has_kept ledger.new → L.is_sound ledger.old →
+            Gains (SomebodyMayAsk permits.entry) (L.book ledger.old).history
+            (L.book ledger.new).history }
     {
         more_deliveries();
+        self.serve_together(clock, log, network, ready, times, permits, ledger);
+        let is_alone = self.opened.len() < 2;
         for number in ready {
-            self.serve_one(clock, log, network, *number, timeout, ledger)?;
+            self.serve_one(
+                clock, log, network, *number, times, is_alone, permits, ledger,
+            )?;
         }
         Ok(())
     }
 
-    /// Gives a connection its turns, and closes it where it ended.
-    fn serve_one<N: Network, C: Clock, G: Log, L: Ledger + Hear>(
+    /// Gives a connection its turns, alone or as one of several, and closes it where it ended.
+    fn serve_one<N: Network, C: Clock, G: Log, L: Hear>(
         &mut self,
         clock: &C,
         log: &G,
         network: &mut N,
         number: usize,
-        timeout: Duration,
+        times: Times,
+        is_alone: bool,
+        permits: Option<&Permits>,
         ledger: &mut L,
     ) -> Result<(), RoomFault>
         ensures leaves { LeavesLedger L.book L.has_kept L.is_sound L.has_store ledger.old ledger.new }
@@ -204,13 +219,18 @@ impl Room {
             } in
             GoesOn old before self.old.last (held self.old.opened) None →
             GoesOnOrStops old after self.new.last (held self.new.opened) RoomFault.Store result) }
+        ensures gains { L.has_kept ledger.new → L.is_sound ledger.old →
+            Gains (OneMayAsk permits.entry (peer_of self.old.opened)) (L.book ledger.old).history
+            (L.book ledger.new).history }
     {
         more_exchanges();
         let Some(open) = self.opened.get_mut(&number) else {
             return Ok(());
         };
         let peer = open.peer;
-        match give_turns(clock, self.alloc, network, number, open, timeout, ledger) {
+        match give_turns(
+            clock, self.alloc, network, number, open, times, is_alone, permits, ledger,
+        ) {
             Progress::Waits => Ok(()),
             Progress::Answered => {
                 self.watch_again(log, network, number, &peer);
@@ -229,7 +249,7 @@ impl Room {
         log: &G,
         network: &mut N,
         number: usize,
-        peer: &SocketAddr,
+        peer: &Peer,
     )
         ensures last { self.new.last ≡ self.old.last }
         ensures goes { KeepsGoing (held self.old.opened) (N.wire network.old) (held self.new.opened)
@@ -273,13 +293,19 @@ impl Room {
         let mut piece = [0u8; PIECE];
         let _ = network.read(number, &mut piece);
         // The peer sees the end once the log has it.
-        let peer = late.peer;
-        warn!(log; "connection of {peer}: {fault}");
+        if let Some(fault) = fault {
+            let peer = late.peer;
+            warn!(log; "connection of {peer}: {fault}");
+        }
         network.close(number);
     }
 
     /// Closes a connection, after its peer was offered the replies that wait.
-    fn close<N: Network>(&mut self, network: &mut N, number: usize) -> Option<OpenConnection>
+    pub(crate) fn close<N: Network>(
+        &mut self,
+        network: &mut N,
+        number: usize,
+    ) -> Option<OpenConnection>
         ensures last { self.new.last ≡ self.old.last }
         ensures closes { Closes (held self.old.opened) (held self.new.opened) (N.wire network.old)
             (N.wire network.new) number }
@@ -310,19 +336,48 @@ impl Room {
     fn first_late(&self) -> Option<(usize, Instant)> {
         let mut first: Option<(usize, Instant)> = None;
         for (number, open) in &self.opened {
-            first = match first {
-                Some((_, until)) if until <= open.until => first,
-                _ => Some((*number, open.until)),
-            };
+            first = earlier(first, *number, open.stay.until());
         }
         first
+    }
+
+    /// The connection that goes first where no place is left: the one that would be late first of
+    /// those that aren't idle, so that peers which send or take nothing go before hosts that have
+    /// asked; or of the idle ones, where these have more than their places.
+    fn first_to_go(&self) -> Option<usize> {
+        let is_idle = IDLE_PLACES < self.idle_count();
+        let mut first: Option<(usize, Instant)> = None;
+        for (number, open) in &self.opened {
+            if open.stay.is_idle() == is_idle {
+                first = earlier(first, *number, open.stay.until());
+            }
+        }
+        first.map(|(number, _)| number)
+    }
+
+    /// How many connections are idle.
+    fn idle_count(&self) -> usize {
+        let idle = self.opened.values().filter(|open| open.stay.is_idle());
+        idle.count()
+    }
+}
+
+/// The earlier of two ends, the first of which may not be there.
+fn earlier(
+    first: Option<(usize, Instant)>,
+    number: usize,
+    until: Instant,
+) -> Option<(usize, Instant)> {
+    match first {
+        Some((_, before)) if before <= until => first,
+        _ => Some((number, until)),
     }
 }
 
 /// Warns of a connection that didn't end after whole frames. A store that failed ends the serving.
-fn end_of<G: Log>(
+pub fn end_of<G: Log>(
     log: &G,
-    peer: &SocketAddr,
+    peer: &Peer,
     end: Result<EndCause, ServeFault>,
 ) -> Result<(), RoomFault>
     ensures ok { OnOk result (end ≢ Err ServeFault.Store) }
@@ -341,7 +396,7 @@ fn end_of<G: Log>(
 }
 
 /// Warns of a connection that ended before its peer's end, or within a frame.
-fn warn_of<G: Log>(log: &G, peer: &SocketAddr, served: EndCause) {
+fn warn_of<G: Log>(log: &G, peer: &Peer, served: EndCause) {
     let how = match served {
         EndCause::InputEnd => return,
         EndCause::Enough => "enough",

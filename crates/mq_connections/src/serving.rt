@@ -4,6 +4,7 @@ ghost use Rattle.std.specs.Duration.{as_nanos};
 ghost use Rattle.mq_chore.specs.Choring.{Fitted};
 ghost use Rattle.mq_ledger.specs.Leaving.{LeavesLedger};
 ghost use Rattle.mq_server.specs.Delivery.{HasGrown};
+ghost use Rattle.mq_connections.specs.Gained.{Gains, SomebodyMayAsk};
 ghost use Rattle.mq_connections.specs.Sessions.{EndsServing, GoesOn, GoesOnOrStops, Outside, held};
 ghost use Rattle.mq_connections.specs.Waits.{idle_time, shorter};
 ghost use Rattle.mq_connections.specs.Wires.{unknown};
@@ -13,10 +14,11 @@ use crate::fault::RoomFault;
 use crate::network::Network;
 use crate::room::Room;
 use crate::sockets::{EVENTS, Sockets};
+use crate::stay::Times;
 use log::{Log, error};
 use mio::Events;
 use mq_chore::{Chore, Piece};
-use mq_ledger::Ledger;
+use mq_permits::Permits;
 use mq_server::laws::{a_life_is_served, more_deliveries, more_exchanges};
 use mq_watch::Hear;
 use std::alloc::Global;
@@ -37,18 +39,21 @@ pub enum ServingEnd {
 /// Accepts so many connections, and serves whichever has whole frames there, a few at a time; so no
 /// peer holds back the others by what it doesn't send, or doesn't take of its replies. Each end but
 /// that of whole frames is logged with the peer's address. A store that failed stops the serving,
-/// and so does a listener that accepts no more. `timeout` is how long a peer may neither send nor
-/// take anything; a whole connection has twice as long.
+/// and so does a listener that accepts no more.
+///
+/// What the permits don't allow a peer isn't put to the ledger. Without permits everybody may ask
+/// everything.
 ///
 /// Between the rounds over all that is open it goes on with the chore, first before anything has
 /// come. Once that is done the connections that are open are closed; those that came meanwhile wait
 /// at the listener, and `connections` says how many are to be accepted still.
-pub fn serve_connections<R: Clock + Net, G: Log, L: Ledger + Hear, K: Chore<L>>(
+pub fn serve_connections<R: Clock + Net, G: Log, L: Hear, K: Chore<L>>(
     rt: &R,
     log: &G,
     alloc: Global,
     listener: &TcpListener,
-    timeout: Duration,
+    times: Times,
+    permits: Option<&Permits>,
     ledger: &mut L,
     chore: &mut K,
     connections: &mut Connections,
@@ -64,6 +69,10 @@ pub fn serve_connections<R: Clock + Net, G: Log, L: Ledger + Hear, K: Chore<L>>(
         RoomFault.Store result }
     ensures history { L.has_kept ledger.new → L.is_sound ledger.old →
         HasGrown (L.book ledger.old) (L.book ledger.new) }
+    // Each request that it gained is one that the permits allow.
+    ensures gains { L.has_kept ledger.new → L.is_sound ledger.old →
+        Gains (SomebodyMayAsk permits.entry) (L.book ledger.old).history
+        (L.book ledger.new).history }
 
     // What the chore did fits the ledger with all that came.
     ensures fits { L.has_kept ledger.new → L.is_sound ledger.old →
@@ -80,7 +89,7 @@ pub fn serve_connections<R: Clock + Net, G: Log, L: Ledger + Hear, K: Chore<L>>(
         Ok(sockets) => sockets,
         Err(error) => return Err(no_wait(log, &error)),
     };
-    let outcome = serve_network(rt, log, alloc, &mut sockets, timeout, ledger, chore);
+    let outcome = serve_network(rt, log, alloc, &mut sockets, times, permits, ledger, chore);
     *connections = sockets.left();
     outcome
 }
@@ -88,12 +97,13 @@ pub fn serve_connections<R: Clock + Net, G: Log, L: Ledger + Hear, K: Chore<L>>(
 /// Serves the connections of a network until all were accepted and have ended, or the chore is
 /// done, or it has to stop. A connection is closed only after its peer was offered the replies that
 /// wait.
-pub fn serve_network<N: Network, C: Clock, G: Log, L: Ledger + Hear, K: Chore<L>>(
+pub fn serve_network<N: Network, C: Clock, G: Log, L: Hear, K: Chore<L>>(
     clock: &C,
     log: &G,
     alloc: Global,
     network: &mut N,
-    timeout: Duration,
+    times: Times,
+    permits: Option<&Permits>,
     ledger: &mut L,
     chore: &mut K,
 ) -> Result<ServingEnd, RoomFault>
@@ -106,6 +116,9 @@ pub fn serve_network<N: Network, C: Clock, G: Log, L: Ledger + Hear, K: Chore<L>
         (record { book = L.book ledger.old; told = L.told ledger.old; wires = N.wire network.old })
         (record { book = L.book ledger.new; told = L.told ledger.new; wires = N.wire network.new })
         RoomFault.Store result }
+    ensures gains { L.has_kept ledger.new → L.is_sound ledger.old →
+        Gains (SomebodyMayAsk permits.entry) (L.book ledger.old).history
+        (L.book ledger.new).history }
     ensures fits { L.has_kept ledger.new → L.is_sound ledger.old →
         Fitted (K.fits chore.old) (L.book ledger.old) → Fitted (K.fits chore.new)
         (L.book ledger.new) }
@@ -118,7 +131,7 @@ pub fn serve_network<N: Network, C: Clock, G: Log, L: Ledger + Hear, K: Chore<L>
     let mut ready = Vec::with_capacity(alloc, EVENTS)?;
     let mut room = Room::new(alloc);
     let ended = serve_rounds(
-        clock, log, network, &mut room, &mut ready, timeout, ledger, chore,
+        clock, log, network, &mut room, &mut ready, times, permits, ledger, chore,
     );
     room.close_all(network);
     ended
@@ -126,13 +139,14 @@ pub fn serve_network<N: Network, C: Clock, G: Log, L: Ledger + Hear, K: Chore<L>
 
 /// Serves the connections of a network, round by round. Where it has to stop, some may be open
 /// still.
-fn serve_rounds<N: Network, C: Clock, G: Log, L: Ledger + Hear, K: Chore<L>>(
+fn serve_rounds<N: Network, C: Clock, G: Log, L: Hear, K: Chore<L>>(
     clock: &C,
     log: &G,
     network: &mut N,
     room: &mut Room,
     ready: &mut Vec<usize>,
-    timeout: Duration,
+    times: Times,
+    permits: Option<&Permits>,
     ledger: &mut L,
     chore: &mut K,
 ) -> Result<ServingEnd, RoomFault>
@@ -151,6 +165,9 @@ fn serve_rounds<N: Network, C: Clock, G: Log, L: Ledger + Hear, K: Chore<L>>(
         } in
         GoesOn old before room.old.last (held room.old.opened) None →
         GoesOnOrStops old after room.new.last (held room.new.opened) RoomFault.Store result) }
+    ensures gains { L.has_kept ledger.new → L.is_sound ledger.old →
+        Gains (SomebodyMayAsk permits.entry) (L.book ledger.old).history
+        (L.book ledger.new).history }
     ensures fits { L.has_kept ledger.new → L.is_sound ledger.old →
         Fitted (K.fits chore.old) (L.book ledger.old) → Fitted (K.fits chore.new)
         (L.book ledger.new) }
@@ -162,7 +179,7 @@ fn serve_rounds<N: Network, C: Clock, G: Log, L: Ledger + Hear, K: Chore<L>>(
     // (the chore may have something to do before anything comes)
     let mut piece = Piece::More;
     for _round in 0..u64::MAX {
-        room.accept(clock, log, network, timeout)?;
+        room.accept(clock, log, network, times)?;
         // The last connection may just have been given up as memory ran out: then nothing more
         // comes.
         if network.is_done() && room.is_empty() {
@@ -172,7 +189,7 @@ fn serve_rounds<N: Network, C: Clock, G: Log, L: Ledger + Hear, K: Chore<L>>(
             Ok(now) => now,
             Err(error) => return Err(no_wait(log, &error)),
         };
-        room.serve(clock, log, network, ready, timeout, ledger)?;
+        room.serve(clock, log, network, ready, times, permits, ledger)?;
         room.expire(log, network, now);
         match chore.go_on(ledger) {
             Piece::Done => return Ok(ServingEnd::Chore),

@@ -145,7 +145,7 @@ fn stopped(
         is_meant,
         is_all: false,
     };
-    Ok(run_stop(alloc, link, &whose, order, output, errors))
+    Ok(run_stop(alloc, link, &whose, order, output, errors).status())
 }
 
 /// The status of a limit that is given back on this day.

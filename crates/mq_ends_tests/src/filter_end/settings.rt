@@ -62,6 +62,7 @@ fn server_text(rt: &impl Abort, alloc: Global, settings: &ServerSettings) -> Str
         keep,
         timeout,
         log,
+        ..
     } = settings;
     let days = zone_text(rt, alloc, zone);
     format!(in alloc; "{listen} {store:?} {default} {days} {keep:?} {timeout} {log:?}").expect(

@@ -2,8 +2,10 @@
 
 use crate::server_end::asserts::MEMORY;
 use mq_frame::decode_request;
+use mq_permits::Peer;
 use mq_request::{Host, Id, Login, Request, UsageRow, UsageRows};
 use std::alloc::Global;
+use std::net::SocketAddr;
 use std::process::Abort;
 
 /// The bytes of a text of hexadecimal digits, with spaces between whole bytes.
@@ -28,6 +30,14 @@ pub fn id(rt: &impl Abort, alloc: Global, host: &[u8], number: u32) -> Id {
 
 pub fn login(rt: &impl Abort, alloc: Global, name: &[u8]) -> Login {
     Login::from_slice(alloc, name).expect(rt, MEMORY)
+}
+
+/// A peer at this address, of another machine than the server's.
+pub fn stranger(address: SocketAddr) -> Peer {
+    Peer {
+        address,
+        here: None,
+    }
 }
 
 /// So many rows of the login `u`.

@@ -209,7 +209,7 @@ fn a_lost_question_leaves_the_reply(rt: HostRuntime) -> Result<(), Fail> {
             calls_before: 1,
             fault,
         };
-        let mut watched = WatchedLedger::new(&clock, &Discard, alloc, failing);
+        let mut watched = WatchedLedger::new(&clock, &Discard, alloc, failing, None);
         let answer = answer_of(&rt, &mut watched, &reserve(&rt, alloc, b"u", 4));
         let granted = Reply::Granted {
             id: id(&rt, alloc, b"a", 1),

@@ -105,7 +105,7 @@ struct Case<'a> {
     log: &'a [&'a str],
 }
 
-const REFUSED: &str = "[ERROR mq_link::logged] quota server 127.0.0.1:7025: no connection";
+const REFUSED: &str = "[ERROR mq_link::logged] quota server 127.0.0.1:7025: a reply of no bytes";
 
 const AFTER_1: &str =
     "[WARN  mq_link::logged] quota server 127.0.0.1:7025: answers again, requests without an answer: 1";
@@ -252,7 +252,7 @@ fn assert_case(rt: &impl Abort, alloc: Global, case: &Case<'_>) -> Result<(), Fa
     let staged = Staged {
         stage: &stage,
         address: "127.0.0.1:7025".parse::<SocketAddr>()?,
-        trouble: Trouble::Unconnected,
+        trouble: Trouble::Empty,
     };
     let mut link = LoggedLink::new(staged, &log, 3);
     play(alloc, &stage, &mut link, case.rows)?;

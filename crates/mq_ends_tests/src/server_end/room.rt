@@ -1,6 +1,7 @@
 //! Connections of a server that are open at once, over peers of the test's own.
 mod choring;
 mod network;
+mod together;
 
 use crate::server_end::asserts::{assert_bytes, assert_that};
 use crate::server_end::fails_once::FailsOnce;
@@ -8,7 +9,7 @@ use crate::server_end::fixtures::bytes_of;
 use crate::server_end::serving::ledger;
 use log::sink::Discard;
 use mq_chore::NoChore;
-use mq_connections::{RoomFault, ServingEnd};
+use mq_connections::{RoomFault, ServingEnd, Times};
 use mq_ledger::{Ledger, LedgerFault, Zone};
 use mq_request::{Reply, Request};
 use mq_watch::WatchedLedger;
@@ -131,7 +132,7 @@ const REPLIES_WAIT_AS_IT_FAILS: &[Row<'_>] = &[
         "0013 81 0161 0000000000000001 00000001 00000001",
     ),
     (
-        &["", SECOND_AND_THIRD],
+        &["", "", SECOND_AND_THIRD],
         usize::MAX,
         0,
         "0013 81 0161 0000000000000001 00000002 00000002",
@@ -188,14 +189,18 @@ fn check_rows_by<L: Ledger + Drop>(
     end: Result<ServingEnd, RoomFault>,
 ) -> Result<(), Fail> {
     let mut network = peers_of(rt, alloc, rows)?;
-    let timeout = Duration::from_millis(1_000);
-    let mut watched = WatchedLedger::new(clock, &Discard, alloc, ledger);
+    let times = Times {
+        timeout: Duration::from_millis(1_000),
+        idle: Duration::from_millis(1_000),
+    };
+    let mut watched = WatchedLedger::new(clock, &Discard, alloc, ledger, None);
     let ended = serve_peers(
         clock,
         &Discard,
         alloc,
         &mut network,
-        timeout,
+        times,
+        None,
         &mut watched,
         &mut NoChore,
     );

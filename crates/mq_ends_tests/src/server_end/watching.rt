@@ -2,10 +2,11 @@
 
 use crate::server_end::asserts::assert_that;
 use crate::server_end::fails_once::FailsOnce;
-use crate::server_end::fixtures::bytes_of;
+use crate::server_end::fixtures::{bytes_of, stranger};
 use crate::server_end::serving::{ledger, run};
 use log::sink::Memory as Kept;
 use mq_ledger::{Ledger, LedgerFault, Zone};
+use mq_permits::Peer;
 use mq_request::{Reply, Request};
 use mq_stream::{FromRead, WriterSink};
 use mq_watch::{Hear, WatchedLedger};
@@ -202,7 +203,7 @@ const DAYS: &[Row<'_>] = &[
     (
         0,
         "0021 01 0161 0000000000000001 00000007 00000003 000000000003f480 0175 00000001",
-        "[WARN  mq_watch::watched] connection of 192.0.2.7:40312: host a reserves for day 3, and today is day 1: its clock or the server's is wrong",
+        "[WARN  mq_watch::watched] connection of 192.0.2.7:40312: host a reserves for day 3, and today is day 1: its clock or the server's is wrong, and its recipients get 451",
     ),
     // Only reserves are looked at.
     (
@@ -211,6 +212,42 @@ const DAYS: &[Row<'_>] = &[
         "",
     ),
 ];
+
+/// A ledger of which one peer asks everything.
+#[derive(Drop)]
+struct OfOne<L> {
+    ledger: L,
+    peer: Peer,
+}
+
+impl<L: Hear> Ledger for OfOne<L> {
+    ghost told = { λ s. L.told s.ledger };
+
+    ghost book = { λ s. L.book s.ledger };
+
+    ghost has_kept = { λ s. L.has_kept s.ledger };
+
+    ghost is_sound = { λ s. L.is_sound s.ledger };
+
+    ghost has_store = { λ s. L.has_store s.ledger };
+
+    ghost sound_is_kept = { λ s. L.sound_is_kept s.ledger };
+
+    ghost sound_is_legal = { λ s. L.sound_is_legal s.ledger };
+
+    fn zone(&self) -> &Zone {
+        self.ledger.zone()
+    }
+
+    fn default_cap(&self) -> u32 {
+        self.ledger.default_cap()
+    }
+
+    fn apply(&mut self, request: &Request) -> Result<Reply, LedgerFault> {
+        let peer = self.peer;
+        self.ledger.apply_of(None, peer, request)
+    }
+}
 
 /// Serves the frames over a watched ledger, each by a clock that shows what its row says.
 fn serve_rows<L: Ledger + Drop>(
@@ -221,8 +258,10 @@ fn serve_rows<L: Ledger + Drop>(
     rows: &[Row<'_>],
 ) -> Result<(), Fail> {
     let clock = Shown(Cell::new(0));
-    let mut watched = WatchedLedger::new(&clock, log, alloc, ledger);
-    watched.hear("192.0.2.7:40312".parse()?);
+    let mut watched = OfOne {
+        ledger: WatchedLedger::new(&clock, log, alloc, ledger, None),
+        peer: stranger("192.0.2.7:40312".parse()?),
+    };
     for row in rows {
         clock.0.set(row.0);
         let input = bytes_of(rt, alloc, row.1);
@@ -333,7 +372,7 @@ fn a_thousand_hosts_an_hour(rt: HostRuntime) -> Result<(), Fail> {
     let alloc = rt.alloc();
     let log = Kept::new(alloc);
     let clock = Shown(Cell::new(864_000));
-    let mut watched = WatchedLedger::new(&clock, &log, alloc, Full(ledger(&rt, alloc, 3)));
+    let mut watched = WatchedLedger::new(&clock, &log, alloc, Full(ledger(&rt, alloc, 3)), None);
     for host in 0..1_003 {
         let input = bytes_of(&rt, alloc, frame_of(alloc, host)?.as_str());
         let mut output = WriterSink::new(Vec::new(alloc));

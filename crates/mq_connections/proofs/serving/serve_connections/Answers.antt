@@ -3,6 +3,7 @@ use Rattle.std.proofs.lemmas.Result.{err_from_is_err_and}
 use Rattle.mq_connections.specs.declared.fault.RoomFault.TheVariants as faults
 use Rattle.mq_connections.specs.Sessions.{Outside}
 use Rattle.mq_connections.specs.Wires.{unknown}
+use Rattle.mq_connections.proofs.Gaining.{gains_none}
 use Rattle.mq_connections.proofs.Standing.{has_grown, not_memory, not_store, nothing_grown, nothing_served}
 use Rattle.mq_connections.proofs.serving.serve_connections.Goals as goal
 
@@ -39,3 +40,9 @@ returns-clause-history g c = λ k s.
     let before : Outside = record { book = g.L.Ledger.book c.args.ledger.now; told = g.L.Ledger.told c.args.ledger.now; wires = unknown } in
     let after : Outside = record { book = g.L.Ledger.book c.serve_network-outcome.new.ledger; told = g.L.Ledger.told c.serve_network-outcome.new.ledger; wires = unknown } in
     has_grown before after faults.Store c.serve_network-outcome.result (c.serve_network-outcome.ensures.serves k s)
+
+pub returns-in_err-events-clause-gains : goal.returns-in_err-events-clause-gains
+returns-in_err-events-clause-gains g c = λ k s. gains_none _
+
+pub returns-in-Err-clause-gains : goal.returns-in-Err-clause-gains
+returns-in-Err-clause-gains g c = λ k s. gains_none _

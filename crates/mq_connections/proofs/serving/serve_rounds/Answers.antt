@@ -6,6 +6,7 @@ use Rattle.mq_connections.specs.declared.fault.RoomFault.TheVariants as faults
 use Rattle.mq_connections.specs.Sessions.{Outside, held}
 use Rattle.mq_connections.specs.declared.serving.ServingEnd.TheVariants as ends
 use Rattle.mq_connections.proofs.Choring.{fitted_now, fitted_on, goes_alongside, goes_at}
+use Rattle.mq_connections.proofs.Gaining.{gains_as, gains_more, gains_none}
 use Rattle.mq_connections.proofs.Standing.{goes_as, goes_last, goes_on, goes_so, not_store, rewired}
 use Rattle.mq_connections.proofs.serving.serve_rounds.Goals as goal
 
@@ -13,6 +14,7 @@ pub loop-round-init : goal.loop-round-init
 loop-round-init g c = record {
   leaves = left_alone;
   fits = λ k s f. f;
+  gains = λ k s. gains_none _;
   goes = λ k s old start. start;
 }
 
@@ -30,6 +32,11 @@ loop-round-preserved g c =
           fitted_now c.more_deliveries.ensures.none (g.K.Chore.fits c.go_on.new.self) (g.L.Ledger.book c.go_on.new.ledger) (g.met.L.Ledger.sound_is_legal c.go_on.new.ledger (o.leaves.sound k mid))
           (o.fits k mid (fitted_on c.more_deliveries.ensures.more (g.K.Chore.fits c.loop-round.chore) (g.L.Ledger.book c.loop-round.ledger) (g.L.Ledger.book c.serve.new.ledger) (g.met.L.Ledger.sound_is_legal c.loop-round.ledger sound)
           e.leaves.same_zone e.leaves.same_default (e.grows kept sound) (i.fits before s f)));
+      gains = λ k s.
+          let kept = o.leaves.kept k in
+          let before = e.leaves.kept kept in
+          let sound = i.leaves.sound before s in
+          gains_as _ _ _ (sym (o.history k (e.leaves.sound kept sound))) (gains_more _ _ _ (i.gains before s) (e.gains kept sound));
       goes = λ k s old start.
           let kept = o.leaves.kept k in
           let before = e.leaves.kept kept in
@@ -157,3 +164,20 @@ returns-in_err-serve-clause-fits g c = λ k s f.
     let sound = i.leaves.sound before s in
     fitted_on c.more_deliveries.ensures.more (g.K.Chore.fits c.loop-round.chore) (g.L.Ledger.book c.loop-round.ledger) (g.L.Ledger.book c.serve.new.ledger) (g.met.L.Ledger.sound_is_legal c.loop-round.ledger sound)
     e.leaves.same_zone e.leaves.same_default (e.grows k sound) (i.fits before s f)
+
+pub returns-in-Done-clause-gains : goal.returns-in-Done-clause-gains
+returns-in-Done-clause-gains g c = λ k s.
+    let i = c.loop-round.invariant in
+    let e = c.in_ok-serve.ensures in
+    let o = c.go_on.ensures in
+    let kept = o.leaves.kept k in
+    let before = e.leaves.kept kept in
+    let sound = i.leaves.sound before s in
+    gains_as _ _ _ (sym (o.history k (e.leaves.sound kept sound))) (gains_more _ _ _ (i.gains before s) (e.gains kept sound))
+
+pub returns-in_err-serve-clause-gains : goal.returns-in_err-serve-clause-gains
+returns-in_err-serve-clause-gains g c = λ k s.
+    let i = c.loop-round.invariant in
+    let e = c.in_err-serve.ensures in
+    let before = e.leaves.kept k in
+    gains_more _ _ _ (i.gains before s) (e.gains k (i.leaves.sound before s))

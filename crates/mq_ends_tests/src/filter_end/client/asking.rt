@@ -83,12 +83,12 @@ fn close(rt: &impl Abort, rig: &mut Rig, txn: u32, end: CloseEnd) {
 }
 
 fn assert_refused(rt: &impl Abort, rig: &mut Rig, session: &[u8], txn: u32) {
-    rig.client.set_session(session);
+    rig.client.set_line(session, None);
     assert_asked(rt, rig, txn, 86_400, b"u", RecipientAnswer::Unavailable);
 }
 
 fn assert_granted(rt: &impl Abort, rig: &mut Rig, count: u32) {
-    rig.client.set_session(b"s");
+    rig.client.set_line(b"s", None);
     for _ in 0..count {
         assert_asked(rt, rig, 1, 86_400, b"u", RecipientAnswer::Granted);
     }
@@ -337,7 +337,10 @@ const DECIDING: &[Case<'static>] = &[
             GRANTED,
             Reply::Body("90 036d7831 0000000000000001 00000002"),
         ],
-        log: Some(&["settle 2 of transaction 7 (host mx1, login u): the run is retired"]),
+        log: Some(&[
+            "run 1 of host mx1 is retired, recipients are answered 451: restart smtpd, but first see \"A filter that is retired\" in OPERATING.md",
+            "settle 2 of transaction 7 (host mx1, login u): the run is retired",
+        ]),
         ..DECIDED
     },
 ];

@@ -108,6 +108,7 @@ const OTHER_REPLIES: &[Row<'static>] = &[
         sent: Sent::Frames(&[RESERVE, RELEASE]),
         held: 0,
         log: Some(&[
+            "run 1 of host mx1 is retired, recipients are answered 451: restart smtpd, but first see \"A filter that is retired\" in OPERATING.md",
             "reserve 1 of transaction 1 (host mx1, session 7641df9771b4ed00, login alice): the run is retired",
             "release 2 of transaction 1 (host mx1, session 7641df9771b4ed00, login alice): the run is retired",
         ]),

@@ -7,7 +7,7 @@ use crate::server_end::fixtures::bytes_of;
 use crate::server_end::serving::ledger;
 use log::sink::Discard;
 use mq_chore::{Chore, Piece};
-use mq_connections::{RoomFault, ServingEnd};
+use mq_connections::{RoomFault, ServingEnd, Times};
 use mq_ledger::Ledger;
 use mq_watch::{InnerChore, WatchedLedger};
 use std::alloc::Global;
@@ -54,8 +54,11 @@ struct Came {
 fn serve_with(rt: &impl Abort, alloc: Global, pieces: &[Piece]) -> Result<Came, Fail> {
     let clock = Ticking(Cell::new(0));
     let mut network = peers_of(rt, alloc, &[ASKS_ONCE])?;
-    let timeout = Duration::from_millis(1_000);
-    let mut watched = WatchedLedger::new(&clock, &Discard, alloc, ledger(rt, alloc, 3));
+    let times = Times {
+        timeout: Duration::from_millis(1_000),
+        idle: Duration::from_millis(1_000),
+    };
+    let mut watched = WatchedLedger::new(&clock, &Discard, alloc, ledger(rt, alloc, 3), None);
     let mut wanted = VecDeque::new(alloc);
     for piece in pieces {
         wanted.push_back(*piece)?;
@@ -71,7 +74,8 @@ fn serve_with(rt: &impl Abort, alloc: Global, pieces: &[Piece]) -> Result<Came, 
         &Discard,
         alloc,
         &mut network,
-        timeout,
+        times,
+        None,
         &mut watched,
         &mut chore,
     );

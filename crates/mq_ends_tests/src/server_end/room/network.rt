@@ -5,14 +5,16 @@ ghost use Rattle.std.specs.Prelude.{IfSome};
 ghost use Rattle.std.specs.Io.{ReadsAtMost, WritesAtMost};
 ghost use Rattle.std.specs.Io.KnownBytes.{ReadConsumes, WriteAppends};
 ghost use Rattle.mq_chore.specs.Choring.{Fitted};
+ghost use Rattle.mq_connections.specs.Gained.{Gains, SomebodyMayAsk};
 ghost use Rattle.mq_connections.specs.Wires.{Leaves};
 ghost use Rattle.mq_connections.specs.Sessions.{EndsServing};
 ghost use Rattle.mq_ends_tests.specs.Peers.{wires_of};
 
+use crate::server_end::fixtures::stranger;
 use log::Log;
 use mq_chore::Chore;
-use mq_connections::{Network, RoomFault, ServingEnd, serve_network};
-use mq_ledger::Ledger;
+use mq_connections::{Network, RoomFault, ServingEnd, Times, serve_network};
+use mq_permits::{Peer as Asker, Permits};
 use mq_watch::Hear;
 use std::alloc::{AllocError, Global};
 use std::cell::Cell;
@@ -219,12 +221,12 @@ impl Network for Peers {
 
     ghost is_over = { λ network. vec_len network.peers ≤ network.accepted };
 
-    fn accept(&mut self, number: usize) -> Result<Option<SocketAddr>, RoomFault> {
+    fn accept(&mut self, number: usize) -> Result<Option<Asker>, RoomFault> {
         if self.is_done() {
             return Ok(None);
         }
         self.accepted = number;
-        Ok(Some(self.address))
+        Ok(Some(stranger(self.address)))
     }
 
     fn is_done(&self) -> bool {
@@ -286,12 +288,13 @@ fn add_all(ready: &mut Vec<usize>, count: usize) -> Result<(), AllocError> {
 /// Serves the peers to their ends, or until the chore is done. Of each connection is known what was
 /// read of its peer, what was written to it and what it left, so what is said of the serving is
 /// said of these bytes.
-pub fn serve_peers<C: Clock, G: Log, L: Ledger + Hear, K: Chore<L>>(
+pub fn serve_peers<C: Clock, G: Log, L: Hear, K: Chore<L>>(
     clock: &C,
     log: &G,
     alloc: Global,
     network: &mut Peers,
-    timeout: Duration,
+    times: Times,
+    permits: Option<&Permits>,
     ledger: &mut L,
     chore: &mut K,
 ) -> Result<ServingEnd, RoomFault>
@@ -307,9 +310,12 @@ pub fn serve_peers<C: Clock, G: Log, L: Ledger + Hear, K: Chore<L>>(
           wires = wires_of network.new.peers.items;
         })
         RoomFault.Store result }
+    ensures gains { L.has_kept ledger.new → L.is_sound ledger.old →
+        Gains (SomebodyMayAsk permits.entry) (L.book ledger.old).history
+        (L.book ledger.new).history }
     ensures done { L.has_kept ledger.new → L.is_sound ledger.old
         → Fitted (K.fits chore.old) (L.book ledger.old) →
         result ≡ Ok ServingEnd.Chore → K.is_done chore.new (L.book ledger.new) }
 {
-    serve_network(clock, log, alloc, network, timeout, ledger, chore)
+    serve_network(clock, log, alloc, network, times, permits, ledger, chore)
 }

@@ -15,8 +15,8 @@ returns-in-Ok-eq0-clause-reads g c =
     reads_none a b c.args.self.now.connection c.close.new.self Answered (gave_none a b c.read.result c.read.new.piece is c.read.ensures.bytes) (λ _. inr (gave_end a b c.read.result c.read.new.piece is some c.read.ensures.bytes)) c.close.ensures.lives
 
 pub returns-in-Ok-receive-clause-reads : goal.returns-in-Ok-receive-clause-reads
-returns-in-Ok-receive-clause-reads g c = reads_some (g.N.Network.wire c.args.network.now c.args.number).remaining (g.N.Network.wire c.read.new.self c.args.number).remaining c.args.self.now.connection c.receive.new.self c.stay.new.self.connection Answered
-    _ (take c.in-Ok.count c.read.new.piece) refl c.stay.ensures (ap (λ (x : State). x.is_closed) c.in-Ok-receive.ensures.ok) c.in-Ok.ensures.bytes.0 (λ l here. c.in-Ok-receive.ensures.lives l here c.requires)
+returns-in-Ok-receive-clause-reads g c = reads_some (g.N.Network.wire c.args.network.now c.args.number).remaining (g.N.Network.wire c.read.new.self c.args.number).remaining c.args.self.now.connection c.receive.new.self c.note_activity.new.self.connection Answered
+    _ (take c.in-Ok.count c.read.new.piece) refl c.note_activity.ensures (ap (λ (x : State). x.is_closed) c.in-Ok-receive.ensures.ok) c.in-Ok.ensures.bytes.0 (λ l here. c.in-Ok-receive.ensures.lives l here c.requires)
 
 pub returns-in-Err-receive-clause-reads : goal.returns-in-Err-receive-clause-reads
 returns-in-Err-receive-clause-reads g c =

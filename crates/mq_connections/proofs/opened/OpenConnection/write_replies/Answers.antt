@@ -10,8 +10,8 @@ returns-in-Ok-eq0-clause-writes g c =
     writes_none a b c.args.self.now.connection (wrote_none a b c.write.result c.replies.result.now (c.in-Ok-eq0.is ∙ ap Ok c.in-Ok-eq0.field-0-test) c.write.ensures.bytes)
 
 pub returns-in-Ok-clause-writes : goal.returns-in-Ok-clause-writes
-returns-in-Ok-clause-writes g c = writes_some (g.N.Network.wire c.args.network.now c.args.number).contents (g.N.Network.wire c.write.new.self c.args.number).contents c.args.self.now.connection c.take_replies.new.self c.stay.new.self.connection
-    c.replies.result.now c.in-Ok.count c.replies.ensures c.stay.ensures c.in-Ok.ensures.bytes c.take_replies.ensures.lives
+returns-in-Ok-clause-writes g c = writes_some (g.N.Network.wire c.args.network.now c.args.number).contents (g.N.Network.wire c.write.new.self c.args.number).contents c.args.self.now.connection c.take_replies.new.self c.note_activity.new.self.connection
+    c.replies.result.now c.in-Ok.count c.replies.ensures c.note_activity.ensures c.in-Ok.ensures.bytes c.take_replies.ensures.lives
 
 pub returns-in-Err-clause-writes : goal.returns-in-Err-clause-writes
 returns-in-Err-clause-writes g c =

@@ -5,9 +5,11 @@ use Rattle.mq_lemmas.proofs.Options.{ok_not}
 use Rattle.mq_server.specs.declared.connection.Progress.TheVariants.{Ended}
 use Rattle.mq_server.specs.declared.fault.ServeFault.TheVariants as ends
 use Rattle.mq_connections.specs.declared.fault.RoomFault.TheVariants as faults
+use Rattle.mq_connections.specs.Asking.{peer_of}
 use Rattle.mq_connections.specs.Sessions.{Outside, held}
 use Rattle.mq_connections.proofs.Maps.{held_beside, held_here, held_now, same_map}
 use Rattle.mq_server.specs.Life.{deliveries}
+use Rattle.mq_connections.proofs.Gaining.{gains_none, gains_so, peer_here}
 use Rattle.mq_connections.proofs.Standing.{nothing_grown, TurnOf, closed_turn, goes_last, goes_open, goes_so, goes_stop_last, rewired, turn_closed}
 use Rattle.mq_connections.proofs.Turning.{answered_room, answered_works, waits_room, waits_works}
 use Rattle.mq_connections.proofs.room.Room.serve_one.Goals as goal
@@ -104,3 +106,24 @@ returns-in-Answered-clause-grows g c = λ k s. let t = c.give_turns.ensures.turn
 
 pub returns-in-Ended-clause-grows : goal.returns-in-Ended-clause-grows
 returns-in-Ended-clause-grows g c = λ k s. let t = c.give_turns.ensures.turns k s in (deliveries t.exchanges, t.answered.after)
+
+pub returns-in_default-clause-gains : goal.returns-in_default-clause-gains
+returns-in_default-clause-gains g c = λ k s. gains_none _
+
+pub returns-in-Waits-clause-gains : goal.returns-in-Waits-clause-gains
+returns-in-Waits-clause-gains g c = λ k s.
+    let was = c.args.self.now.opened in
+    let found : Some c.in-Some.«open».now ≡ get nat_cmp was c.args.number = search rules in
+    gains_so (λ r may. (c.args.number, c.in-Some.«open».now.peer, peer_here was c.args.number c.in-Some.«open».now found, may)) _ _ (c.give_turns.ensures.gains k s)
+
+pub returns-in-Answered-clause-gains : goal.returns-in-Answered-clause-gains
+returns-in-Answered-clause-gains g c = λ k s.
+    let was = c.args.self.now.opened in
+    let found : Some c.in-Some.«open».now ≡ get nat_cmp was c.args.number = search rules in
+    gains_so (λ r may. (c.args.number, c.in-Some.«open».now.peer, peer_here was c.args.number c.in-Some.«open».now found, may)) _ _ (c.give_turns.ensures.gains k s)
+
+pub returns-in-Ended-clause-gains : goal.returns-in-Ended-clause-gains
+returns-in-Ended-clause-gains g c = λ k s.
+    let was = c.args.self.now.opened in
+    let found : Some c.in-Some.«open».now ≡ get nat_cmp was c.args.number = search rules in
+    gains_so (λ r may. (c.args.number, c.in-Some.«open».now.peer, peer_here was c.args.number c.in-Some.«open».now found, may)) _ _ (c.give_turns.ensures.gains k s)

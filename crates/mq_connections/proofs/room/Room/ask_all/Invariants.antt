@@ -1,0 +1,10 @@
+use Rattle.mq_connections.specs.Asking.{AreAsked, ArePeers}
+use Rattle.mq_connections.specs.Sessions.{held}
+use Rattle.mq_connections.proofs.room.Room.ask_all.Given as goal
+
+-- those that were added stand next
+abbrev pub invariant-loop-number : goal.invariant-loop-number
+invariant-loop-number l = record {
+  asked : AreAsked (held l.fn.self.opened) l.fn.asked.numbers.items l.fn.asked.requests.items → AreAsked (held l.fn.self.opened) l.asked.numbers.items l.asked.requests.items;
+  peers : ArePeers l.fn.self.opened l.fn.asked.numbers.items l.fn.asked.peers.items → ArePeers l.fn.self.opened l.asked.numbers.items l.asked.peers.items;
+}
