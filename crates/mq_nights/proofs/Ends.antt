@@ -27,11 +27,12 @@ night_on (Ok (Some a)) P Q f p = f a p
 night_on (Ok None) P Q f p = tt
 night_on (Err e) P Q f p = tt
 
--- the new ledger that was taken out of a chore that is done
-pub taken : {R A : Type 0} (o : Option R) (renewed : Option A) (n : A) (D : R → Type 0) (J : R → A → Type 0) → renewed ≡ Some n → MatchOption o ⊥ D → MatchOption o (renewed ≡ None) (λ r. IfSome renewed (J r))
-    → (r : R) × D r × J r n
-taken None renewed n D J is d j = absurd d
-taken (Some r) renewed n D J is d j = (r, d, subst (λ x. IfSome x (J r)) is j)
+-- what follows of the new ledger that was taken out of a chore that is done
+pub taken : {R A : Type 0} (o : Option R) (renewed : Option A) (D : R → Type 0) (J : R → A → Type 0) (Q : A → Type 0) → MatchOption o ⊥ D → MatchOption o (renewed ≡ None) (λ r. IfSome renewed (J r))
+    → ((r : R) (n : A) → D r → J r n → Q n) → IfSome renewed Q
+taken None renewed D J Q d j f = absurd d
+taken (Some r) (Some n) D J Q d j f = f r n d j
+taken (Some r) None D J Q d j f = tt
 
 -- it has what is remembered
 pub remembered_by : (zone zone' : Zone) (default default' day day' : ℕ) (old : Database) (new : State) → zone' ≡ zone → default' ≡ default → day' ≡ day

@@ -1,24 +1,34 @@
 //! A renewal that begins once days are due, beside the requests to the old ledger.
-ghost use Rattle.std.specs.Prelude.{◌≡◌, List, None, Some, IfOk, IfSome, IsTrue, MatchOption, OnOk};
+ghost use Rattle.std.specs.Prelude.{◌≡◌, ◌⊎◌, ◌+◌, length, List, None, Some, option_map};
+ghost use Rattle.std.specs.Prelude.{IfOk, IfSome, IsTrue, MatchOption, OnOk};
+ghost use Rattle.std.specs.Duration.{as_nanos};
 ghost use Rattle.sqlite.specs.Held.{state};
 ghost use Rattle.sqlite.specs.Steps.{over_memory};
 ghost use Rattle.mq_request.specs.Range.{IsAmount};
 ghost use Rattle.mq_ledger.specs.declared.entry.Entry.{Entry as AnyEntry};
+ghost use Rattle.mq_store.specs.Renewing.{came_since, GoesAtMost};
 ghost use Rattle.mq_store.specs.Soundness.{book_in, HasKept, IsSound};
 ghost use Rattle.mq_store.specs.Taking.{book_of};
-ghost use Rattle.mq_nights.specs.Nights.{FindsDue, HasRenewed, IsUnderWay, RestsAnHour};
+ghost use Rattle.mq_connections.specs.Waits.{idle_time, shorter};
+ghost use Rattle.mq_nights.specs.Nights.{EndsNight, FindsDue, FitsNight, HasRenewed, IsUnderWay};
+ghost use Rattle.mq_nights.specs.Nights.{Rests, RestsAnHour};
+ghost use Rattle.mq_chore.specs.Choring.{Fitted, HasCome};
 
-use crate::lookout::{Lookout, Sight};
+use crate::lookout::{Lookout, Seen, Sight};
+use crate::moments::Moments;
 use crate::parts::Parts;
+use crate::terms::NightTerms;
 use log::{Log, info, warn};
-use mq_chore::{Chore, Piece};
+use mq_chore::Piece;
 use mq_ledger::{Ledger, LedgerFault, Zone};
+use mq_server::laws::more_deliveries;
 use mq_store::{OpenFault, OpenRefused, Renewal, SqlLedger, arrivals_leave_what_was_taken_over};
 use sqlite::Alter;
 use std::alloc::Global;
 use std::fmt::Display;
+use std::marker::PhantomData;
 use std::rt::Clock;
-use std::time::Instant;
+use std::time::{Duration, Instant};
 
 /// How many steps a piece has, beside one for each answer that the old ledger got since the last
 /// piece. Between few requests a piece costs one that comes meanwhile at most 10 ms; after many of
@@ -107,6 +117,13 @@ fn renew<N: Alter, S: Alter, G: Log>(
         (state S.Store ledger.new.connection).now)
         renewal.new.day renewal.new.reached (state N.Store renewal.new.made.connection)
         (state over_memory renewal.new.scratch.connection)) }
+    ensures slice { IfOk result (λ _. IfSome renewal.new.heard (λ arrivals.
+        GoesAtMost (32 + came_since renewal.old.heard arrivals)
+        renewal.old.reached renewal.new.reached)) }
+    ensures heard { HasKept (state S.Store ledger.new.connection)
+        → IsSound ledger.old.zone ledger.old.default (state S.Store ledger.old.connection)
+        → IfOk result (λ _. renewal.new.heard ≡ Some (length (book_in ledger.old.zone
+        ledger.old.default (state S.Store ledger.old.connection).now).history)) }
     ensures through { HasKept (state S.Store ledger.new.connection)
         → IsSound ledger.old.zone ledger.old.default (state S.Store ledger.old.connection)
         → IfOk result (λ is_through. IsTrue is_through
@@ -139,7 +156,7 @@ fn log_fault<N: Alter, G: Log>(log: &G, renewal: &Renewal<N>, fault: LedgerFault
 /// A renewal beside the requests to the old ledger, which begins once days are due to be forgotten.
 /// Where a store fails the renewal ends, not the serving, and another one begins an hour later.
 #[derive(Drop)]
-pub struct Evening<'a, C, G, N: Alter, P> {
+pub struct Evening<'a, C, G, N: Alter, P, K> {
     clock: &'a C,
     log: &'a G,
     alloc: Global,
@@ -148,6 +165,7 @@ pub struct Evening<'a, C, G, N: Alter, P> {
     renewal: Option<Renewal<N>>,
     /// When that began.
     began: Option<Instant>,
+    terms: PhantomData<K>,
 }
 
 /// A new ledger, which takes over what the old one remembers from a day on: exactly that, once its
@@ -159,21 +177,24 @@ pub struct RenewedLedger<N: Alter> {
     pub day: u32,
     /// When its renewal began, where the clock could be read.
     pub began: Option<Instant>,
-    /// The night in which it was begun, which has nothing left to do.
-    pub night: Option<u32>,
+    /// What was seen to: that day among it.
+    pub seen: Seen,
 }
 
-impl<'a, C: Clock, G: Log, N: Alter + Drop, P: Parts<N> + Drop> Evening<'a, C, G, N, P> {
-    /// Nothing is renewed yet. Of the old ledger today stays, and so many days before: 1 to 366. In
-    /// this night nothing is left to do.
+impl<'a, C, G: Log, N: Alter + Drop, P: Parts<N> + Drop, K: NightTerms> Evening<'a, C, G, N, P, K>
+where
+    C: Clock + Moments,
+{
+    /// Nothing is renewed yet. So many days before the one that it goes by are kept, 1 to 366, and
+    /// these were seen to.
     pub fn new(
         clock: &'a C,
         log: &'a G,
         alloc: Global,
         keep: u32,
-        done: Option<u32>,
+        seen: Seen,
         parts: P,
-    ) -> Evening<'a, C, G, N, P>
+    ) -> Evening<'a, C, G, N, P, K>
         ensures nothing { result.renewal ≡ None }
         ensures keep { result.lookout.keep ≡ keep }
     {
@@ -181,10 +202,11 @@ impl<'a, C: Clock, G: Log, N: Alter + Drop, P: Parts<N> + Drop> Evening<'a, C, G
             clock,
             log,
             alloc,
-            lookout: Lookout::new(clock, log, keep, done),
+            lookout: Lookout::new(clock, log, keep, seen),
             parts,
             renewal: None,
             began: None,
+            terms: PhantomData,
         }
     }
 
@@ -192,7 +214,7 @@ impl<'a, C: Clock, G: Log, N: Alter + Drop, P: Parts<N> + Drop> Evening<'a, C, G
     pub fn into_renewed(self) -> Option<RenewedLedger<N>>
         ensures made { MatchOption self.entry.renewal (result ≡ None)
             (λ r. IfSome result (λ n. (n.ledger ≡ r.made) × (n.day ≡ r.day))) }
-        ensures night { IfSome result (λ n. n.night ≡ self.entry.lookout.done) }
+        ensures seen { IfSome result (λ n. n.seen ≡ self.entry.lookout.seen) }
     {
         let Evening {
             clock: _,
@@ -202,6 +224,7 @@ impl<'a, C: Clock, G: Log, N: Alter + Drop, P: Parts<N> + Drop> Evening<'a, C, G
             parts: _,
             renewal,
             began,
+            terms: _,
         } = self;
         let renewal = renewal?;
         let day = renewal.day();
@@ -210,13 +233,13 @@ impl<'a, C: Clock, G: Log, N: Alter + Drop, P: Parts<N> + Drop> Evening<'a, C, G
             ledger,
             day,
             began,
-            night: lookout.done,
+            seen: lookout.seen,
         })
     }
 
-    /// It looks again in an hour, also in the same night.
+    /// It looks again in an hour, whatever was seen to.
     fn rest_an_hour(&mut self) -> Piece
-        ensures rests { RestsAnHour self.new.lookout.done result }
+        ensures rests { RestsAnHour self.new.lookout.seen.first result }
         ensures keep { self.new.lookout.keep ≡ self.old.lookout.keep }
         ensures renewal { self.new.renewal ≡ self.old.renewal }
     {
@@ -226,18 +249,37 @@ impl<'a, C: Clock, G: Log, N: Alter + Drop, P: Parts<N> + Drop> Evening<'a, C, G
     /// Gives a renewal up that failed. Another one may begin in an hour.
     fn give_up(&mut self) -> Piece
         ensures gone { self.new.renewal ≡ None }
-        ensures rests { RestsAnHour self.new.lookout.done result }
+        ensures rests { RestsAnHour self.new.lookout.seen.first result }
+        ensures keep { self.new.lookout.keep ≡ self.old.lookout.keep }
     {
         self.renewal = None;
         self.parts.discard();
         self.rest_an_hour()
     }
 
+    /// Looks after the disk, once a piece was done, and gives a renewal up for which there is too
+    /// little room: another one may begin in an hour. Says what is wanted next.
+    pub(crate) fn look_after_disk(&mut self, piece: Piece) -> Piece
+        ensures done { result ≡ Piece.Done → piece ≡ Piece.Done }
+        ensures renewal { (self.new.renewal ≡ None) ⊎ (self.new.renewal ≡ self.old.renewal) }
+        ensures keep { self.new.lookout.keep ≡ self.old.lookout.keep }
+    {
+        let look = self.parts.look(self.renewal.is_some());
+        match &self.renewal {
+            Some(renewal) if look.is_scarce => {
+                log_stay(self.log, renewal.day(), &"too little room on the disk");
+            }
+            _ => return within(look.next, piece),
+        }
+        within(look.next, self.give_up())
+    }
+
     /// Begins a renewal of a ledger of this zone and default.
     fn begin(&mut self, zone: Zone, default: u32, day: u32) -> Piece
         requires { IsAmount default }
         ensures more { result ≡ Piece.Done → ⊥ }
-        ensures rests { self.new.renewal ≡ None → RestsAnHour self.new.lookout.done result }
+        ensures rests { self.new.renewal ≡ None → RestsAnHour self.new.lookout.seen.first result }
+        ensures keep { self.new.lookout.keep ≡ self.old.lookout.keep }
         ensures lent { IfSome self.new.renewal (λ r. (r.made.zone ≡ zone)
             × (r.made.default ≡ default) × (r.day ≡ day)) }
         ensures begun { IfSome self.new.renewal (λ r. P.is_fresh → (H : List AnyEntry) →
@@ -257,6 +299,8 @@ impl<'a, C: Clock, G: Log, N: Alter + Drop, P: Parts<N> + Drop> Evening<'a, C, G
     fn look<S: Alter>(&mut self, ledger: &mut SqlLedger<S>) -> Piece
         requires { self.old.renewal ≡ None }
         ensures more { result ≡ Piece.Done → ⊥ }
+        ensures rests { self.new.renewal ≡ None → Rests result }
+        ensures keep { self.new.lookout.keep ≡ self.old.lookout.keep }
         ensures old_lent { (ledger.new.zone ≡ ledger.old.zone)
             × (ledger.new.default ≡ ledger.old.default) }
         ensures old_kept { HasKept (state S.Store ledger.new.connection)
@@ -269,7 +313,7 @@ impl<'a, C: Clock, G: Log, N: Alter + Drop, P: Parts<N> + Drop> Evening<'a, C, G
             → IsSound ledger.new.zone ledger.new.default (state S.Store ledger.new.connection) }
         ensures due { HasKept (state S.Store ledger.new.connection)
             → IsSound ledger.old.zone ledger.old.default (state S.Store ledger.old.connection)
-            → IfSome self.new.renewal (λ r. FindsDue self.old.lookout.keep
+            → IfSome self.new.renewal (λ r. FindsDue C.shows self.old.lookout.keep
             (book_in ledger.old.zone ledger.old.default
             (state S.Store ledger.old.connection).now) (Sight.Before r.day)) }
         ensures lent { IfSome self.new.renewal (λ r. (r.made.zone ≡ ledger.new.zone)
@@ -283,6 +327,60 @@ impl<'a, C: Clock, G: Log, N: Alter + Drop, P: Parts<N> + Drop> Evening<'a, C, G
             Sight::Before(day) => self.begin(*ledger.zone(), ledger.default_cap(), day),
         }
     }
+
+    /// Looks whether days are due, or goes on with the renewal. Where one failed, or couldn't begin,
+    /// another one may begin in an hour.
+    pub(crate) fn go_on<S: Alter>(&mut self, ledger: &mut SqlLedger<S>) -> Piece
+        ensures old_lent { (ledger.new.zone ≡ ledger.old.zone)
+            × (ledger.new.default ≡ ledger.old.default) }
+        ensures old_kept { HasKept (state S.Store ledger.new.connection)
+            → HasKept (state S.Store ledger.old.connection) }
+        ensures old_same { HasKept (state S.Store ledger.new.connection)
+            → (state S.Store ledger.new.connection).now
+            ≡ (state S.Store ledger.old.connection).now }
+        ensures old_sound { HasKept (state S.Store ledger.new.connection)
+            → IsSound ledger.old.zone ledger.old.default (state S.Store ledger.old.connection)
+            → IsSound ledger.new.zone ledger.new.default (state S.Store ledger.new.connection) }
+        ensures rests { self.new.renewal ≡ None
+            → MatchOption self.old.renewal (Rests result)
+            (λ _. RestsAnHour self.new.lookout.seen.first result) }
+
+        // What was done so far fits what the ledger means, whatever came to it since.
+        ensures fits { HasKept (state S.Store ledger.new.connection)
+            → IsSound ledger.old.zone ledger.old.default (state S.Store ledger.old.connection)
+            → Fitted (λ b. (self.old.lookout.keep ≡ K.keep) × HasCome K.begun b
+            × IfSome self.old.renewal (λ r. FitsNight P.is_fresh C.shows K.keep K.begun b
+            r.made.zone r.made.default r.day r.reached (state N.Store r.made.connection)
+            (state over_memory r.scratch.connection)))
+            (book_in ledger.old.zone ledger.old.default (state S.Store ledger.old.connection).now)
+            → (let b = book_in ledger.new.zone ledger.new.default
+            (state S.Store ledger.new.connection).now in
+            (self.new.lookout.keep ≡ K.keep) × HasCome K.begun b
+            × IfSome self.new.renewal (λ r. FitsNight P.is_fresh C.shows K.keep K.begun b
+            r.made.zone r.made.default r.day r.reached (state N.Store r.made.connection)
+            (state over_memory r.scratch.connection))) }
+        ensures done { HasKept (state S.Store ledger.new.connection)
+            → IsSound ledger.old.zone ledger.old.default (state S.Store ledger.old.connection)
+            → Fitted (λ b. (self.old.lookout.keep ≡ K.keep) × HasCome K.begun b
+            × IfSome self.old.renewal (λ r. FitsNight P.is_fresh C.shows K.keep K.begun b
+            r.made.zone r.made.default r.day r.reached (state N.Store r.made.connection)
+            (state over_memory r.scratch.connection)))
+            (book_in ledger.old.zone ledger.old.default (state S.Store ledger.old.connection).now)
+            → result ≡ Piece.Done
+            → MatchOption self.new.renewal ⊥ (λ r. EndsNight P.is_fresh C.shows K.keep K.begun
+            (book_in ledger.new.zone ledger.new.default (state S.Store ledger.new.connection).now)
+            r.made.zone r.made.default r.day (state N.Store r.made.connection)) }
+    {
+        arrivals_leave_what_was_taken_over();
+        more_deliveries();
+        let Some(renewal) = &mut self.renewal else {
+            return self.look(ledger);
+        };
+        match renew(self.log, renewal, ledger) {
+            Ok(is_through) => piece_of(is_through),
+            Err(_) => self.give_up(),
+        }
+    }
 }
 
 /// What a renewal wants next.
@@ -292,30 +390,14 @@ fn piece_of(is_through: bool) -> Piece
     if is_through { Piece::Done } else { Piece::More }
 }
 
-impl<'a, C: Clock, G: Log, N: Alter + Drop, P: Parts<N> + Drop, S: Alter> Chore<SqlLedger<S>>
-    for Evening<'a, C, G, N, P> {
-    ghost use Rattle.std.specs.Prelude.{◌≡◌, IfSome, MatchOption};
-    ghost use Rattle.sqlite.specs.Held.{state};
-    ghost use Rattle.sqlite.specs.Steps.{over_memory};
-    ghost use Rattle.mq_nights.specs.Nights.{HasRenewed, IsUnderWay};
-
-    ghost fits = { λ e b. IfSome e.renewal (λ r. (r.made.zone ≡ b.zone)
-        × (r.made.default ≡ b.default)
-        × (P.is_fresh → IsUnderWay b r.day r.reached (state N.Store r.made.connection)
-        (state over_memory r.scratch.connection))) };
-
-    ghost is_done = { λ e b. MatchOption e.renewal ⊥ (λ r. (r.made.zone ≡ b.zone)
-        × (r.made.default ≡ b.default)
-        × (P.is_fresh → HasRenewed b r.day (state N.Store r.made.connection))) };
-
-    fn go_on(&mut self, ledger: &mut SqlLedger<S>) -> Piece {
-        arrivals_leave_what_was_taken_over();
-        let Some(renewal) = &mut self.renewal else {
-            return self.look(ledger);
-        };
-        match renew(self.log, renewal, ledger) {
-            Ok(is_through) => piece_of(is_through),
-            Err(_) => self.give_up(),
-        }
+/// What is wanted after a piece, and at the latest after so long.
+fn within(time: Duration, piece: Piece) -> Piece
+    ensures done { result ≡ Piece.Done → piece ≡ Piece.Done }
+    ensures time { idle_time result ≡ shorter (idle_time piece) (option_map as_nanos (Some time)) }
+{
+    match piece {
+        Piece::Later(other) if other <= time => Piece::Later(other),
+        Piece::Later(_) | Piece::Nothing => Piece::Later(time),
+        Piece::More | Piece::Done => piece,
     }
 }

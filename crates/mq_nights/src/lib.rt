@@ -9,28 +9,35 @@
 //!         log,
 //!         rt.alloc(),
 //!         listener,
-//!         timeout,
+//!         times,
+//!         nights.permits,
 //!         nights.keep,
-//!         done,
+//!         seen,
 //!         parts,
 //!         &mut serving,
 //!         left,
 //!     ) {
 //!
-//! It stands on `mq_request`, `mq_ledger`, `mq_forget`, `mq_chore`, `mq_server`, `mq_link`,
-//! `mq_watch`, `mq_store` and `mq_connections`: it knows when a renewal is due and goes on with it,
-//! and neither files nor how the one ledger takes the other's place. Begin with `specs/Due.antt`,
-//! which days are due, and `night.rt`; `evening.rt` is the chore beside the serving.
+//! It stands on `mq_request`, `mq_permits`, `mq_ledger`, `mq_forget`, `mq_chore`, `mq_server`,
+//! `mq_link`, `mq_watch`, `mq_store` and `mq_connections`: it knows when a renewal is due and goes
+//! on with it, and neither files nor how the one ledger takes the other's place. Begin with
+//! `specs/Due.antt`, which days are due, and `night.rt`; `evening.rt` is the chore beside the
+//! serving.
 #![tactic(auto)]
 
 mod due;
 mod evening;
 mod lookout;
+mod moments;
 mod night;
 mod parts;
+mod tended;
+mod terms;
 
-pub use due::{DueDays, night_of, what_is_due};
+pub use due::{DueDays, day_ahead, night_of, what_is_due};
 pub use evening::{Evening, RenewedLedger};
-pub use lookout::due_at;
+pub use lookout::{Seen, due_at};
+pub use moments::Moments;
 pub use night::pass_night;
-pub use parts::{NoPart, Parts};
+pub use parts::{Look, NoPart, Parts};
+pub use terms::NightTerms;

@@ -8,19 +8,107 @@ ghost use Rattle.mq_store.specs.Forgetting.{IsRemembered};
 ghost use Rattle.mq_store.specs.Soundness.{book_in, HasKept, IsSound};
 ghost use Rattle.mq_connections.specs.Sessions.{EndsServing};
 ghost use Rattle.mq_connections.specs.Wires.{unknown};
+ghost use Rattle.mq_nights.specs.Nights.{EndsNight, WasDue};
 
 use crate::evening::{Evening, RenewedLedger};
+use crate::lookout::Seen;
+use crate::moments::Moments;
 use crate::parts::Parts;
+use crate::tended::TendedEvening;
+use crate::terms::NightTerms;
 use log::Log;
-use mq_connections::{Connections, RoomFault, ServingEnd, serve_connections};
+use mq_connections::{Connections, RoomFault, ServingEnd, Times, serve_connections};
+use mq_permits::Permits;
 use mq_server::laws::more_deliveries;
 use mq_store::SqlLedger;
 use mq_watch::{InnerChore, WatchedLedger};
 use sqlite::Alter;
 use std::alloc::Global;
+use std::marker::Brand;
 use std::net::{Net, TcpListener};
 use std::rt::Clock;
-use std::time::Duration;
+
+/// A serving with a renewal beside it that has ended.
+#[derive(Drop)]
+struct EndedEvening<N: Alter> {
+    ended: Result<ServingEnd, RoomFault>,
+    /// The new ledger, where a renewal has begun.
+    renewed: Option<RenewedLedger<N>>,
+}
+
+/// Serves connections over a ledger, and renews it meanwhile. These are the terms of the night.
+fn serve_evening<K: NightTerms, R, G: Log, S: Alter, N: Alter + Drop, P: Parts<N> + Drop>(
+    rt: &R,
+    log: &G,
+    alloc: Global,
+    listener: &TcpListener,
+    times: Times,
+    permits: Option<&Permits>,
+    evening: Evening<'_, R, G, N, P, K>,
+    ledger: &mut WatchedLedger<'_, SqlLedger<S>, R, G>,
+    connections: &mut Connections,
+) -> EndedEvening<N>
+where
+    R: Clock + Net + Moments,
+    requires nothing { evening.renewal ≡ None }
+    requires keep { evening.lookout.keep ≡ K.keep }
+    requires begun { K.begun ≡ book_in ledger.old.zone ledger.old.default
+        (state S.Store ledger.old.connection).now }
+    ensures lent { (ledger.new.zone ≡ ledger.old.zone) × (ledger.new.default ≡ ledger.old.default) }
+    ensures kept { HasKept (state S.Store ledger.new.connection)
+        → HasKept (state S.Store ledger.old.connection) }
+    ensures over { result.ended ≡ Ok ServingEnd.Over → connections.new ≡ Connections.Count 0 }
+    ensures sound { HasKept (state S.Store ledger.new.connection)
+        → IsSound ledger.old.zone ledger.old.default (state S.Store ledger.old.connection)
+        → IsSound ledger.new.zone ledger.new.default (state S.Store ledger.new.connection) }
+    ensures grown { HasKept (state S.Store ledger.new.connection)
+        → IsSound ledger.old.zone ledger.old.default (state S.Store ledger.old.connection)
+        → HasGrown (book_in ledger.old.zone ledger.old.default
+        (state S.Store ledger.old.connection).now)
+        (book_in ledger.new.zone ledger.new.default (state S.Store ledger.new.connection).now) }
+    ensures serves { HasKept (state S.Store ledger.new.connection)
+        → IsSound ledger.old.zone ledger.old.default (state S.Store ledger.old.connection)
+        → EndsServing
+        (record {
+          book = book_in ledger.old.zone ledger.old.default
+              (state S.Store ledger.old.connection).now;
+          told = None;
+          wires = unknown;
+        })
+        (record {
+          book = book_in ledger.new.zone ledger.new.default
+              (state S.Store ledger.new.connection).now;
+          told = None;
+          wires = unknown;
+        }) RoomFault.Store result.ended }
+    ensures done { HasKept (state S.Store ledger.new.connection)
+        → IsSound ledger.old.zone ledger.old.default (state S.Store ledger.old.connection)
+        → result.ended ≡ Ok ServingEnd.Chore
+        → IfSome result.renewed (λ n. EndsNight P.is_fresh R.shows K.keep K.begun
+        (book_in ledger.new.zone ledger.new.default (state S.Store ledger.new.connection).now)
+        n.ledger.zone n.ledger.default n.day (state N.Store n.ledger.connection)) }
+{
+    more_deliveries();
+    let mut chore = InnerChore {
+        chore: TendedEvening { evening },
+    };
+    let ended = serve_connections(
+        rt,
+        log,
+        alloc,
+        listener,
+        times,
+        permits,
+        ledger,
+        &mut chore,
+        connections,
+    );
+    let InnerChore { chore: tended } = chore;
+    EndedEvening {
+        ended,
+        renewed: tended.evening.into_renewed(),
+    }
+}
 
 /// What a serving that ended so came to, with the new ledger where a renewal has begun.
 fn outcome_of<N: Alter + Drop>(
@@ -46,28 +134,32 @@ fn outcome_of<N: Alter + Drop>(
 
 /// Serves connections over a ledger until days were due to be forgotten and a new ledger has
 /// exactly what stays, which it gives; or until all connections were accepted and have ended, which
-/// gives `None`. So many days before today are kept, 1 to 366.
+/// gives `None`. So many days are kept, 1 to 366, before the one that it goes by.
 ///
-/// A day is due from 03:00 on by the ledger's zone, and at once where it was before, but not again
-/// in the night `done`. It is forgotten only if it also lies that many days before the newest day
-/// on which something was reserved. Where the clock's day and the newest one are more than a day
-/// apart it stays, which is logged once a night.
+/// That is today from 03:00 on by the ledger's zone, and yesterday until then. Where no transaction
+/// began on it yet, it is the newest day before it on which one did; and days after the next one
+/// change nothing, but for a warning once a night. What was due before is forgotten at once, but
+/// not the days before the same first one twice, whatever comes to them.
 ///
 /// The new ledger takes over a few answers after each round over the connections. Where its store
-/// fails, that is logged, and an hour later it is tried again. Once it has all, the connections
-/// that are open are closed; those that came meanwhile wait at the listener.
-pub fn pass_night<R: Clock + Net, G: Log, S: Alter, N: Alter + Drop, P: Parts<N> + Drop>(
+/// fails, or `parts` finds too little room on the disk, that is logged, and an hour later it is
+/// tried again. Once it has all, the connections that are open are closed; those that came
+/// meanwhile wait at the listener.
+pub fn pass_night<R, G: Log, S: Alter, N: Alter + Drop, P: Parts<N> + Drop>(
     rt: &R,
     log: &G,
     alloc: Global,
     listener: &TcpListener,
-    timeout: Duration,
+    times: Times,
+    permits: Option<&Permits>,
     keep: u32,
-    done: Option<u32>,
+    seen: Seen,
     parts: P,
     ledger: &mut WatchedLedger<'_, SqlLedger<S>, R, G>,
     connections: &mut Connections,
 ) -> Result<Option<RenewedLedger<N>>, RoomFault>
+where
+    R: Clock + Net + Moments,
     // Of any ledger, sound or not.
     ensures lent { (ledger.new.zone ≡ ledger.old.zone) × (ledger.new.default ≡ ledger.old.default) }
     ensures kept { HasKept (state S.Store ledger.new.connection)
@@ -99,6 +191,13 @@ pub fn pass_night<R: Clock + Net, G: Log, S: Alter, N: Alter + Drop, P: Parts<N>
           wires = unknown;
         }) RoomFault.Store result }
 
+    // What it forgets was due by then, at a moment that was shown.
+    ensures due { HasKept (state S.Store ledger.new.connection)
+        → IsSound ledger.old.zone ledger.old.default (state S.Store ledger.old.connection)
+        → IfOk result (λ night. IfSome night (λ n. WasDue R.shows keep n.day
+        (book_in ledger.old.zone ledger.old.default (state S.Store ledger.old.connection).now)
+        (book_in ledger.new.zone ledger.new.default (state S.Store ledger.new.connection).now))) }
+
     // The new one has the terms of the old one, and exactly what is remembered of it; a crash
     // leaves the whole of it.
     ensures renewed_lent { HasKept (state S.Store ledger.new.connection)
@@ -119,20 +218,17 @@ pub fn pass_night<R: Clock + Net, G: Log, S: Alter, N: Alter + Drop, P: Parts<N>
         → (db : Trees) → (state N.Store n.ledger.connection).may_leave db
         → db ≡ (state N.Store n.ledger.connection).now.trees)) }
 {
-    more_deliveries();
-    let mut chore = InnerChore {
-        chore: Evening::new(rt, log, alloc, keep, done, parts),
-    };
-    let ended = serve_connections(
+    let evening = Evening::new(rt, log, alloc, keep, seen, parts);
+    let EndedEvening { ended, renewed } = serve_evening::<Brand, R, G, S, N, P>(
         rt,
         log,
         alloc,
         listener,
-        timeout,
+        times,
+        permits,
+        evening,
         ledger,
-        &mut chore,
         connections,
     );
-    let InnerChore { chore: evening } = chore;
-    outcome_of(ended, evening.into_renewed())
+    outcome_of(ended, renewed)
 }

@@ -1,6 +1,7 @@
 //! Where the store of a new ledger comes from.
 
 use sqlite::{Alter, Connection};
+use std::time::Duration;
 use thiserror::Error;
 
 /// There is no store for a new ledger.
@@ -8,7 +9,16 @@ use thiserror::Error;
 #[error("no new store")]
 pub struct NoPart;
 
-/// Makes the stores of new ledgers.
+/// What a look after the disk came to.
+#[derive(Clone, Copy, Debug, PartialEq, Eq)]
+pub struct Look {
+    /// The disk has too little room for a new ledger.
+    pub is_scarce: bool,
+    /// It is looked again after so long.
+    pub next: Duration,
+}
+
+/// Makes the stores of new ledgers, and looks after the disk that they are on.
 pub trait Parts<N: Alter> {
     ghost use Rattle.std.specs.Prelude.{⊤, IfOk};
     ghost use Rattle.sqlite.specs.Held.{state};
@@ -26,4 +36,8 @@ pub trait Parts<N: Alter> {
 
     /// Removes what the last call of `part` made: its connection is gone, and it is of no use.
     fn discard(&mut self);
+
+    /// Looks after the disk, where it is time to. `renews` says whether a new ledger is being
+    /// filled.
+    fn look(&mut self, renews: bool) -> Look;
 }

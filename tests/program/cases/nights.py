@@ -1,8 +1,8 @@
 """`server` with `keep`: days leave the ledger while it is served. What a kill leaves at each step
 of the switch to the new file, and who repairs it; a new file that can't be made, or on a full disk,
 and the next attempt; a switch that fails, and in which order its names come to the disk; thousands
-of answers, and a peer that asks all the while; clocks that differ, and jump; `status` and `audit`
-beside a renewal; filters of two hosts over ten nights.
+of answers, and a peer that asks all the while; days ahead, and clocks that jump; quiet days, and a
+server that stands by; `status` and `audit` beside a renewal; filters of two hosts over ten nights.
 
 What is kept is said by the ledger of tests/model. The new file has each of the names that
 docs/OPERATING.md has for it.
@@ -28,7 +28,6 @@ from cases.costs import Noted
 from cases.damage import sound
 from cases.failures import Disk, can_mount
 from cases.filters import LIMIT, PROCEED
-from cases.full_disks import FULL
 from cases.retiring import of_version, written
 from ends import (
     LOCKED,
@@ -76,8 +75,12 @@ def run(world, checks):
         leaves_what_is_locked,
         leaves_no_earlier_name,
         counts_on,
-        clocks_that_differ,
-        differs_before_three,
+        days_ahead,
+        ahead_before_three,
+        a_day_ten_years_ahead,
+        after_a_weekend,
+        stands_by,
+        asked_about_a_host,
         no_new_file,
         notes_of_nights,
         a_note_of_the_small_hours,
@@ -92,10 +95,12 @@ def run(world, checks):
         killed_at_a_rename,
         killed_at_a_change,
         wrong_clocks,
+        a_clock_that_was_ahead,
         at_other_times,
         ten_nights,
         random_histories,
         on_full_disks,
+        as_disks_fill,
         a_slow_host,
     ):
         wait_past_a_night()
@@ -192,7 +197,8 @@ def nightly(world, path, **more):
 
 
 def made_of(world, path, frames, **settings):
-    """Makes a ledger of these requests; returns its replies, one to each."""
+    """Makes a ledger of these requests, of any days; returns its replies, one to each."""
+    settings = {"limit": clocks.late(), **settings}
     with Server(world, words=["--create"], store=path, default=DEFAULT, **settings) as server:
         replies = asked(server, frames)
     assert len(replies) == len(frames)
@@ -224,14 +230,14 @@ def is_through(server):
 
 
 def names(path):
-    """What stands beside a ledger."""
+    """What stands beside a ledger, but the reserve."""
     folder, name = os.path.split(path)
     return sorted(
         it.removeprefix(name)
         for it in os.listdir(folder)
         if it == name
         or it.startswith((f"{name}-", f"{name}."))
-        and not it.endswith((".read", ".read-wal", ".read-shm"))
+        and not it.endswith((".read", ".read-wal", ".read-shm", ".ballast"))
     )
 
 
@@ -641,43 +647,185 @@ def counts_on(world, checks):
         )
 
 
-def differs_line(day, newest):
-    """What is logged on a day that is far from the newest one of the ledger."""
+def ahead_line(day, newest, begins=""):
+    """What is logged on a day where something was reserved on a later one than the next."""
     return (
-        f"[WARN  mq_nights::lookout] nothing is forgotten: it is day {day}, and something was"
-        f" reserved on day {newest} last"
+        f"[WARN  mq_nights::lookout] {begins}it is day {day}, and something was reserved on day"
+        f" {newest} last"
     )
 
 
-def clocks_that_differ(world, checks):
-    """Days are overdue at any hour, also before 03:00, but the clock and the newest day differ."""
-    for what, newest in [("four days ago", today() - 4), ("in five days", today() + 5)]:
-        path, what = f"{world.folder}/clock{newest}", f"a newest day {what}"
-        books, frames = Books(0, DEFAULT), [
-            request(number, newest - number % 10) for number in range(1, 40)
-        ]
+def days_ahead(world, checks):
+    """Something was reserved up to five days ahead: days leave nevertheless, and a line says so.
+    What is asked again of a day after tomorrow isn't taken. Where all days are ahead, none leaves,
+    and the line says that; what counts as today is the newest of them, and each is taken."""
+    for what, oldest in [("from five days ago on", today() - 5), ("alone", today() + 2)]:
+        path, what = f"{world.folder}/ahead{oldest}", f"days ahead, {what}"
+        newest, is_forgetting = today() + 5, oldest < today()
+        days = [oldest + number % (newest + 1 - oldest) for number in range(1, 40)]
+        frames = [request(number, day) for number, day in enumerate(days, start=1)]
+        books = Books(0, DEFAULT)
         assert made_of(world, path, frames) == [books.serve(it) for it in frames]
         with nightly(world, path) as server:
-            checks.equal(
-                f"{what}: replies", asked(server, frames), [books.serve(it) for it in frames]
-            )
-            lines = [line for line in server.log_lines() if line.startswith("[WARN  mq_nights::")]
-            checks.equal(f"{what}: what is logged", lines, [differs_line(today(), newest)])
-        checks.equal(f"{what}: files", names(path), ["", "-wal"])
+            good = not is_forgetting or wait_until(lambda: is_through(server))
+            books = books.remembered(first_day()) if is_forgetting else books
+            last = today() + 1 if is_forgetting else newest
+            wanted = [
+                books.serve(it) if day <= last else wire.RETRY for day, it in zip(days, frames)
+            ]
+            checks.equal(f"{what}: replies", (good, asked(server, frames)), (True, wanted))
+            line = ahead_line(today(), newest, "" if is_forgetting else "nothing is forgotten: ")
+            checks.equal(f"{what}: what is logged", warnings(server), [line])
+            server.process.kill()
+            server.status()
+        checks.equal(f"{what}: files", names(path), NOTED if is_forgetting else ["", "-wal"])
         same_rows(checks, what, path, books)
 
 
-def differs_before_three(world, checks):
+def ahead_before_three(world, checks):
     """An hour after midnight it is the day that has begun, whose night is still to come."""
-    what, day = "an hour after midnight, a newest day four days ago", today()
+    what, day = "an hour after midnight, a day ahead", today()
     path = f"{world.folder}/early"
-    made_of(world, path, [request(number, day - 4 - number % 9) for number in range(1, 40)])
+    made_of(world, path, [request(number, day + 4 - number % 9) for number in range(1, 40)])
     server, _ = by_clock(world, path, DAY * day + 3_600)
+    with server:
+        good = wait_until(lambda: is_through(server))
+        checks.equal(
+            f"{what}: what is forgotten, and logged",
+            (good, forgotten_from(server), warnings(server)),
+            (True, [day - 1 - KEEP], [ahead_line(day, day + 4)]),
+        )
+
+
+def a_day_ten_years_ahead(world, checks):
+    """A ledger in which something was reserved ten years ahead goes on forgetting, and warns of it
+    once a night."""
+    what, path, day = "a day ten years ahead", f"{world.folder}/years", today()
+    books, far = Books(0, DEFAULT), day + 3_650
+    frames = [*about(day, 40), request(40, far)]
+    assert made_of(world, path, frames) == [books.serve(it) for it in frames]
+    server, clock = by_clock(world, path, DAY * day + 3_600)
     with server:
         # (it looks after each round of requests)
         asked(server, [wire.usage()] * 3)
-        checks.equal(f"{what}: what is logged", warnings(server), [differs_line(day, day - 4)])
-    checks.equal(f"{what}: files", names(path), ["", "-wal"])
+        lines, nights = [ahead_line(day, far)], []
+        for more in range(3):
+            clock.pass_to(DAY * (day + more) + 10_860)
+            frame = request(50 + more, day + more, host=b"mx5")
+            reply = all_asked(server, [frame])
+            good = reply == [books.serve(frame)]
+            nights.append(day + more - KEEP)
+            lines.append(ahead_line(day + more, far))
+            # (where the first round had no request of the day, a quarter of an hour has to pass)
+            for minutes in (16, 32, 180):
+                clock.pass_to(DAY * (day + more) + 10_860 + 60 * minutes)
+                asked(server, [wire.usage()] * 20)
+                wait_until(lambda: len(forgotten_from(server)) >= len(nights))
+            checks.equal(
+                f"{what}, night {more + 1}: its reply, what is forgotten, and logged",
+                (good, forgotten_from(server), warnings(server)),
+                (True, nights, lines),
+            )
+            books = books.remembered(nights[-1])
+        asked(server, [wire.usage()])
+        server.process.kill()
+        server.status()
+    same_rows(checks, what, path, books)
+
+
+def after_a_weekend(world, checks):
+    """Nobody sent for two days. As somebody does, at eight, the days leave that had to wait, and
+    nothing warns."""
+    what, path, day = "after a weekend", f"{world.folder}/weekend", today()
+    books = Books(0, DEFAULT)
+    # (by the last of these days each is kept)
+    frames = [request(number, day - 3 - number % (KEEP + 1)) for number in range(1, 40)]
+    assert made_of(world, path, frames) == [books.serve(it) for it in frames]
+    server, clock = by_clock(world, path, DAY * day + 3_600)
+    with server:
+        asked(server, [wire.usage()] * 3)
+        for moment in (10_860, 11_760, 28_000):
+            clock.pass_to(DAY * day + moment)
+            asked(server, [wire.usage()] * 20)
+        checks.equal(
+            f"{what}: what is forgotten before eight, and logged",
+            (forgotten_from(server), warnings(server)),
+            ([], []),
+        )
+        first = request(900, day, host=b"mx2")
+        came = all_asked(server, [first])
+        clock.pass_to(DAY * day + 28_900)
+        good = wait_until(lambda: asked(server, [wire.usage()]) and is_through(server))
+        checks.equal(
+            f"{what}: the first reply, what is forgotten then, and logged",
+            (came, good, forgotten_from(server), warnings(server)),
+            ([books.serve(first)], True, [day - KEEP], []),
+        )
+        for moment in (29_800, 36_000, 80_000):
+            clock.pass_to(DAY * day + moment)
+            asked(server, [wire.usage()] * 20)
+        checks.equal(
+            f"{what}: all that is forgotten that day, and logged",
+            (forgotten_from(server), warnings(server)),
+            ([day - KEEP], []),
+        )
+        server.process.kill()
+        server.status()
+    same_rows(checks, what, path, books.remembered(day - KEEP))
+
+
+def stands_by(world, checks):
+    """A server that grants nothing, since the address is at another one, forgets what `status
+    --host` left there, night after night; and as it grants, what was granted before that."""
+    what, path, day = "a server that stands by", f"{world.folder}/by", today()
+    books, sent = Books(0, DEFAULT), itertools.count(1)
+
+    def probe(of):
+        number = next(sent)
+        return wire.release(1, txn=2**32 - 1, at=DAY * of + number, host=b"mx1", run=number)
+
+    # (so long ago it had the address last)
+    frames = [request(number, day - 30, host=b"mx2") for number in range(1, 10)]
+    frames += [probe(day - ago) for ago in range(9, -1, -1) for _ in range(3)]
+    assert made_of(world, path, frames) == [books.serve(it) for it in frames]
+    server, clock = by_clock(world, path, DAY * day + 36_000)
+    with server:
+        nights = []
+        for more in range(3):
+            frame = probe(day + more)
+            good = wait_until(lambda: all_asked(server, [wire.usage()]))
+            clock.pass_to(DAY * (day + more) + 36_000)
+            nights.append(day + more - KEEP)
+            good = good and wait_until(
+                lambda: asked(server, [wire.usage()]) and len(forgotten_from(server)) >= len(nights)
+            )
+            books = books.remembered(nights[-1])
+            came = all_asked(server, [frame])
+            checks.equal(
+                f"{what}, day {more + 1}: its reply, what is forgotten, and logged",
+                (good, came, forgotten_from(server), warnings(server)),
+                (True, [books.serve(frame)], nights, []),
+            )
+            # (the first request of the next day, before its night)
+            clock.pass_to(DAY * (day + more + 1) + 7_200)
+            frame = probe(day + more + 1)
+            assert all_asked(server, [frame]) == [books.serve(frame)]
+        server.process.kill()
+        server.status()
+    checks.equal(f"{what}: answers that are left", len(books.answers) < 15, True)
+    same_rows(checks, what, path, books)
+
+
+def asked_about_a_host(world, checks):
+    """What `status --host` leaves is of today: nothing is overdue by it at a start."""
+    what, path = "a start after a question about a host", f"{world.folder}/asked-about"
+    made_of(world, path, [request(1, today())])
+    with nightly(world, path) as server:
+        status, *_ = world.run("status", "--server", server.address, "--host", "mx1")
+    with nightly(world, path) as server:
+        asked(server, [wire.usage()] * 20)
+        came = [it for it in server.all_log_lines() if "forgetting" in it]
+    checks.equal(f"{what}: the status of that, and what is forgotten", (status, came), (0, []))
 
 
 def no_new_file(world, checks):
@@ -745,8 +893,10 @@ def warned_of(server):
 
 
 def a_switch_that_fails(world, checks):
-    """The new ledger's file or its log was removed by somebody, or a folder has the name that its
-    file gets: the server ends, says of which file and why, and the former ledger is whole."""
+    """The new ledger's file or its log was removed by somebody, or a folder has the name that the
+    former one gets: it is said which file and why, and the former ledger is served on. Where the
+    switch has begun, as a folder has the new file's next name, the server ends. The former ledger
+    is whole."""
     source = f"{world.folder}/to-be-switched"
     books = filled(world, source, MANY)
     for place, (what, change, undo, of, why, left) in enumerate(
@@ -757,7 +907,7 @@ def a_switch_that_fails(world, checks):
                 lambda path: None,
                 ".part",
                 "it was removed",
-                ["", "-wal", ".part-wal"],
+                None,
             ),
             (
                 "a new ledger without its log",
@@ -765,7 +915,15 @@ def a_switch_that_fails(world, checks):
                 lambda path: None,
                 ".part-wal",
                 "it was removed",
-                ["", "-wal", ".part"],
+                None,
+            ),
+            (
+                "a folder in the former ledger's way",
+                lambda path: os.mkdir(f"{path}.old"),
+                lambda path: os.rmdir(f"{path}.old"),
+                "",
+                "Is a directory (os error 21)",
+                None,
             ),
             (
                 "a folder in the new ledger's way",
@@ -785,17 +943,32 @@ def a_switch_that_fails(world, checks):
                     is_early = not is_switched(path)
                     if is_early:
                         change(path)
+                # (what it logs as it is to end, it logs before)
                 wait_until(
-                    lambda server=server: server.process.poll() is not None or is_through(server)
+                    lambda server=server, left=left: server.process.poll() is not None
+                    or is_through(server)
+                    or not left
+                    and warned_of(server)
                 )
+                came = [] if left else asked(server, [wire.page()])
                 ended, lines = server.process.poll(), [
                     line for line in server.log_lines() if not line.startswith("[INFO")
                 ]
             if is_early:
                 break
-        wanted = True, 1, [of_store(f"{path}{of}", why).rstrip(), f"mailquota: {NOT_OPENED}"]
+        stays = (
+            f"[WARN  mq_program::switching] {path}{of}: {why}; the former ledger stays until the"
+            " next night"
+        )
+        wanted = (
+            (True, 1, [of_store(f"{path}{of}", why).rstrip(), f"mailquota: {NOT_OPENED}"])
+            if left
+            else (True, None, [stays])
+        )
         checks.equal(f"{what}: the status, and what is said", (is_early, ended, lines), wanted)
-        checks.equal(f"{what}: files", names(path), left)
+        checks.equal(f"{what}: it answers", len(came), 0 if left else 1)
+        files = left or ["", "-wal", *([".old"] if of == "" else [])]
+        checks.equal(f"{what}: files", names(path), files)
         undo(path)
         checks.equal(f"{what}: audit then", audit(world, path, default=DEFAULT), sound(books))
         same_rows(checks, what, path, books)
@@ -905,7 +1078,7 @@ def on_the_disk_in_order(world, checks):
     def are_synced(step):
         return [after == SYNCED for it, after in itertools.pairwise([*steps, None]) if it == step]
 
-    # (the first file that is made is the new one)
+    # (the reserve is there already, so the first file that is made is the new one)
     came = {
         "days are forgotten": good,
         "the new file": are_synced(OWNED)[:1],
@@ -1070,6 +1243,8 @@ def tries_again_in_an_hour(world, checks):
     os.mkdir(f"{path}.part")
     server, clock = by_clock(world, path, DAY * day + 3_600)
     with server:
+        # (its first look is over then: one within which time passes would rest too long)
+        asked(server, [wire.usage()] * 2)
         for hour, minute, wanted in [(2, 59, 0), (3, 1, 1), (3, 17, 1), (3, 59, 1), (4, 2, 2)]:
             clock.pass_to(DAY * day + 3_600 * hour + 60 * minute)
             # (it looks after each round of requests)
@@ -1292,13 +1467,26 @@ def by_clock(world, path, moment, **more):
     return server, clocks.Clock(server.process.pid, ahead)
 
 
-def due(books, night):
-    """The day from which on is kept, as a night begins, where one before it is there."""
-    days = [day for _, day in books.usage]
-    if not days or abs(night - max(days)) > 1:
+def days_in(books):
+    """The days on which transactions began."""
+    return [day for _, _, day, *_ in books.transactions.values()]
+
+
+def newest_until(books, last):
+    """The newest day up to this one on which a transaction began."""
+    return max((it for it in days_in(books) if it <= last), default=None)
+
+
+def due(books, night, seen):
+    """The first day that is kept, as a night begins, where there is one before it. The days before
+    one that was seen last don't leave again."""
+    newest = newest_until(books, night + 1)
+    if newest is None:
         return None
-    first = min(night, max(days)) - KEEP
-    return first if min(days) < first else None
+    first = min(night, newest) - KEEP
+    is_new = seen[-1:] != [first]
+    seen.append(first)
+    return first if is_new and min(days_in(books)) < first else None
 
 
 def forgotten_from(server):
@@ -1312,14 +1500,15 @@ def warnings(server):
 
 
 def wrong_clocks(world, checks):
-    """Before a night the server's clock jumps ten years ahead, back, ten years back, and back
-    again: nothing is forgotten, and each request answered as before. Then the night is as ever."""
+    """Before a night the server's clock jumps ten years back, back again, and ten years ahead: it
+    forgets nothing, and then no more than is due by the newest day, and each request is answered as
+    before. Then the night is as ever."""
     what, path, day = "a clock that jumps", f"{world.folder}/jumps", today()
-    books, sent = Books(0, DEFAULT), itertools.count(1)
+    books, sent, newest, nights = Books(0, DEFAULT), itertools.count(1), day, []
 
-    def ask(of, clock_shows, count=3):
+    def ask(of, clock_shows):
         new, day_asked = request(next(sent), of, host=b"mx5"), day - KEEP - 1
-        frames = [new, wire.usage(b"u1", day_asked), wire.page(b"", day_asked)][:count]
+        frames = [new, wire.usage(b"u1", day_asked), wire.page(b"", day_asked)]
         wanted = [books.serve(it) for it in frames]
         checks.equal(
             f"{what}: replies as it shows {clock_shows}", all_asked(server, frames), wanted
@@ -1330,28 +1519,75 @@ def wrong_clocks(world, checks):
     server, clock = by_clock(world, path, DAY * day + 3_600)
     with server:
         ask(day, "the right day")
-        for years, warned in ((10, 1), (-10, 0)):
-            before = len(warnings(server))
+        for years, words in ((-10, "nothing is forgotten: "), (10, None)):
+            before, there = len(warnings(server)), DAY * (day + 365 * years) + 43_200
+            clock.jump_to(there)
             for hour in range(1, 4):
-                clock.jump_to(DAY * (day + 365 * years) + 43_200)
-                clock.pass_to(DAY * (day + 365 * years) + 43_200 + 3_600 * hour)
+                clock.pass_to(there + 3_600 * hour)
+                asked(server, [wire.usage()] * 20)
+                if years > 0:
+                    wait_until(lambda: asked(server, [wire.usage()]) and is_through(server))
+                    books, nights = books.remembered(newest - KEEP), [newest - KEEP]
                 ask(day, f"{years} years more")
-            lines = warnings(server)[before:]
-            words = "nothing is forgotten", f" {day}", f" {day + 365 * years}"
-            good = len(lines) == warned and all(it in line for it in words for line in lines)
-            wanted = f"{warned} line, with both days"
-            checks.holds(f"{what} by {years} years: what is logged", good, wanted, lines)
+            wanted = [ahead_line(day + 365 * years, newest, words)] if words else []
+            checks.equal(
+                f"{what} by {years} years: what is logged, and forgotten",
+                (warnings(server)[before:], forgotten_from(server)),
+                (wanted, nights),
+            )
             clock.jump_to(DAY * day + 7_200)
             ask(day, "the right day again")
-        came = forgotten_from(server), names(path)
-        checks.equal(f"{what}: what was forgotten meanwhile, and files", came, ([], ["", "-wal"]))
         clock.pass_to(DAY * day + 10_860)
-        # (a further one may be cut off by the switch)
-        ask(day, "03:01", count=1)
-        came = wait_until(lambda: is_through(server)), forgotten_from(server)
-        checks.equal(f"{what}: then days are forgotten", came, (True, [day - KEEP]))
-        books = books.remembered(day - KEEP)
-        ask(day, "03:01, and days are forgotten")
+        ask(day, "03:01")
+        for minutes in (16, 32):
+            clock.pass_to(DAY * day + 10_860 + 60 * minutes)
+            asked(server, [wire.usage()] * 20)
+        checks.equal(
+            f"{what}: what is forgotten in the night", forgotten_from(server), [newest - KEEP]
+        )
+        clock.pass_to(DAY * (day + 1) + 10_860)
+        ask(day + 1, "the next night")
+        clock.pass_to(DAY * (day + 1) + 11_760)
+        wanted = [newest - KEEP, day + 1 - KEEP]
+        good = wait_until(
+            lambda: asked(server, [wire.usage()]) and forgotten_from(server) == wanted
+        )
+        checks.equal(f"{what}: the next night is as ever", good, True)
+        books = books.remembered(day + 1 - KEEP)
+        ask(day + 1, "the next night, and days are forgotten")
+        server.process.kill()
+        server.status()
+    same_rows(checks, what, path, books)
+
+
+def a_clock_that_was_ahead(world, checks):
+    """The server's clock, and a host's, were a day ahead over 03:00. As they are set right, that
+    night has still to come, and so has the next one."""
+    what, path, day = "a clock that was a day ahead", f"{world.folder}/was", today()
+    # (nothing is due before the first of these nights)
+    books, frames = Books(0, DEFAULT), [
+        request(number, day + 1 - number % (KEEP + 2)) for number in range(1, 40)
+    ]
+    assert made_of(world, path, frames) == [books.serve(it) for it in frames]
+    server, clock = by_clock(world, path, DAY * (day + 1) + 3_600)
+    with server:
+        nights = []
+        for shown, jumps in ((day + 1, False), (day, True), (day + 1, False)):
+            late = request(100 + len(nights), shown - KEEP - 2, host=b"mx6")
+            good = all_asked(server, [late]) == [books.serve(late)]
+            (clock.jump_to if jumps else clock.pass_to)(DAY * shown + 10_860)
+            # (a clock that is put back leaves the time until it looks again)
+            clock.pass_to(DAY * shown + 14_460)
+            nights.append(shown - KEEP)
+            good = good and wait_until(
+                lambda: asked(server, [wire.usage()]) and len(forgotten_from(server)) >= len(nights)
+            )
+            books = books.remembered(shown - KEEP)
+            checks.equal(
+                f"{what}, as it shows day {shown - day}: what is forgotten, and logged",
+                (good, forgotten_from(server), warnings(server)),
+                (True, nights, []),
+            )
         server.process.kill()
         server.status()
     same_rows(checks, what, path, books)
@@ -1507,24 +1743,24 @@ def random_histories(world, checks, seeds=range(HISTORIES)):
 
 def random_history(world, path, dice):
     """The books at last, what differs from them, and how often days were forgotten."""
-    day, books, differs, nights = today(), Books(0, DEFAULT), [], []
+    day, books, differs, nights, seen = today(), Books(0, DEFAULT), [], [], []
     asked_before, sequence = [], itertools.count(1)
     server, clock = by_clock(world, path, DAY * day + 36_000, words=["--create"])
 
-    def frame():
+    def frame(about):
         if asked_before and dice.random() < 0.2:
             return dice.choice(asked_before)
-        asked_before.append(wire.frame(body(dice, next(sequence), Days(day))))
+        asked_before.append(wire.frame(body(dice, next(sequence), Days(about))))
         return asked_before[-1]
 
     with server:
         for _ in range(NIGHTS_OF_A_HISTORY):
-            frames = [frame() for _ in range(dice.randint(0, 150))]
+            frames = [frame(day) for _ in range(dice.randint(0, 150))]
             pairs = zip(frames, asked(server, frames), strict=True)
             differs += [it for it, reply in pairs if reply != books.serve(it)]
             day += dice.choice([1, 1, 1, 2])
             moment = DAY * day + 10_800 + dice.randrange(60_000)
-            books, others = pass_night(server, clock, moment, frame, books, nights, dice)
+            books, others = pass_night(server, clock, moment, frame, books, nights, seen, dice)
             differs += others
         if forgotten_from(server) != nights:
             differs.append((forgotten_from(server), nights))
@@ -1533,18 +1769,21 @@ def random_history(world, path, dice):
     return books, differs, nights
 
 
-def pass_night(server, clock, moment, frame, books, nights, dice):
+def pass_night(server, clock, moment, frame, books, nights, seen, dice):
     """Lets time pass to a night. Where days are due it asks until the switch closes the connection,
     and asks again what that cut off. Gives the books then, and what differs from them, and notes
-    the days from which on was kept."""
-    differs, it, first, is_night = [], wire.usage(), None, False
+    the days from which on was kept. What it asks is of no later day than the ledger goes by, since
+    earlier ones would be due then."""
+    differs, it, first, is_night, night = [], wire.usage(), None, False, moment // DAY
+    newest = newest_until(books, night + 1)
+    about = night if newest is None or newest >= night else newest - 1
     while len(forgotten_from(server)) == len(nights):
         with server.connect() as peer, peer.makefile("rb") as back:
             # (once this is answered, it is one of the former ledger's, or the night is over)
             reply = exchanged(peer, back, wire.usage())
             if not is_night:
                 clock.pass_to(moment)
-                first, is_night = due(books, moment // DAY), True
+                first, is_night = due(books, night, seen), True
             while reply and len(forgotten_from(server)) == len(nights):
                 if not (reply := exchanged(peer, back, it)):
                     break
@@ -1553,7 +1792,7 @@ def pass_night(server, clock, moment, frame, books, nights, dice):
                 if not first:
                     return books, differs
                 time.sleep(dice.choice([0, 0, 0, 0.02 * dice.random()]))
-                it = frame()
+                it = frame(about)
     nights.append(first)
     books = books.remembered(first)
     if asked(server, [it]) != [books.serve(it)]:
@@ -1572,8 +1811,10 @@ def exchanged(peer, back, frame):
 
 # ---- full disks
 
-# bytes that a disk has beyond a ledger and its log, where days are to be forgotten: too few to make
-# a new file, too few for all of it, and enough
+# bytes of a server's reserve, and of the margin above it that has to be free
+RESERVE, MARGIN = 4 << 20, 1 << 20
+# bytes that a disk has beyond a ledger, its log, the reserve and the margin, where days are to be
+# forgotten: too few to make a new file, too few for all of it, and enough
 ROOMS = [
     10_000,
     100_000,
@@ -1586,6 +1827,9 @@ ROOMS = [
     2 * 10**6,
     6 * 10**6,
 ]
+# bytes that a disk still has as it fills before a night: too few to make a new file, and too few
+# for all of it beside the margin
+TOO_FEW, TOO_FEW_FOR_ALL = [0, 10_000, 100_000, 200_000], [300_000, 600_000, 1_000_000]
 # reserves of a ledger whose log has the size that it keeps
 FILLING = 300
 
@@ -1602,11 +1846,16 @@ def on_full_disks(world, checks):
     checks.holds("nights on full disks: which forgot days", good, "some, and not all", ends)
 
 
+def stay_line(day, why):
+    """What is logged where the days before one stay."""
+    return f"[WARN  mq_nights::evening] days before {day} stay: {why}; next attempt in an hour"
+
+
 def on_a_full_disk(world, checks, source, books, room):
     """Whether days are forgotten where a disk has so many bytes beyond the ledger."""
     size = os.path.getsize(source) + os.path.getsize(f"{source}-wal")
     what, books = f"a disk with room for {room:,} bytes", copy.deepcopy(books)
-    with Disk(world, size + room) as disk:
+    with Disk(world, size + RESERVE + MARGIN + room) as disk:
         path = copied(source, f"{disk.folder}/ledger")
         with nightly(world, path) as server:
             sent, came = [], []
@@ -1617,21 +1866,16 @@ def on_a_full_disk(world, checks, source, books, room):
             last = [request(90_000 + number, today(), host=b"mx6") for number in range(20)]
             came += all_asked(server, last)
             ended, is_forgotten = server.process.poll(), is_through(server)
-            lines = warnings(server)
+            lines = warned_of(server)
             server.process.kill()
             server.status()
         checks.equal(f"{what}: it goes on", ended, None)
         checks.equal(f"{what}: replies", came, [books.serve(frame) for frame in sent + last])
-        why = "|".join(["no new store", *FULL])
-        full = len(lines) == 1 and re.fullmatch(
-            (
-                rf"\[WARN  mq_nights::evening\] days before {first_day()} stay: ({why}); next"
-                r" attempt in an hour"
-            ),
-            lines[0],
-        )
-        checks.holds(
-            f"{what}: what is logged", is_forgotten != bool(full), "a day, or why days stay", lines
+        # (the margin is looked for after each piece of the new file, which takes less)
+        checks.equal(
+            f"{what}: what is warned of",
+            lines,
+            [] if is_forgotten else [stay_line(first_day(), "too little room on the disk")],
         )
         checks.equal(
             f"{what}: files",
@@ -1641,6 +1885,64 @@ def on_a_full_disk(world, checks, source, books, room):
         kept = copied(path, f"{world.folder}/of-disk{room}")
     same_rows(checks, what, kept, books.remembered(first_day()) if is_forgotten else books)
     return is_forgotten
+
+
+def as_disks_fill(world, checks):
+    """A disk fills just before a night, so that there is less than the margin for a new file: days
+    stay, the reserve is given up for the requests, and an hour later, with room again, days
+    leave."""
+    if not can_mount(world, checks, "a night as a disk fills"):
+        return
+    source, day = f"{world.folder}/to-be-full", today()
+    books, frames = Books(0, DEFAULT), about(day, FILLING)
+    assert made_of(world, source, frames) == [books.serve(it) for it in frames]
+    for room in TOO_FEW + TOO_FEW_FOR_ALL:
+        as_a_disk_fills(world, checks, source, copy.deepcopy(books), day, room)
+
+
+def as_a_disk_fills(world, checks, source, books, day, room):
+    what = f"a night on a disk that has filled but for {room:,} bytes"
+    with Disk(world, 16 << 20) as disk:
+        path = copied(source, f"{disk.folder}/ledger")
+        server, clock = by_clock(world, path, DAY * day + 3_600)
+        with server:
+            asked(server, [wire.usage()] * 3)
+            # (it doesn't look after its disk between these)
+            with server.stopped():
+                disk.fill(room)
+                clock.pass_to(DAY * day + 10_860)
+            reserve = f"{path}.ballast"
+            good = wait_until(lambda: asked(server, [wire.usage()]) and not os.path.exists(reserve))
+            frames = [request(10_000 + number, day, host=b"mx6") for number in range(20)]
+            wanted = [books.serve(it) for it in frames]
+            checks.equal(f"{what}: replies", (good, asked(server, frames)), (True, wanted))
+            lines = warned_of(server)
+            whys = (
+                [
+                    of_store(f"{path}.part", "database or disk is full").rstrip(),
+                    stay_line(day - KEEP, "no new store"),
+                ]
+                if room in TOO_FEW
+                else [stay_line(day - KEEP, "too little room on the disk")]
+            )
+            given_up = (
+                f"[WARN  mq_program::caretaker] {reserve} is given up: No space left on device (os"
+                " error 28); make room"
+            )
+            checks.equal(f"{what}: what is warned of", lines, [*whys, given_up])
+            checks.equal(f"{what}: files", names(path), ["", "-wal"])
+            os.remove(f"{disk.folder}/filler")
+            clock.pass_to(DAY * day + 10_860 + 3_660)
+            good = wait_until(lambda: asked(server, [wire.usage()]) and is_through(server))
+            checks.equal(
+                f"{what}, and room again: what is forgotten an hour later",
+                (good, forgotten_from(server), warned_of(server)[len(lines) :]),
+                (True, [day - KEEP], []),
+            )
+            server.process.kill()
+            server.status()
+        kept = copied(path, f"{world.folder}/of-filled{room}")
+    same_rows(checks, what, kept, books.remembered(day - KEEP))
 
 
 # ---- a host whose clock is slow

@@ -26,6 +26,13 @@ returns-in-Ok-clause-under_way g c = λ kept sound way kept_made.
     let s : Database = (state over_memory m.scratch.connection).now in
     carried_later m.day now later m.reached n s same (subst (λ D. HasCarried now.zone now.default D now.history m.reached n s) (sym e.lent.2) after)
 
+pub returns-in-Ok-clause-heard : goal.returns-in-Ok-clause-heard
+returns-in-Ok-clause-heard g c = λ kept sound.
+    let l = c.args.ledger.now in
+    let old = state g.S.Store l.connection in
+    let now : Book = book_in l.zone l.default old.now in
+    c.in-Ok.ensures.heard kept now.history (book_had l.zone l.default old sound)
+
 pub returns-in-Ok-clause-through : goal.returns-in-Ok-clause-through
 returns-in-Ok-clause-through g c = λ kept sound through way.
     let l = c.args.ledger.now in
