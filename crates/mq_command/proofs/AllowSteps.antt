@@ -1,5 +1,5 @@
 -- The room that grows with each refusal, and the line that is told.
-use Rattle.mq_command.proofs.Words.{AsksUsed, ClearsLater, DayUsage, Err, GivesLimit, IfOk, Keeps, LaterLimit, List, LooksLater, MatchResult, Ok, Option, OrderFault, PrintsLine, ReportedExchange, Result, SetsBoth, Setter, StopOrder, StoppedLogin, [], ap, appends_kept, arith, at_least, inr, later_status, min, refl, room, subst, suc, sym, zero, ℕ, ◌*◌, ◌+◌, ◌∙◌, ◌≡◌}
+use Rattle.mq_command.proofs.Words.{AsksUsed, ClearsLater, DayUsage, Err, GivesLimit, Failed, IfOk, Keeps, LaterLimit, List, LooksLater, MatchResult, Ok, Option, OrderFault, PrintsLine, ReportedExchange, Result, SetsBoth, Setter, StopEnd, StopOrder, StoppedLogin, [], ap, appends_kept, arith, at_least, inr, later_end, min, refl, room, subst, suc, sym, zero, ℕ, ◌*◌, ◌+◌, ◌∙◌, ◌≡◌}
 
 pub room_more : (refused grown : ℕ) → grown ≡ room refused → min (grown * 2 + 8) 1000000 ≡ room (refused + 1)
 room_more refused grown is =
@@ -23,13 +23,13 @@ limit_given setter day limit most usage old asked new (Err fault) answered is se
 
 -- nothing more was asked where what was printed isn't whole
 pub not_later : (setter : Setter) (order : StopOrder) (stopped : StoppedLogin) (first : ℕ) (told : Option (List ReportedExchange)) → (first ≡ 0 → ⊥)
-    → LooksLater setter order (Ok stopped) first first told told
+    → LooksLater setter order (Ok stopped) first Failed told told
 not_later setter order stopped zero told never = absurd (never refl)
 not_later setter order stopped (suc first) told never = (refl, refl)
 
 -- and limits of later days were looked for where it is
-pub looked_later : (setter : Setter) (order : StopOrder) (stopped : StoppedLogin) (first status : ℕ) (old new : Option (List ReportedExchange)) (found : Result (Option LaterLimit) OrderFault)
-    → first ≡ 0 → status ≡ later_status found → ClearsLater setter order.day stopped.later order.is_all old new found
-    → LooksLater setter order (Ok stopped) first status old new
-looked_later setter order stopped first status old new found whole is looks =
-    subst (λ f. LooksLater setter order (Ok stopped) f status old new) (sym whole) (found, is, looks)
+pub looked_later : (setter : Setter) (order : StopOrder) (stopped : StoppedLogin) (first : ℕ) (end : StopEnd) (old new : Option (List ReportedExchange)) (found : Result (Option LaterLimit) OrderFault)
+    → first ≡ 0 → end ≡ later_end found → ClearsLater setter order.day stopped.later order.is_all old new found
+    → LooksLater setter order (Ok stopped) first end old new
+looked_later setter order stopped first end old new found whole is looks =
+    subst (λ f. LooksLater setter order (Ok stopped) f end old new) (sym whole) (found, is, looks)

@@ -8,7 +8,7 @@ pub use Rattle.std.proofs.lemmas.Fn.{always_returns_same}
 pub use Rattle.std.proofs.lemmas.Iterator.Adapters.{YieldsList-from_vec, items_from_extend}
 pub use Rattle.std.proofs.lemmas.List.{drop_more, length_push, take_more}
 pub use Rattle.std.proofs.lemmas.List.Concat.{flat_map-append}
-pub use Rattle.std.proofs.lemmas.List.Elements.{All-head, All-nil, All-push, All-tail}
+pub use Rattle.std.proofs.lemmas.List.Elements.{All-head, All-nil, All-pop, All-push, All-tail}
 pub use Rattle.std.proofs.lemmas.List.MinMax.{IsStrictWeakOrder-flip, ranks_by}
 pub use Rattle.std.specs.Cmp.{IsStrictWeakOrder}
 pub use Rattle.std.specs.Io.KnownBytes.{Appends, Keeps}
@@ -22,7 +22,7 @@ pub use Rattle.mq_lemmas.proofs.Streams.{appends_kept}
 pub use Rattle.mq_request.specs.Escaped.{byte_text, digit_text, escaped, is_plain}
 pub use Rattle.mq_request.specs.Range.{IsAfter, IsAmount, IsLogin, IsPage as IsPageInRange}
 pub use Rattle.mq_request.specs.Same.{same_text}
-pub use Rattle.mq_request.specs.declared.bounds.TheConstants.{FIRST_MOMENT, LAST_DAY, LAST_ORDINAL, LAST_RUN}
+pub use Rattle.mq_request.specs.declared.bounds.TheConstants.{LAST_DAY, LAST_ORDINAL, LAST_RUN}
 pub use Rattle.mq_request.specs.declared.message.Id.{Id}
 pub use Rattle.mq_request.specs.declared.message.Reply.{Reply}
 pub use Rattle.mq_request.specs.declared.message.Request.{Request}
@@ -39,26 +39,28 @@ pub use Rattle.mq_lemmas.specs.Told.{Tells}
 pub use Rattle.mq_link.specs.Link.{Brings}
 pub use Rattle.mq_link.specs.declared.link.ReportedExchange.{ReportedExchange}
 pub use Rattle.mq_command.specs.Allowing.{AreRefused, SetsBoth, limit, no_limit, room}
-pub use Rattle.mq_command.specs.Asking.{Asks, IsAnswered, IsMissed, IsUnanswered, IsUndecoded, Sends, fits}
+pub use Rattle.mq_command.specs.Asking.{Asks, CameBack, ComesTo, attempt_of, IsAnswered, IsMissed, IsNotTaken, IsUnanswered, IsUndecoded, Sends, fits}
 pub use Rattle.mq_command.specs.Holding.{AreHeld, AreRefusedAgain, later_day, no_later_day, none_sent, one_refused}
-pub use Rattle.mq_command.specs.Later.{AreCleared, ClearsLater, cleared, later_status}
+pub use Rattle.mq_command.specs.Later.{AreCleared, ClearsLater, cleared}
 pub use Rattle.mq_command.specs.Orders.{AnswersOrder, AreTaken, IsLimit, IsOrder, Orders, PrintsLine, Says, ahead, later, no_number, number}
 pub use Rattle.mq_command.specs.Printed.{ArePrinted, IsNoText, IsTextOf}
-pub use Rattle.mq_command.specs.Probing.{host_question, next_run, settings_line}
+pub use Rattle.mq_command.specs.Probing.{host_question, moment_of_run, next_run, settings_line}
 pub use Rattle.mq_command.specs.Report.{AnswersList, AnswersUsage, AreFullPages, AsksPage, IsAscendingAbove, IsPage, IsUsage, PrintsFront, PrintsRow, ReportsAll, ReportsOne, TakesPage, last_login, no_page, output_fault, page, report_lines, row_line}
-pub use Rattle.mq_command.specs.Stopping.{GivesLimit, LooksLater, at_least}
+pub use Rattle.mq_command.specs.Stopping.{GivesLimit, LooksLater, at_least, later_end}
 pub use Rattle.mq_command.specs.Top.{CollectsAll, used_of, uses_more}
 pub use Rattle.mq_command.specs.Unchanged.{AreAlike}
 pub use Rattle.mq_command.specs.Usage.{AreOthers, AsksUsed, is_sought, other_day}
 pub use Rattle.mq_command.specs.Vis.{lower, vis}
 pub use Rattle.mq_command.specs.declared.allow.Setter.{Setter}
-pub use Rattle.mq_command.specs.declared.ask.AskFault.{AskFault}
-pub use Rattle.mq_command.specs.declared.ask.AskFault.TheVariants.{Memory, Unavailable}
+pub use Rattle.mq_command.specs.declared.ask.NoAnswer.{NoAnswer}
+pub use Rattle.mq_command.specs.declared.ask.NoAnswer.TheVariants.{Memory, NotTaken, Unavailable}
 pub use Rattle.mq_command.specs.declared.later.LaterLimit.{LaterLimit}
 pub use Rattle.mq_command.specs.declared.order.OrderFault.{OrderFault}
 pub use Rattle.mq_command.specs.declared.order.OrderFault.TheVariants.{Unanswered}
 pub use Rattle.mq_command.specs.declared.output.OutputFault.{OutputFault}
 pub use Rattle.mq_command.specs.declared.report.ReportFault.{ReportFault}
 pub use Rattle.mq_command.specs.declared.stop.StopOrder.{StopOrder}
+pub use Rattle.mq_command.specs.declared.stop_end.StopEnd.{StopEnd}
+pub use Rattle.mq_command.specs.declared.stop_end.StopEnd.TheVariants.{Failed}
 pub use Rattle.mq_command.specs.declared.stop.StoppedLogin.{StoppedLogin}
 pub use Rattle.mq_command.specs.declared.usage.DayUsage.{DayUsage}

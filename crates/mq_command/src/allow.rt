@@ -11,11 +11,12 @@ ghost use Rattle.mq_command.specs.declared.allow.AllowFault.{AllowFault as AnyAl
 ghost use Rattle.mq_command.specs.declared.allow.RestoredLimit.{RestoredLimit as AnyRestoredLimit};
 ghost use Rattle.mq_command.specs.declared.order.OrderFault.{OrderFault as AnyOrderFault};
 
-use crate::ask::AskFault;
+use crate::ask::NoAnswer;
+use crate::errors::Errors;
 use crate::look_back::{SoughtDay, look_back};
 use crate::order::{OrderFault, order_fresh};
 use crate::printed::login_text;
-use crate::telling::{say, tell_line};
+use crate::telling::{say_of_server, tell_line};
 use crate::usage::ask_used;
 use mq_link::Link;
 use mq_request::bounds::AMOUNT_LIMIT;
@@ -46,6 +47,16 @@ pub enum AllowFault {
     /// No limit is found that it had before it was stopped.
     #[error("no earlier limit found; use --cap")]
     NoFormer,
+}
+
+impl AllowFault {
+    /// Whether the server took none of the tries of a request.
+    pub(crate) fn is_not_taken(&self) -> bool {
+        match self {
+            AllowFault::Order(fault) => fault.is_not_taken(),
+            _ => false,
+        }
+    }
 }
 
 /// A login whose limits are set, and the run of the host that sets them.
@@ -99,7 +110,7 @@ pub(crate) fn set_limit<L: Link>(
 {
     match limit_of(alloc, setter, number, day, cap) {
         Ok(mut request) => order_fresh(alloc, link, &mut request),
-        Err(_) => Err(OrderFault::Unanswered(AskFault::Memory)),
+        Err(_) => Err(OrderFault::Unanswered(NoAnswer::Memory)),
     }
 }
 
@@ -285,7 +296,7 @@ pub(crate) fn line_of(
 /// result is the exit status, 0 or 1.
 ///
 /// `day` is a day number, 0 to 376,199, and `more` is 0 to 1,000,000.
-pub fn run_resume<L: Link, W: Write, E: Write>(
+pub fn run_resume<L: Link, W: Write, E: Errors>(
     alloc: Global,
     link: &mut L,
     setter: &Setter,
@@ -309,7 +320,7 @@ pub fn run_resume<L: Link, W: Write, E: Write>(
             let line = line_of(alloc, "resumed: ", &setter.login, " may use ", cap, day);
             tell_line(line, output, errors)
         }
-        Err(fault) => say(errors, &fault),
+        Err(fault) => say_of_server(errors, &fault, fault.is_not_taken()),
     }
 }
 
@@ -366,7 +377,7 @@ fn restored_text(
 ///
 /// The limit is that of the day before the latest one, of the given day and the 399 before, whose
 /// limit isn't 0. `day` is a day number, 0 to 376,199.
-pub fn run_restore<L: Link, W: Write, E: Write>(
+pub fn run_restore<L: Link, W: Write, E: Errors>(
     alloc: Global,
     link: &mut L,
     setter: &Setter,
@@ -387,6 +398,6 @@ pub fn run_restore<L: Link, W: Write, E: Write>(
             let lines = restored_text(alloc, &setter.login, restored, day);
             tell_line(lines, output, errors)
         }
-        Err(fault) => say(errors, &fault),
+        Err(fault) => say_of_server(errors, &fault, fault.is_not_taken()),
     }
 }

@@ -7,7 +7,8 @@ ghost use Rattle.mq_command.specs.Orders.{OrdersFresh, Prints, Says, conflict};
 ghost use Rattle.mq_command.specs.Orders.{is_taken, later, run_of, word};
 ghost use Rattle.mq_command.specs.declared.order.OrderFault.{OrderFault as AnyOrderFault};
 
-use crate::ask::{AskFault, ask};
+use crate::ask::{NoAnswer, ask};
+use crate::errors::Errors;
 use crate::telling::tell;
 use mq_link::Link;
 use mq_request::bounds::LAST_RUN;
@@ -35,7 +36,14 @@ pub enum OrderFault {
     #[error("run is retired")]
     Retired,
     #[error("{0}")]
-    Unanswered(AskFault),
+    Unanswered(NoAnswer),
+}
+
+impl OrderFault {
+    /// Whether the server took none of the tries of a request.
+    pub(crate) fn is_not_taken(&self) -> bool {
+        matches!(self, OrderFault::Unanswered(NoAnswer::NotTaken))
+    }
 }
 
 /// What is printed of an order that is carried out.
@@ -132,7 +140,7 @@ pub fn order_fresh<L: Link>(
 /// Sends an order up to three times, and prints what came of it. The result is the exit status, 0
 /// or 1. Others call it by `run_limit` or `run_retire`, so that none sends a retire, which nothing
 /// undoes, where it means a limit.
-fn run_order<L: Link, W: Write, E: Write>(
+fn run_order<L: Link, W: Write, E: Errors>(
     alloc: Global,
     link: &mut L,
     request: &Request,
@@ -154,7 +162,7 @@ fn run_order<L: Link, W: Write, E: Write>(
 /// `errors` why it isn't. The result is the exit status, 0 or 1.
 ///
 /// The request is a limit whose fields are in range.
-pub fn run_limit<L: Link, W: Write, E: Write>(
+pub fn run_limit<L: Link, W: Write, E: Errors>(
     alloc: Global,
     link: &mut L,
     request: &Request,
@@ -176,7 +184,7 @@ pub fn run_limit<L: Link, W: Write, E: Write>(
 /// 0 or 1.
 ///
 /// The request is a retire whose fields are in range.
-pub fn run_retire<L: Link, W: Write, E: Write>(
+pub fn run_retire<L: Link, W: Write, E: Errors>(
     alloc: Global,
     link: &mut L,
     request: &Request,
@@ -199,7 +207,7 @@ pub fn run_retire<L: Link, W: Write, E: Write>(
 /// 1.
 ///
 /// The request is a limit whose fields are in range.
-pub fn run_fresh<L: Link, W: Write, E: Write>(
+pub fn run_fresh<L: Link, W: Write, E: Errors>(
     alloc: Global,
     link: &mut L,
     mut request: Request,

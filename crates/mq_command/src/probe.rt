@@ -1,21 +1,21 @@
 //! `status` and `filter --check`: whether the quota server answers, and whether it takes a host's
 //! requests.
 ghost use Rattle.std.specs.Prelude.{◌≡◌, IfOk, Result as AnyResult, string_bytes};
-ghost use Rattle.mq_request.specs.Range.{IsHost, IsRequest, IsRun};
+ghost use Rattle.mq_request.specs.Range.{IsHost, IsMoment, IsRequest, IsRun};
 ghost use Rattle.mq_command.specs.Orders.{Prints};
 ghost use Rattle.mq_command.specs.Probing.{AsksHost, AsksOnce, Checks, EndsProbe, Probes};
-ghost use Rattle.mq_command.specs.Probing.{answers_line, next_run, probe_status};
+ghost use Rattle.mq_command.specs.Probing.{answers_line, moment_of_run, next_run, probe_fault, probe_status};
 ghost use Rattle.mq_command.specs.Probing.{host_question, host_verdict, taken_lines};
 ghost use Rattle.mq_command.specs.declared.probe.HostFault.{HostFault as AnyHostFault};
 ghost use Rattle.mq_command.specs.declared.probe.ProbeEnd.TheVariants.{Answered};
 
-use crate::ask::{AskFault, try_once};
+use crate::ask::{AskFault, Attempt, NoAnswer, try_once};
 use crate::printed::login_text;
-use crate::telling::{say, tell_line, tell_text};
+use crate::telling::{say, say_not_taken, tell_line, tell_text};
 use mq_frame::encode_request;
 use mq_link::Link;
-use mq_request::bounds::{FIRST_MOMENT, LAST_ORDINAL, LAST_RUN};
-use mq_request::{Host, Id, Login, Reply, Request};
+use mq_request::bounds::{FIRST_MOMENT, LAST_MOMENT, LAST_ORDINAL, LAST_RUN};
+use mq_request::{EscapedText, Host, Id, Login, Reply, Request};
 use std::alloc::{AllocError, Global};
 use std::io::Write;
 use thiserror::Error;
@@ -30,7 +30,7 @@ pub enum HostFault {
     #[error("requests of this host are refused, run {0} is retired: correct its clock, or give it a new name")]
     Retired(u64),
     #[error("{0}")]
-    Unanswered(AskFault),
+    Unanswered(NoAnswer),
 }
 
 /// What comes of asking once whether a server answers.
@@ -55,7 +55,7 @@ impl ProbeEnd {
 }
 
 /// Sends a request once, and gives the reply that answers it.
-fn ask_once<L: Link>(alloc: Global, link: &mut L, request: &Request) -> Result<Reply, AskFault>
+fn ask_once<L: Link>(alloc: Global, link: &mut L, request: &Request) -> Result<Reply, NoAnswer>
     requires { IsRequest request.now }
     ensures { AsksOnce request.now (L.told link.old) (L.told link.new) result }
 {
@@ -63,19 +63,20 @@ fn ask_once<L: Link>(alloc: Global, link: &mut L, request: &Request) -> Result<R
     encode_request(request, &mut frame)?;
     let mut body = Vec::new(alloc);
     match try_once(alloc, link, request, frame.as_slice(), &mut body)? {
-        Some(reply) => Ok(reply),
-        None => Err(AskFault::Unavailable),
+        Attempt::Answered(reply) => Ok(reply),
+        Attempt::NotTaken => Err(NoAnswer::NotTaken),
+        Attempt::Missed => Err(NoAnswer::Unavailable),
     }
 }
 
 /// Asks the server once what login `-` used on day 0. It is a few rows to look for, and changes
 /// nothing.
-fn probe<L: Link>(alloc: Global, link: &mut L) -> Result<(), AskFault>
+fn probe<L: Link>(alloc: Global, link: &mut L) -> Result<(), NoAnswer>
     ensures { Probes (L.told link.old) (L.told link.new) result }
 {
     let login = match Login::from_slice(alloc, b"-") {
         Ok(login) => login,
-        Err(_) => return Err(AskFault::Memory),
+        Err(_) => return Err(NoAnswer::Memory),
     };
     let request = Request::Usage { login, day: 0 };
     match ask_once(alloc, link, &request) {
@@ -93,23 +94,33 @@ fn next_run(now: u64) -> u64
     ((now + (STEP - 1)) / STEP * STEP).min(LAST_RUN)
 }
 
+/// The moment of a run, in seconds since 1970, or the nearest one that a request may have.
+fn moment_of_run(run: u64) -> u64
+    ensures moment { result ≡ moment_of_run run }
+    ensures in_range { IsMoment result }
+{
+    (run / 1_000).min(LAST_MOMENT).max(FIRST_MOMENT)
+}
+
 /// What a host is asked about at a time: to give back what its last transaction holds, which no
 /// filter comes to, and so is nothing. A run that began before it is retired if this one is. Asked
-/// again within ten minutes it is the same request, so the ledger keeps one answer.
+/// again within ten minutes it is the same request, so the ledger keeps one answer, which is
+/// forgotten with those of that day.
 fn host_question(alloc: Global, host: &Host, now: u64) -> Result<Request, AllocError>
     requires host { IsHost host.now }
     requires now { IsRun now }
     ensures question { IfOk result (λ request. request ≡ host_question host.now now) }
     ensures in_range { IfOk result IsRequest }
 {
+    let run = next_run(now);
     Ok(Request::Release {
         id: Id {
             host: host.clone()?,
-            run: next_run(now),
+            run,
             number: LAST_ORDINAL,
         },
         txn: LAST_ORDINAL,
-        moment: FIRST_MOMENT,
+        moment: moment_of_run(run),
         login: Login::from_slice(alloc, b"-")?,
     })
 }
@@ -132,7 +143,7 @@ fn ask_host<L: Link>(alloc: Global, link: &mut L, host: &Host, now: u64) -> Resu
 {
     let request = match host_question(alloc, host, now) {
         Ok(request) => request,
-        Err(_) => return Err(HostFault::Unanswered(AskFault::Memory)),
+        Err(_) => return Err(HostFault::Unanswered(NoAnswer::Memory)),
     };
     match ask_once(alloc, link, &request) {
         Ok(reply) => host_verdict(&reply),
@@ -161,6 +172,51 @@ fn taken_lines(alloc: Global, server: &str, host: &Host) -> Result<String, Alloc
     Ok(lines)
 }
 
+/// Why it isn't known whether a server answers that gave no answer.
+fn probe_fault(fault: NoAnswer) -> AskFault
+    ensures { result ≡ probe_fault fault }
+{
+    match fault {
+        NoAnswer::NotTaken | NoAnswer::Unavailable => AskFault::Unavailable,
+        NoAnswer::Memory => AskFault::Memory,
+    }
+}
+
+/// Says on `errors` why a server gave no answer. The result is the exit status.
+fn say_unanswered<E: Write>(fault: NoAnswer, server: &str, errors: &mut E) -> u8
+    ensures { result ≡ 1 }
+{
+    match fault {
+        NoAnswer::NotTaken => say_not_taken(errors, &server),
+        _ => say(errors, &fault),
+    }
+}
+
+/// Says on `errors` why it isn't known that a server takes a host's requests. Where it took none,
+/// this may be since it has no address of the host. The result is the exit status.
+fn say_untaken<E: Write>(fault: HostFault, server: &str, host: &Host, errors: &mut E) -> u8
+    ensures { result ≡ 1 }
+{
+    match fault {
+        HostFault::Unanswered(NoAnswer::NotTaken) => say_line_to_add(server, host, errors),
+        _ => say(errors, &fault),
+    }
+}
+
+/// Says on `errors` that a server didn't take what it was asked about a host, and the line that its
+/// permits need. The result is the exit status.
+fn say_line_to_add<E: Write>(server: &str, host: &Host, errors: &mut E) -> u8
+    ensures { result ≡ 1 }
+{
+    let shown = EscapedText(host.as_slice());
+    let status = say_not_taken(errors, &server);
+    let _ = writeln!(
+        errors,
+        "mailquota: note: if it has /etc/mailquota/permits.toml, that needs, under [hosts], with this machine's address: \"{shown}\" = [\"ADDRESS\"]"
+    );
+    status
+}
+
 /// Asks the server once, and prints on `output` that it answers, or says on `errors` why it
 /// doesn't, or why that can't be printed. `server` is how it is named there.
 pub fn run_probe<L: Link, W: Write, E: Write>(
@@ -178,8 +234,8 @@ pub fn run_probe<L: Link, W: Write, E: Write>(
     match probe(alloc, link) {
         Ok(()) => ProbeEnd::Answered(tell_line(answers_line(alloc, server), output, errors)),
         Err(fault) => {
-            let _status = say(errors, &fault);
-            ProbeEnd::Unanswered(fault)
+            let _status = say_unanswered(fault, server, errors);
+            ProbeEnd::Unanswered(probe_fault(fault))
         }
     }
 }
@@ -211,7 +267,7 @@ pub fn run_host_probe<L: Link, W: Write, E: Write>(
 {
     match ask_host(alloc, link, host, now) {
         Ok(()) => tell_line(taken_lines(alloc, server, host), output, errors),
-        Err(fault) => say(errors, &fault),
+        Err(fault) => say_untaken(fault, server, host, errors),
     }
 }
 

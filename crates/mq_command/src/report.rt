@@ -15,12 +15,13 @@ mod page;
 mod row;
 mod top;
 
-use crate::ask::{AskFault, ask};
+use crate::ask::{NoAnswer, ask};
+use crate::errors::Errors;
 use crate::output::OutputFault;
 use crate::report::page::is_ascending;
 use crate::report::row::{write_row, write_rows};
 use crate::report::top::top_of;
-use crate::telling::{say, tell_text};
+use crate::telling::{say_of_server, tell_text};
 use mq_link::Link;
 use mq_request::bounds::ROW_LIMIT;
 use mq_request::{Login, Reply, Request, UsageRow, UsageRows};
@@ -38,7 +39,7 @@ const MOST_PAGES: u32 = 100_000;
 #[derive(Clone, Copy, Debug, PartialEq, Error)]
 pub enum ReportFault {
     #[error("{0}")]
-    Unanswered(AskFault),
+    Unanswered(NoAnswer),
     /// A page isn't of that day, ascending and above the one before.
     #[error("bad page")]
     BadPage,
@@ -49,6 +50,13 @@ pub enum ReportFault {
     Write,
     #[error("out of memory")]
     Memory,
+}
+
+impl ReportFault {
+    /// Whether the server took none of the tries of a request.
+    fn is_not_taken(&self) -> bool {
+        matches!(self, ReportFault::Unanswered(NoAnswer::NotTaken))
+    }
 }
 
 impl From<AllocError> for ReportFault {
@@ -236,7 +244,7 @@ fn report<L: Link, W: Write>(
 /// `day` is a day number, 0 to 376,200, and the login has 1 to 255 bytes. Each request is sent up
 /// to three times. The logins are asked for page by page, in ascending order; a page is one
 /// moment, and two pages may be two.
-pub fn run_report<L: Link, W: Write, E: Write>(
+pub fn run_report<L: Link, W: Write, E: Errors>(
     alloc: Global,
     link: &mut L,
     day: u32,
@@ -256,13 +264,13 @@ pub fn run_report<L: Link, W: Write, E: Write>(
 }
 
 /// Says on `errors` why a report isn't done, if it isn't. The result is the exit status, 0 or 1.
-fn tell_report<E: Write>(outcome: Result<(), ReportFault>, errors: &mut E) -> u8
+fn tell_report<E: Errors>(outcome: Result<(), ReportFault>, errors: &mut E) -> u8
     ensures status { result ≡ status_of outcome }
     ensures quiet { result ≡ 0 → errors.new ≡ errors.old }
 {
     match outcome {
         Ok(()) => 0,
-        Err(fault) => say(errors, &fault),
+        Err(fault) => say_of_server(errors, &fault, fault.is_not_taken()),
     }
 }
 
@@ -337,7 +345,7 @@ fn report_top<L: Link, W: Write>(
 ///
 /// `day` is a day number, 0 to 376,200. All logins are asked for, page by page, as [`run_report`]
 /// does, and nothing is printed where not all pages come.
-pub fn run_top<L: Link, W: Write, E: Write>(
+pub fn run_top<L: Link, W: Write, E: Errors>(
     alloc: Global,
     link: &mut L,
     day: u32,

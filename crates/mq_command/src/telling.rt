@@ -3,6 +3,7 @@ ghost use Rattle.std.specs.Prelude.{◌≡◌, MatchResult, string_bytes};
 ghost use Rattle.std.specs.Io.KnownBytes.{Keeps};
 ghost use Rattle.mq_command.specs.Orders.{Prints, PrintsLine};
 
+use crate::errors::Errors;
 use crate::order::OrderFault;
 use crate::output::{OutputFault, write_whole};
 use std::alloc::AllocError;
@@ -14,6 +15,33 @@ pub fn say<E: Write, F: fmt::Display>(errors: &mut E, fault: &F) -> u8
     ensures { result ≡ 1 }
 {
     let _ = writeln!(errors, "mailquota: {fault}");
+    1
+}
+
+/// Says on `errors` why something isn't done; where the server took none of the tries of a request,
+/// which one that is. The result is the exit status.
+pub fn say_of_server<E: Errors, F: fmt::Display>(
+    errors: &mut E,
+    fault: &F,
+    is_not_taken: bool,
+) -> u8
+    ensures { result ≡ 1 }
+{
+    match errors.server() {
+        Some(server) if is_not_taken => say_not_taken(errors, &server),
+        _ => say(errors, fault),
+    }
+}
+
+/// Says on `errors` that this server took none of the tries of a request. The result is the exit
+/// status.
+pub fn say_not_taken<E: Write, S: fmt::Display>(errors: &mut E, server: &S) -> u8
+    ensures { result ≡ 1 }
+{
+    let _ = writeln!(
+        errors,
+        "mailquota: {server} didn't take this: its log says why"
+    );
     1
 }
 
@@ -31,7 +59,7 @@ pub fn tell_text<W: Write, E: Write>(text: &str, output: &mut W, errors: &mut E)
 
 /// Prints the word of an order that was carried out, or says on `errors` why it wasn't. The result
 /// is the exit status, 0 or 1.
-pub fn tell<W: Write, E: Write>(
+pub fn tell<W: Write, E: Errors>(
     sent: Result<(), OrderFault>,
     word: &str,
     output: &mut W,
@@ -43,7 +71,7 @@ pub fn tell<W: Write, E: Write>(
 {
     match sent {
         Ok(()) => tell_text(word, output, errors),
-        Err(fault) => say(errors, &fault),
+        Err(fault) => say_of_server(errors, &fault, fault.is_not_taken()),
     }
 }
 

@@ -48,6 +48,8 @@ ASK_A_B = ["report", "--day=1", "--login=a b\\"]
 LINE = "      1       0       3 u\n"
 # what the log has of a question without an answer stands in place of LOG
 UNAVAILABLE = (1, "", "LOGmailquota: quota service unavailable\n")
+# and its address in place of SERVER
+NOT_TAKEN = (1, "", "LOGmailquota: SERVER didn't take this: its log says why\n")
 BAD_PAGE = (1, "", "mailquota: bad page\n")
 DONE = (0, "", "")
 
@@ -68,7 +70,10 @@ def run(world, checks):
         came = list(pool.map(lambda row: exchanged(world, *row[1:4]), rows))
     for (what, _, _, _, told, sent, *cause), (came_told, came_sent, address) in zip(rows, came):
         log = unreached(address, cause[0]) if cause and cause[0] else ""
-        wanted = [(status, printed, errors.replace("LOG", log)) for status, printed, errors in told]
+        wanted = [
+            (status, printed, errors.replace("LOG", log).replace("SERVER", address))
+            for status, printed, errors in told
+        ]
         checks.equal(f"{what}: what is told", came_told, wanted)
         checks.equal(f"{what}: what is sent", came_sent, sent)
     printed_logins(world, checks)
@@ -357,7 +362,7 @@ NO_ANSWERS = [
         b"",
         [hexadecimal(body)] * 4,
         [asked],
-        [UNAVAILABLE],
+        [NOT_TAKEN if cause == NO_MEMORY else UNAVAILABLE],
         [sent] * 3,
         cause,
     )

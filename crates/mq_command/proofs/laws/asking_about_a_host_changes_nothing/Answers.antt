@@ -1,4 +1,4 @@
-use Rattle.mq_command.proofs.Words.{AreAlike, Bool, Entry, FIRST_MOMENT, Id, LAST_ORDINAL, List, Release, Reply, Request, Some, [], ap, answer, appended, arith, closed, closes, false, floor, freed, granted_in, greater_zero, held, host_question, if_zero, if◌then◌else◌, known_by, next_run, refl, requests, reserved, same_text, same_transaction, settled, subst, sym, transaction, true, ℕ, ◌&&◌, ◌++◌, ◌+◌, ◌==◌, ◌||◌, ◌∙◌, ◌∷◌, ◌≡◌}
+use Rattle.mq_command.proofs.Words.{AreAlike, Bool, Entry, Id, LAST_ORDINAL, List, Release, Reply, Request, Some, [], ap, answer, appended, arith, closed, closes, false, floor, freed, granted_in, greater_zero, held, host_question, if_zero, if◌then◌else◌, known_by, moment_of_run, next_run, refl, requests, reserved, same_text, same_transaction, settled, subst, sym, transaction, true, ℕ, ◌&&◌, ◌++◌, ◌+◌, ◌==◌, ◌||◌, ◌∙◌, ◌∷◌, ◌≡◌}
 use Rattle.mq_request.specs.declared.message.Reply.TheVariants as says
 use Rattle.mq_command.proofs.laws.asking_about_a_host_changes_nothing.Goals as goal
 
@@ -31,7 +31,7 @@ returns c = λ day default H host now legal none.
       }
       | false ↦ record {
         all_reserved = λ l d.
-            let kept = subst (λ n. reserved day (H ++ entry ∷ []) l d + n ≡ reserved day H l d + 0) (freed_none day H l d id LAST_ORDINAL FIRST_MOMENT (45 ∷ []) a none)
+            let kept = subst (λ n. reserved day (H ++ entry ∷ []) l d + n ≡ reserved day H l d + 0) (freed_none day H l d id LAST_ORDINAL (moment_of_run (next_run now)) (45 ∷ []) a none)
             (c.one_more_on_a_day.ensures.reserved day default H entry l d legal refl) in
             omega (arith, kept);
         all_settled = λ l d.
