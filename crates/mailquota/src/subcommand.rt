@@ -7,6 +7,7 @@ use mq_program::{
     Databases, Terminals, audit, end_program, forget, init, limits, replay, server, status,
 };
 use mq_remote::{end_filter, filter, limit, probe_servers, report, resume, retire, stop};
+use mq_stream::{FromRead, WriterSink};
 use sqlite::Start;
 use std::io;
 use std::io::Write;
@@ -42,7 +43,11 @@ where
         Arguments::Init(given) => {
             end_program(init(rt, given, start, &mut io::writer(rt)), errors)
         }
-        Arguments::Filter(given) => end_filter(filter(rt, dial, given, errors), errors),
+        Arguments::Filter(given) => {
+            let input = &mut FromRead::new(rt.reader());
+            let output = &mut WriterSink::new(io::writer(rt));
+            end_filter(filter(rt, dial, given, input, output, errors), errors)
+        }
         Arguments::Status(given) => end_program(status(rt, given, start, errors), errors),
         Arguments::Probe(given) => end_process(probe_servers(rt, dial, given, errors), errors),
         Arguments::Server(given) => end_program(server(rt, given, start), errors),

@@ -1,4 +1,5 @@
 pub mod Arguments
+pub mod Clocks
 pub mod Days
 pub mod Faults
 pub mod Links

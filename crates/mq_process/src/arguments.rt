@@ -158,6 +158,8 @@ pub struct StopArguments<'a> {
     pub is_forced: bool,
     /// Whether it is stopped also from each later day on which its limit changes.
     pub is_all: bool,
+    /// Whether servers that give no answer are asked again until they do, for an hour at most.
+    pub is_waiting: bool,
 }
 
 /// What `resume` is given.

@@ -104,7 +104,8 @@ pub fn tell_note<E: Write>(alloc: Global, login: &Login, errors: &mut E) -> Resu
     Ok(())
 }
 
-/// A link to the server at this address, with a log of its troubles.
+/// A link to the server at this address, with a log of its troubles: one connection for all that a
+/// command asks.
 pub fn link_to<'a, D: Dial, G: Log>(
     dial: &D,
     address: SocketAddr,
@@ -112,7 +113,7 @@ pub fn link_to<'a, D: Dial, G: Log>(
 ) -> LoggedLink<'a, D::Link, G>
     ensures { D.leads result address TIMEOUT }
 {
-    LoggedLink::new(dial.link(address, TIMEOUT), log, TRIES)
+    LoggedLink::new(dial.link(address, TIMEOUT, true), log, TRIES)
 }
 
 /// The first number of a run.

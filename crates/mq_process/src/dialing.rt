@@ -8,7 +8,7 @@ use std::time::Duration;
 
 /// Makes links to quota servers.
 pub trait Dial {
-    ghost use Rattle.std.specs.Prelude.{ℕ};
+    ghost use Rattle.std.specs.Prelude.{ℕ, Bool};
     ghost use Rattle.std.specs.declared.net.SocketAddr.{SocketAddr};
 
     type Link: Link + Explain + Drop;
@@ -17,10 +17,15 @@ pub trait Dial {
     // exchange.
     ghost leads: { Self.Link → SocketAddr → ℕ → Type 0 };
 
+    // The link keeps its connection from one exchange to the next, or makes a new one for each.
+    ghost keeps: { Self.Link → Bool → Type 0 };
+
     /// A link to the server at this address, over which nothing went yet. `timeout`, above 0, is
-    /// how many milliseconds it may take to connect, to write a request and to read its reply.
-    fn link(&self, address: SocketAddr, timeout: u64) -> Self::Link
-        ensures { leads result address timeout };
+    /// how many milliseconds it may take to connect, to write a request and to read its reply, and
+    /// `is_kept` whether one connection is for many requests.
+    fn link(&self, address: SocketAddr, timeout: u64, is_kept: bool) -> Self::Link
+        ensures leads { leads result address timeout }
+        ensures keeps { keeps result is_kept };
 }
 
 /// Makes links over TCP.
@@ -43,7 +48,14 @@ impl<'a, R: Clock + Net> Dial for Dialer<'a, R> {
 
     ghost leads = { λ link address timeout. LeadsTo link address timeout };
 
-    fn link(&self, address: SocketAddr, timeout: u64) -> TcpLink<'a, R, Connector<'a, R>> {
-        TcpLink::new(self.rt, address, Duration::from_millis(timeout))
+    ghost keeps = { λ link keeps. link.keeps ≡ keeps };
+
+    fn link(
+        &self,
+        address: SocketAddr,
+        timeout: u64,
+        is_kept: bool,
+    ) -> TcpLink<'a, R, Connector<'a, R>> {
+        TcpLink::new(self.rt, address, Duration::from_millis(timeout)).keeping(is_kept)
     }
 }

@@ -40,7 +40,7 @@ fn link_once<'a, D: Dial, G: Log>(
 ) -> LoggedLink<'a, D::Link, G>
     ensures { D.leads result address timeout }
 {
-    LoggedLink::new(dial.link(address, timeout), log, 1)
+    LoggedLink::new(dial.link(address, timeout, false), log, 1)
 }
 
 /// Asks the server at this address once whether it answers, and prints that it does, or says on

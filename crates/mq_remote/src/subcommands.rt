@@ -6,3 +6,4 @@ pub mod probe;
 pub mod report;
 pub mod retire;
 pub mod stop;
+mod stopping;

@@ -37,6 +37,7 @@ from ends import (
     fault,
     ledger_settings,
     of_settings,
+    read_request,
     read_to_end,
     send_no_more,
     toml,
@@ -401,8 +402,7 @@ def pieces_of_a_reply(world, checks):
                 # (a peer that ends the connection before has its case fail below)
                 with peer, contextlib.suppress(OSError):
                     peer.setsockopt(socket.IPPROTO_TCP, socket.TCP_NODELAY, 1)
-                    while peer.recv(65_536):
-                        pass
+                    read_request(peer)
                     for start, end in itertools.pairwise(cuts(len(reply), size)):
                         peer.sendall(reply[start:end])
                         if size > 500:

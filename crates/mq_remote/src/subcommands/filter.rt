@@ -1,9 +1,9 @@
 //! `filter`: answers smtpd on standard input and output.
-ghost use Rattle.std.specs.Prelude.{◌↔◌, ◌<◌, ◌*◌, ℕ, IfOk, IfSome, IsTrue, List, Option};
+ghost use Rattle.std.specs.Prelude.{◌↔◌, ◌<◌, ◌*◌, IfOk, IfSome, IsTrue};
 ghost use Rattle.mq_request.specs.Range.{IsRun};
 ghost use Rattle.mq_process.specs.Settings.{CanAsk};
-ghost use Rattle.mq_remote.specs.Filters.{AnswersLines, Begins, ChecksServer, FiltersBy};
-ghost use Rattle.mq_remote.specs.Filters.{FiltersFile, FiltersNumbered, FiltersRun};
+ghost use Rattle.mq_remote.specs.Filters.{AnswersLines, Begins, ChecksServer};
+ghost use Rattle.mq_remote.specs.Filters.{FiltersFile, FiltersNumbered, FiltersRun, streams};
 
 use crate::fault::FilterEnd;
 use log::sink::Console;
@@ -11,72 +11,72 @@ use log::{LevelFilter, Log, Logged, error, info, warn};
 use mq_client::{Client, Spans, run_filter};
 use mq_link::{Link, LoggedLink};
 use mq_process::{
-    Dial, FilterArguments, ProcessFault, Question, ask_once, filter_settings, run_number,
+    Dial, FilterArguments, ProcessFault, Question, WallClock, ask_once, filter_settings, run_number,
 };
 use mq_request::EscapedText;
 use mq_settings::FilterSettings;
-use mq_stream::{FromRead, WriterSink};
+use mq_stream::{Sink, Source};
 use std::alloc::{AllocError, Global};
-use std::io;
 use std::io::Write;
-use std::rt::{Clock, Files};
+use std::rt::Files;
 
-/// Runs the filter until its input ends: the settings first, then the clock. With `check` it reads
-/// no input, and only asks whether the server of its settings takes the requests of its host.
-pub fn filter<R: Files + Clock + Input + Print + Eprint + AllocGlobal, D: Dial, E: Write>(
+/// Runs the filter until its input ends: the settings first, then the clock. What smtpd writes comes
+/// from `input`, and `output` takes what it is answered. With `check` it uses neither, and only asks
+/// whether the server of its settings takes the requests of its host.
+pub fn filter<
+    R: Files + WallClock + Print + Eprint + AllocGlobal,
+    D: Dial,
+    S: Source,
+    W: Sink,
+    E: Write,
+>(
     rt: &R,
     dial: &D,
     given: FilterArguments<'_>,
+    input: &mut S,
+    output: &mut W,
     errors: &mut E,
 ) -> Result<u8, FilterEnd>
     requires { IfSome given.run IsRun }
-    ensures { FiltersFile D.leads D.Link.told R.File.remaining given.entry result }
+    ensures { FiltersFile D.leads D.Link.told R.File.remaining (R.shows rt.now) given.entry
+        (streams (S.remaining input.old) (S.reads input.old) (S.has_failed input.old)
+        (W.contents output.old) (W.has_failed output.old))
+        (streams (S.remaining input.new) (S.reads input.new) (S.has_failed input.new)
+        (W.contents output.new) (W.has_failed output.new)) result }
 {
     match filter_settings(rt, given.config) {
-        Ok(settings) => filter_by(rt, dial, &settings, given.check, given.run, errors),
+        Ok(settings) if given.check => check_server(rt, dial, &settings, errors),
+        Ok(settings) => run_numbered(rt, dial, &settings, given.run, input, output),
         Err(fault) => Err(FilterEnd::Process(fault)),
     }
 }
 
-/// Runs the filter by its settings, or only asks whether their server answers.
-fn filter_by<R: Clock + Input + Print + Eprint + AllocGlobal, D: Dial, E: Write>(
-    rt: &R,
-    dial: &D,
-    settings: &FilterSettings,
-    check: bool,
-    run: Option<u64>,
-    errors: &mut E,
-) -> Result<u8, FilterEnd>
-    requires settings { CanAsk settings.now }
-    requires run { IfSome run IsRun }
-    ensures { FiltersBy D.leads D.Link.told check run settings.now result }
-{
-    if check {
-        return check_server(rt, dial, settings, errors);
-    }
-    run_numbered(rt, dial, settings, run)
-}
-
 /// Runs the filter under the run number that is given, or under the clock's.
-fn run_numbered<R: Clock + Input + Print + Eprint + AllocGlobal, D: Dial>(
+fn run_numbered<R: WallClock + Eprint + AllocGlobal, D: Dial, S: Source, W: Sink>(
     rt: &R,
     dial: &D,
     settings: &FilterSettings,
     given: Option<u64>,
+    input: &mut S,
+    output: &mut W,
 ) -> Result<u8, FilterEnd>
     requires settings { CanAsk settings.now }
     requires given { IfSome given IsRun }
-    ensures { FiltersNumbered D.leads D.Link.told given settings.now result }
+    ensures { FiltersNumbered D.leads D.Link.told (R.shows rt.now) given settings.now
+        (streams (S.remaining input.old) (S.reads input.old) (S.has_failed input.old)
+        (W.contents output.old) (W.has_failed output.old))
+        (streams (S.remaining input.new) (S.reads input.new) (S.has_failed input.new)
+        (W.contents output.new) (W.has_failed output.new)) result }
 {
     match run_number(rt, given) {
-        Ok(run) => run_client(rt, dial, settings, run),
+        Ok(run) => run_client(rt, dial, settings, run, input, output),
         Err(fault) => Err(FilterEnd::Process(fault)),
     }
 }
 
 /// Asks once whether the server of the settings takes the requests of their host, and prints how
 /// long the filter holds back.
-fn check_server<R: Clock + Print + Eprint + AllocGlobal, D: Dial, E: Write>(
+fn check_server<R: WallClock + Print + Eprint + AllocGlobal, D: Dial, E: Write>(
     rt: &R,
     dial: &D,
     settings: &FilterSettings,
@@ -133,15 +133,21 @@ fn client_of(alloc: Global, settings: &FilterSettings, run: u64) -> Result<Clien
 }
 
 /// Runs the filter under this run number, over a link to the server of the settings.
-fn run_client<R: Input + Print + Eprint + AllocGlobal, D: Dial>(
+fn run_client<R: Eprint + AllocGlobal, D: Dial, S: Source, W: Sink>(
     rt: &R,
     dial: &D,
     settings: &FilterSettings,
     run: u64,
+    input: &mut S,
+    output: &mut W,
 ) -> Result<u8, FilterEnd>
     requires settings { CanAsk settings.now }
     requires run { IsRun run }
-    ensures { FiltersRun D.leads D.Link.told settings.now run result }
+    ensures { FiltersRun D.leads D.Link.told settings.now run
+        (streams (S.remaining input.old) (S.reads input.old) (S.has_failed input.old)
+        (W.contents output.old) (W.has_failed output.old))
+        (streams (S.remaining input.new) (S.reads input.new) (S.has_failed input.new)
+        (W.contents output.new) (W.has_failed output.new)) result }
 {
     let Ok(mut client) = client_of(rt.alloc(), settings, run) else {
         return Err(FilterEnd::Process(ProcessFault::Memory));
@@ -151,24 +157,30 @@ fn run_client<R: Input + Print + Eprint + AllocGlobal, D: Dial>(
     let server = settings.server;
     info!(logged; "the filter of host {host} begins its run {run}, with the server {server}");
     let timeout = u64::from(settings.timeout);
-    let mut link = LoggedLink::new(dial.link(server, timeout), &logged, settings.tries);
-    answer_lines(rt, &logged, &mut link, &mut client)
+    let mut link = LoggedLink::new(
+        dial.link(server, timeout, settings.keep_connection),
+        &logged,
+        settings.tries,
+    );
+    answer_lines(&logged, rt.alloc(), input, output, &mut link, &mut client)
 }
 
-/// Answers the lines on standard input. Why that ends before their end is logged.
-fn answer_lines<R: Input + Print + AllocGlobal, G: Log, K: Link>(
-    rt: &R,
+/// Answers the lines of the input. Why that ends before their end is logged.
+fn answer_lines<G: Log, S: Source, W: Sink, K: Link>(
     log: &G,
+    alloc: Global,
+    input: &mut S,
+    output: &mut W,
     link: &mut K,
     client: &mut Client,
 ) -> Result<u8, FilterEnd>
-    ensures { (before after : Option (List ℕ))
-        × AnswersLines client.old client.new result (K.told link.old)
-        (K.told link.new) before after }
+    ensures { AnswersLines client.old client.new result (K.told link.old) (K.told link.new)
+        (streams (S.remaining input.old) (S.reads input.old) (S.has_failed input.old)
+        (W.contents output.old) (W.has_failed output.old))
+        (streams (S.remaining input.new) (S.reads input.new) (S.has_failed input.new)
+        (W.contents output.new) (W.has_failed output.new)) }
 {
-    let mut input = FromRead::new(rt.reader());
-    let mut output = WriterSink::new(io::writer(rt));
-    match run_filter(log, rt.alloc(), &mut input, &mut output, link, client) {
+    match run_filter(log, alloc, input, output, link, client) {
         Ok(_) => Ok(0),
         Err(fault) => {
             error!(log; "the filter ends: {fault}");

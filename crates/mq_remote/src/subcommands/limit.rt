@@ -9,10 +9,10 @@ ghost use Rattle.mq_remote.specs.Asked.{AsksAt, AsksLimit, IsLimitBy, SendsLimit
 
 use log::sink::Console;
 use log::{LevelFilter, Logged};
-use mq_command::{run_fresh, run_limit};
+use mq_command::{ServerErrors, run_fresh, run_limit};
 use mq_process::{
-    Dial, LimitArguments, ProcessFault, TIMEOUT, ask_each, checked, day_named, end_process,
-    first_id, found_server, link_to, login_of, run_number, servers_or, tell_note,
+    Dial, LimitArguments, ProcessFault, TIMEOUT, WallClock, ask_each, checked, day_named,
+    end_process, first_id, found_server, link_to, login_of, run_number, servers_or, tell_note,
 };
 use mq_request::Request;
 use mq_request::bounds::LAST_DAY;
@@ -47,7 +47,7 @@ fn limit_request(
 }
 
 /// `limit`: sets the limit of a login from a day on, at each server under the same number.
-pub fn limit<R: Files + Clock + Print + Eprint + AllocGlobal, D: Dial, E: Write>(
+pub fn limit<R: Files + Clock + WallClock + Print + Eprint + AllocGlobal, D: Dial, E: Write>(
     rt: &R,
     dial: &D,
     given: LimitArguments<'_>,
@@ -56,7 +56,8 @@ pub fn limit<R: Files + Clock + Print + Eprint + AllocGlobal, D: Dial, E: Write>
     requires { IsLimitArguments given }
     ensures refuses { OrderRefuses given.entry.host.now given.entry.login given.entry.servers
         (λ fault. result ≡ Err fault) }
-    ensures asks { IfOk result (AsksLimit D.leads D.Link.told R.File.remaining given.entry) }
+    ensures asks { IfOk result (AsksLimit D.leads D.Link.told R.File.remaining (R.shows rt.now)
+        given.entry) }
 {
     let words = given.servers.as_slice();
     checked(rt, given.host, given.login, words)?;
@@ -140,9 +141,10 @@ fn send_limit<R: Print + Eprint + AllocGlobal, D: Dial, E: Write>(
     let logged = Logged::new(rt, LevelFilter::Error, Console(rt));
     let mut link = link_to(dial, address, &logged);
     let mut output = io::writer(rt);
+    let mut told = ServerErrors::new(errors, address);
     if is_given {
-        run_limit(rt.alloc(), &mut link, &request, &mut output, errors)
+        run_limit(rt.alloc(), &mut link, &request, &mut output, &mut told)
     } else {
-        run_fresh(rt.alloc(), &mut link, request, &mut output, errors)
+        run_fresh(rt.alloc(), &mut link, request, &mut output, &mut told)
     }
 }

@@ -9,7 +9,7 @@ ghost use Rattle.mq_remote.specs.Asked.{ReportsThere};
 
 use log::sink::Console;
 use log::{LevelFilter, Logged};
-use mq_command::{print_columns, run_report, run_top};
+use mq_command::{Errors, ServerErrors, print_columns, run_report, run_top};
 use mq_link::Link;
 use mq_process::{
     Dial, LoginArgument, ProcessFault, ReportArguments, TIMEOUT, ask_each, check_addresses,
@@ -143,13 +143,13 @@ fn ask_report<R: Print + Eprint + AllocGlobal, D: Dial, E: Write>(
         reported,
         has_columns,
         &mut output,
-        errors,
+        &mut ServerErrors::new(errors, address),
     ))
 }
 
 /// Asks over a link what these logins used on a day, and prints it, below a line that says what the
 /// columns are, where that is wanted.
-fn report_over<L: Link, W: Write, E: Write>(
+fn report_over<L: Link, W: Write, E: Errors>(
     alloc: Global,
     link: &mut L,
     day: u32,
@@ -174,7 +174,7 @@ fn report_over<L: Link, W: Write, E: Write>(
 }
 
 /// Asks over a link what these logins used on a day, and prints it.
-fn report_rows<L: Link, W: Write, E: Write>(
+fn report_rows<L: Link, W: Write, E: Errors>(
     alloc: Global,
     link: &mut L,
     day: u32,

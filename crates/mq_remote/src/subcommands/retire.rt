@@ -9,16 +9,16 @@ ghost use Rattle.mq_remote.specs.Asked.{IsTargetOfFilter, SendsOrder};
 
 use log::sink::Console;
 use log::{LevelFilter, Logged};
-use mq_command::run_retire;
+use mq_command::{ServerErrors, run_retire};
 use mq_process::{
-    Dial, ProcessFault, RetireArguments, TIMEOUT, address_found, address_of,
+    Dial, ProcessFault, RetireArguments, TIMEOUT, WallClock, address_found, address_of,
     filter_settings_in_place, link_to, run_number,
 };
 use mq_request::{Host, Id, Request, is_host};
 use std::io;
 use std::io::Write;
 use std::net::SocketAddr;
-use std::rt::{Clock, Files};
+use std::rt::Files;
 
 /// Whose runs are given up, and where.
 #[derive(Drop)]
@@ -103,7 +103,7 @@ fn target_of<R: Files + Eprint + AllocGlobal>(
 }
 
 /// `retire`: gives up the runs of a host below a number.
-pub fn retire<R: Files + Clock + Print + Eprint + AllocGlobal, D: Dial, E: Write>(
+pub fn retire<R: Files + WallClock + Print + Eprint + AllocGlobal, D: Dial, E: Write>(
     rt: &R,
     dial: &D,
     given: RetireArguments<'_>,
@@ -111,7 +111,8 @@ pub fn retire<R: Files + Clock + Print + Eprint + AllocGlobal, D: Dial, E: Write
 ) -> Result<u8, ProcessFault>
     requires { IfSome given.run IsRun }
     ensures refuses { RetireRefuses given.entry (λ fault. result ≡ Err fault) }
-    ensures asks { IfOk result (AsksRetire D.leads D.Link.told R.File.remaining given.entry) }
+    ensures asks { IfOk result (AsksRetire D.leads D.Link.told R.File.remaining (R.shows rt.now)
+        given.entry) }
 {
     if !given.host.is_none_or(|host| is_host(host.as_bytes())) {
         return Err(ProcessFault::Host);
@@ -146,5 +147,6 @@ fn ask_retire<R: Print + Eprint + AllocGlobal, D: Dial, E: Write>(
     let logged = Logged::new(rt, LevelFilter::Error, Console(rt));
     let mut link = link_to(dial, address, &logged);
     let mut output = io::writer(rt);
-    run_retire(rt.alloc(), &mut link, &request, &mut output, errors)
+    let mut told = ServerErrors::new(errors, address);
+    run_retire(rt.alloc(), &mut link, &request, &mut output, &mut told)
 }

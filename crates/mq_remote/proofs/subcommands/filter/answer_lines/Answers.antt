@@ -2,8 +2,9 @@ use Rattle.std.proofs.Common.{refl}
 use Rattle.mq_remote.proofs.subcommands.filter.answer_lines.Goals as goal
 
 pub returns-in-Ok : goal.returns-in-Ok
-returns-in-Ok g c = let all = c.in-Ok.ensures.ok in (_, _, (refl, record { bytes = _; ended = _; ends = all.3 }))
+returns-in-Ok g c =
+    let all = c.in-Ok.ensures.ok in
+    (refl, record { pieces = _; ended = _; supplied = all.1; at_end = all.2; ends = all.3; works = c.in-Ok.ensures.written })
 
-pub returns : goal.returns
-returns g c =
-    let part = c.in-Err.ensures.fault in (_, _, record { pieces = part.0; source = _; read_failed = _; write_failed = _; stops = part.2 })
+pub returns-in-Err : goal.returns-in-Err
+returns-in-Err g c = let part = c.in-Err.ensures.fault in record { pieces = part.0; supplied = part.1; stops = part.2 }

@@ -1,3 +1,4 @@
+use Rattle.std.specs.Prelude.{None}
 use Rattle.std.proofs.Common.{inr, rules}
 use Rattle.mq_remote.proofs.AskedSteps.{led_by}
 use Rattle.mq_remote.proofs.subcommands.filter.run_client.Goals as goal
@@ -7,8 +8,8 @@ returns g c =
     inr (record {
       link = _;
       after = c.answer_lines.new.link;
-      output = c.answer_lines.ensures.0;
-      output' = c.answer_lines.ensures.1;
-      is_led = led_by g.D.Dial.leads _ _ c.args.settings.now.server c.from-timeout.result c.args.settings.now.timeout c.new-link.ensures (search rules) c.link.ensures;
-      asked = (_, c.answer_lines.new.client, c.in-Ok.ensures, c.answer_lines.ensures.2);
+      output = None;
+      output' = None;
+      is_led = led_by g.D.Dial.leads _ _ c.args.settings.now.server c.from-timeout.result c.args.settings.now.timeout c.new-link.ensures (search rules) c.link.ensures.leads;
+      asked = (_, c.answer_lines.new.client, c.in-Ok.ensures, c.answer_lines.ensures);
     })

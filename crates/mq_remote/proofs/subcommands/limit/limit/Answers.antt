@@ -14,6 +14,6 @@ returns-clause-asks g c = record {
   day = c.in_ok-from_day.from_day;
   from = c.in_ok-from_day.ensures.day;
   run = c.in_ok-run.run';
-  is_run = run_by c.args.given.run c.in_ok-run.run' _ c.in_ok-run.was (search rules) c.in_ok-run.ensures.run;
+  is_run = run_by _ c.args.given.run c.in_ok-run.run' _ c.in_ok-run.was (search rules) c.in_ok-run.ensures.run c.in_ok-run.ensures.clock;
   asked = servers_asked _ _ (λ address said after k. let called = k.2 in search rules) c.ask_each.ensures.1;
 }

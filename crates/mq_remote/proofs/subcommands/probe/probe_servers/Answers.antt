@@ -18,7 +18,7 @@ pub returns-in_err-host-clause-refuses : goal.returns-in_err-host-clause-refuses
 returns-in_err-host-clause-refuses g c = probe_right c.args.given _ (search rules) (subst (λ l. HasNoAddress l → ⊥) c.as_slice-words.ensures c.in_ok-check_addresses.ensures)
 
 pub returns-in_err-question-clause-refuses : goal.returns-in_err-question-clause-refuses
-returns-in_err-question-clause-refuses g c = probe_right c.args.given _ (search rules) (subst (λ l. HasNoAddress l → ⊥) c.as_slice-words.ensures c.in_ok-check_addresses.ensures)
+returns-in_err-question-clause-refuses g c = probe_right c.args.given _ (search (rules, c.is_none_or.ensures, c.if-not-is_none_or.false, c.if-not-is_none_or.ensures)) (subst (λ l. HasNoAddress l → ⊥) c.as_slice-words.ensures c.in_ok-check_addresses.ensures)
 
 pub returns-clause-refuses : goal.returns-clause-refuses
 returns-clause-refuses g c = probe_right c.args.given _ (search (rules, c.is_none_or.ensures, c.if-not-is_none_or.false, c.if-not-is_none_or.ensures)) (subst (λ l. HasNoAddress l → ⊥) c.as_slice-words.ensures c.in_ok-check_addresses.ensures)

@@ -6,7 +6,7 @@ use Rattle.mq_remote.proofs.subcommands.retire.retire.Goals as goal
 pub returns-clause-asks : goal.returns-clause-asks
 returns-clause-asks g c = record {
   run = c.in_ok-run.run';
-  is_run = run_by c.args.given.run c.in_ok-run.run' _ c.in_ok-run.was (search rules) c.in_ok-run.ensures.run;
+  is_run = run_by _ c.args.given.run c.in_ok-run.run' _ c.in_ok-run.was (search rules) c.in_ok-run.ensures.run c.in_ok-run.ensures.clock;
   server = c.in_ok-server.server;
   spelled = c.in_ok-server.ensures;
   target = c.in_ok-target.target;
