@@ -58,8 +58,3 @@ ClearsLater setter day may all old new ended =
     ⊎ (((LAST_DAY < day + 2 + count) × (ended ≡ Ok None) × (new ≡ mid))
     ⊎ ((count < 399) × (ended ≢ Ok None)
     × ClearsDay setter (2020 + count) (day + 2 + count) (most_on may (day + 2 + count)) all mid new ended)))
-
--- 0 where no limit stays in force, else 1
-abbrev pub later_status : Result (Option LaterLimit) OrderFault → ℕ
-later_status (Ok None) = 0
-later_status _ = 1

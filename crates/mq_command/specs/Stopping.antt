@@ -4,35 +4,39 @@ use Rattle.std.specs.Prelude.{if◌then◌else◌}
 use Rattle.std.specs.Fmt.{decimal}
 use Rattle.mq_command.specs.Allowing.{SetsBoth, day_line}
 use Rattle.mq_command.specs.Holding.{Holds, HoldsLater}
-use Rattle.mq_command.specs.Later.{ClearsLater, later_status}
+use Rattle.mq_command.specs.Later.{ClearsLater}
 use Rattle.mq_command.specs.Orders.{Prints}
 use Rattle.mq_command.specs.Usage.{AsksUsed, ByUsage, FailsToAsk, LooksBack}
 use Rattle.mq_command.specs.declared.allow.AllowFault.{AllowFault}
 use Rattle.mq_command.specs.declared.allow.AllowFault.TheVariants.{Order, Idle, NotStopped, NoFormer}
 use Rattle.mq_command.specs.declared.allow.RestoredLimit.{RestoredLimit}
 use Rattle.mq_command.specs.declared.allow.Setter.{Setter}
-use Rattle.mq_command.specs.declared.ask.AskFault.{AskFault}
+use Rattle.mq_command.specs.declared.ask.NoAnswer.{NoAnswer}
 use Rattle.mq_command.specs.declared.hold.HeldLimit.{HeldLimit}
 use Rattle.mq_command.specs.declared.hold.LaterUse.{LaterUse}
 use Rattle.mq_command.specs.declared.later.LaterLimit.{LaterLimit}
 use Rattle.mq_command.specs.declared.look_back.SoughtDay.TheVariants.{Use, Limit}
 use Rattle.mq_command.specs.declared.order.OrderFault.{OrderFault}
 use Rattle.mq_command.specs.declared.order.OrderFault.TheVariants.{Unanswered}
+use Rattle.mq_command.specs.declared.stop.SentLately.{SentLately}
+use Rattle.mq_command.specs.declared.stop.SentLately.TheVariants as sent
+use Rattle.mq_command.specs.declared.stop_end.StopEnd.{StopEnd}
+use Rattle.mq_command.specs.declared.stop_end.StopEnd.TheVariants as ends
 use Rattle.mq_command.specs.declared.stop.StopOrder.{StopOrder}
 use Rattle.mq_command.specs.declared.stop.StoppedLogin.{StoppedLogin}
 use Rattle.mq_command.specs.declared.usage.DayUsage.{DayUsage}
 use Rattle.mq_link.specs.declared.link.ReportedExchange.{ReportedExchange}
 
 -- a question about the login wasn't answered
-abbrev pub unanswered : AskFault → AllowFault
+abbrev pub unanswered : NoAnswer → AllowFault
 unanswered fault = Order (Unanswered fault)
 
 -- What asking whether a login sent something lately leads to: it did where it used something on the day or one of the two
--- before, and didn't where nothing is found or no answer comes.
-abbrev pub HasSent : List ℕ → ℕ → Option (List ReportedExchange) → Option (List ReportedExchange) → Bool → Type 0
-HasSent login day old new true = (found : ℕ) × LooksBack Use login day 3 old new (Ok (Some found))
-HasSent login day old new false =
-    LooksBack Use login day 3 old new (Ok None) ⊎ ((cause : AskFault) × LooksBack Use login day 3 old new (Err cause))
+-- before, and didn't where nothing is found; or no answer comes.
+abbrev pub HasSent : List ℕ → ℕ → Option (List ReportedExchange) → Option (List ReportedExchange) → SentLately → Type 0
+HasSent login day old new sent.Yes = (found : ℕ) × LooksBack Use login day 3 old new (Ok (Some found))
+HasSent login day old new sent.No = LooksBack Use login day 3 old new (Ok None)
+HasSent login day old new sent.Unanswered = (cause : NoAnswer) × LooksBack Use login day 3 old new (Err cause)
 
 -- What checking that a login is meant leads to: nothing where that is clear, else it used something on the day or one of the
 -- two before.
@@ -42,7 +46,7 @@ ChecksUse login day true old new (Err _) = ⊥
 ChecksUse login day false old new (Ok _) = (found : ℕ) × LooksBack Use login day 3 old new (Ok (Some found))
 ChecksUse login day false old new (Err (Idle idle)) = (idle ≡ day) × LooksBack Use login day 3 old new (Ok None)
 ChecksUse login day false old new (Err (Order fault)) =
-    (cause : AskFault) × LooksBack Use login day 3 old new (Err cause) × (fault ≡ Unanswered cause)
+    (cause : NoAnswer) × LooksBack Use login day 3 old new (Err cause) × (fault ≡ Unanswered cause)
 ChecksUse login day false old new (Err _) = ⊥
 
 -- it is clear that a login is meant, since that is said or it used something
@@ -148,21 +152,43 @@ abbrev pub stopped_lines : List ℕ → StoppedLogin → ℕ → List ℕ
 stopped_lines login stopped day =
     day_line (codes "stopped: ") login (verb stopped.held.is_more) stopped.held.cap day ++ former_lines stopped day
 
+-- the exit status: 0 only where the login is stopped
+abbrev pub stop_status : StopEnd → ℕ
+stop_status ends.Stopped = 0
+stop_status ends.Failed = 1
+stop_status ends.Unanswered = 1
+
+-- how a limit or a question that fails ends it
+abbrev pub end_by : OrderFault → StopEnd
+end_by (Unanswered cause) = ends.Unanswered
+end_by fault = ends.Failed
+
+-- how it ends where the login isn't known to be stopped
+abbrev pub unstopped : AllowFault → StopEnd
+unstopped (Order fault) = end_by fault
+unstopped fault = ends.Failed
+
+-- how it ends by limits of later days: it is done where none stays in force
+abbrev pub later_end : Result (Option LaterLimit) OrderFault → StopEnd
+later_end (Ok None) = ends.Stopped
+later_end (Ok (Some later)) = ends.Failed
+later_end (Err fault) = end_by fault
+
 -- limits of later days were looked for where the login is stopped and that was printed, and nothing more was asked where not
-abbrev pub LooksLater : Setter → StopOrder → Result StoppedLogin AllowFault → ℕ → ℕ → Option (List ReportedExchange) → Option (List ReportedExchange) → Type 0
-LooksLater setter order (Ok stopped) zero status old new =
-    (found : Result (Option LaterLimit) OrderFault) × (status ≡ later_status found)
+abbrev pub LooksLater : Setter → StopOrder → Result StoppedLogin AllowFault → ℕ → StopEnd → Option (List ReportedExchange) → Option (List ReportedExchange) → Type 0
+LooksLater setter order (Ok stopped) zero end old new =
+    (found : Result (Option LaterLimit) OrderFault) × (end ≡ later_end found)
     × ClearsLater setter order.day stopped.later order.is_all old new found
-LooksLater setter order (Ok stopped) (suc first) status old new = (status ≡ suc first) × (new ≡ old)
-LooksLater setter order (Err fault) first status old new = (status ≡ first) × (new ≡ old)
+LooksLater setter order (Ok stopped) (suc first) end old new = (end ≡ ends.Failed) × (new ≡ old)
+LooksLater setter order (Err fault) first end old new = (end ≡ unstopped fault) × (new ≡ old)
 
 -- What `stop` leads to at a server: the login is stopped, that is printed, and limits of later days are looked for.
-abbrev pub RunsStop : Setter → StopOrder → ℕ → Option (List ReportedExchange) → Option (List ReportedExchange) → Option (List ℕ) → Option (List ℕ) → Type 0
-RunsStop setter order status old new output output' =
+abbrev pub RunsStop : Setter → StopOrder → StopEnd → Option (List ReportedExchange) → Option (List ReportedExchange) → Option (List ℕ) → Option (List ℕ) → Type 0
+RunsStop setter order end old new output output' =
     (ended : Result StoppedLogin AllowFault) × (first : ℕ) × (mid : Option (List ReportedExchange))
     × Stops setter order.day order.is_meant old mid ended
     × Prints (λ stopped. stopped_lines setter.login stopped order.day) output output' ended first
-    × LooksLater setter order ended first status mid new
+    × LooksLater setter order ended first end mid new
 
 -- what `resume` prints where it gave a limit back
 abbrev pub restored_lines : List ℕ → RestoredLimit → ℕ → List ℕ

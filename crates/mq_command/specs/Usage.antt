@@ -7,7 +7,7 @@ use Rattle.mq_command.specs.Asking.{Asks, IsAnswered}
 use Rattle.mq_command.specs.declared.usage.DayUsage.{DayUsage}
 use Rattle.mq_command.specs.declared.look_back.SoughtDay.{SoughtDay}
 use Rattle.mq_command.specs.declared.look_back.SoughtDay.TheVariants.{Use, Limit}
-use Rattle.mq_command.specs.declared.ask.AskFault.{AskFault}
+use Rattle.mq_command.specs.declared.ask.NoAnswer.{NoAnswer}
 use Rattle.mq_command.specs.declared.allow.Setter.{Setter}
 use Rattle.mq_command.specs.declared.order.OrderFault.{OrderFault}
 use Rattle.mq_command.specs.declared.order.OrderFault.TheVariants.{Unanswered}
@@ -20,7 +20,7 @@ IsUsed reply usage =
     × (usage.used ≡ settled + reserved)
 
 -- What asking for what a login used on a day leads to.
-abbrev pub AsksUsed : List ℕ → ℕ → Option (List ReportedExchange) → Option (List ReportedExchange) → Result DayUsage AskFault → Type 0
+abbrev pub AsksUsed : List ℕ → ℕ → Option (List ReportedExchange) → Option (List ReportedExchange) → Result DayUsage NoAnswer → Type 0
 AsksUsed login day old new (Ok usage) =
     (reply : Reply) × IsAnswered (asks.Usage login day) reply old new × IsUsed reply usage
 AsksUsed login day old new (Err fault) = Asks (asks.Usage login day) old new (Err fault)
@@ -28,7 +28,7 @@ AsksUsed login day old new (Err fault) = Asks (asks.Usage login day) old new (Er
 -- what the login used wasn't answered
 abbrev pub FailsToAsk : Setter → ℕ → Option (List ReportedExchange) → Option (List ReportedExchange) → OrderFault → Type 0
 FailsToAsk setter day old new fault =
-    (cause : AskFault) × AsksUsed setter.login day old new (Err cause) × (fault ≡ Unanswered cause)
+    (cause : NoAnswer) × AsksUsed setter.login day old new (Err cause) × (fault ≡ Unanswered cause)
 
 -- the server answered what the login used and its limit, and this followed
 abbrev pub ByUsage : Setter → ℕ → Option (List ReportedExchange) → (DayUsage → Option (List ReportedExchange) → Type 0) → Type 0
@@ -48,7 +48,7 @@ pub data AreOthers (sought : SoughtDay) (login : List ℕ) (day : ℕ) (start : 
       → AreOthers sought login day start (count + 1) new
 
 -- What looking back from a day leads to, over so many days: the latest that is sought, if one is.
-abbrev pub LooksBack : SoughtDay → List ℕ → ℕ → ℕ → Option (List ReportedExchange) → Option (List ReportedExchange) → Result (Option ℕ) AskFault → Type 0
+abbrev pub LooksBack : SoughtDay → List ℕ → ℕ → ℕ → Option (List ReportedExchange) → Option (List ReportedExchange) → Result (Option ℕ) NoAnswer → Type 0
 LooksBack sought login day days old new (Ok (Some found)) =
     (count : ℕ) × (mid : Option (List ReportedExchange)) × (usage : DayUsage) × (count < days) × (found + count ≡ day)
     × AreOthers sought login day old count mid × AsksUsed login found mid new (Ok usage) × (is_sought sought usage ≡ true)

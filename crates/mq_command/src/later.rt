@@ -2,14 +2,17 @@
 ghost use Rattle.std.specs.Prelude.{◌≡◌, ◌+◌, Result as AnyResult, Option as AnyOption};
 ghost use Rattle.mq_request.specs.Range.{IsAmount, IsDay, IsWithin};
 ghost use Rattle.mq_command.specs.Allowing.{IsSetter};
-ghost use Rattle.mq_command.specs.Later.{ClearsDay, ClearsLater, later_status, most_on};
+ghost use Rattle.mq_command.specs.Later.{ClearsDay, ClearsLater, most_on};
+ghost use Rattle.mq_command.specs.Stopping.{later_end, stop_status};
 ghost use Rattle.mq_command.specs.declared.later.LaterLimit.{LaterLimit as AnyLaterLimit};
 ghost use Rattle.mq_command.specs.declared.order.OrderFault.{OrderFault as AnyOrderFault};
+ghost use Rattle.mq_command.specs.declared.stop_end.StopEnd.TheVariants.{Failed};
 
 use crate::allow::{Setter, set_limit};
+use crate::errors::Errors;
 use crate::hold::{LATER_DAYS, LaterUse, NUMBERS_OF_DAY};
 use crate::order::OrderFault;
-use crate::telling::say;
+use crate::stop_end::{StopEnd, fail};
 use crate::usage::ask_used;
 use mq_link::Link;
 use mq_request::bounds::LAST_DAY;
@@ -135,9 +138,9 @@ fn clear_later<L: Link>(
 /// Looks, after a login was stopped on a day, for limits that were set from a day after the next
 /// one: each governs from its day on. It lowers them to what the login may have, if all are to be,
 /// and says on `errors` which is the first that stays in force. It asks for what the login used on
-/// up to 399 days after the next one and on the last day of all. The result is the exit status: 0
-/// where none stays, else 1.
-pub(crate) fn clear_and_say<L: Link, E: Write>(
+/// up to 399 days after the next one and on the last day of all. The result is how the `stop` ends:
+/// it is done where none stays.
+pub(crate) fn clear_and_say<L: Link, E: Errors>(
     alloc: Global,
     link: &mut L,
     setter: &Setter,
@@ -145,25 +148,25 @@ pub(crate) fn clear_and_say<L: Link, E: Write>(
     later: LaterUse,
     is_all: bool,
     errors: &mut E,
-) -> u8
+) -> StopEnd
     requires setter { IsSetter setter.now }
     requires day { IsDay (day + 1) }
     requires most { IsAmount later.most }
     ensures looks { (ended : AnyResult (AnyOption AnyLaterLimit) AnyOrderFault)
-        × (result ≡ later_status ended)
+        × (result ≡ later_end ended)
         × ClearsLater setter.now day later is_all (L.told link.old) (L.told link.new) ended }
-    ensures quiet { result ≡ 0 → errors.new ≡ errors.old }
+    ensures quiet { stop_status result ≡ 0 → errors.new ≡ errors.old }
 {
     match clear_later(alloc, link, setter, day, later, is_all) {
-        Ok(None) => 0,
+        Ok(None) => StopEnd::Stopped,
         Ok(Some(later)) => tell_later(later, is_all, errors),
-        Err(fault) => say(errors, &fault),
+        Err(fault) => fail(fault, errors),
     }
 }
 
-/// Says on `errors` which limit stays in force. The result is the exit status.
-fn tell_later<E: Write>(later: LaterLimit, is_all: bool, errors: &mut E) -> u8
-    ensures { result ≡ 1 }
+/// Says on `errors` which limit stays in force, so that the `stop` fails.
+fn tell_later<E: Write>(later: LaterLimit, is_all: bool, errors: &mut E) -> StopEnd
+    ensures { result ≡ Failed }
 {
     let _ = if is_all {
         writeln!(
@@ -173,5 +176,5 @@ fn tell_later<E: Write>(later: LaterLimit, is_all: bool, errors: &mut E) -> u8
     } else {
         writeln!(errors, "mailquota: {later}; use --all")
     };
-    1
+    StopEnd::Failed
 }

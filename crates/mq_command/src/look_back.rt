@@ -3,7 +3,7 @@ ghost use Rattle.std.specs.Prelude.{◌≡◌, ◌≤◌, IfOk, IfSome};
 ghost use Rattle.mq_request.specs.Range.{IsDay, IsLogin};
 ghost use Rattle.mq_command.specs.Usage.{LooksBack, is_sought};
 
-use crate::ask::AskFault;
+use crate::ask::NoAnswer;
 use crate::usage::{DayUsage, ask_used};
 use mq_link::Link;
 use mq_request::Login;
@@ -37,7 +37,7 @@ pub fn look_back<L: Link>(
     login: &Login,
     day: u32,
     days: u32,
-) -> Result<Option<u32>, AskFault>
+) -> Result<Option<u32>, NoAnswer>
     requires login { IsLogin login.now }
     requires day { IsDay day }
     ensures looks { LooksBack sought login.now day days (L.told link.old) (L.told link.new) result }

@@ -3,15 +3,17 @@ ghost use Rattle.std.specs.Prelude.{◌≡◌, ◌+◌, IfOk, string_bytes};
 ghost use Rattle.mq_request.specs.Range.{IsAmount, IsDay, IsLogin};
 ghost use Rattle.mq_command.specs.Allowing.{IsSetter};
 ghost use Rattle.mq_command.specs.Stopping.{ChecksUse, HasSent, HoldsAll, RunsStop, Stops};
-ghost use Rattle.mq_command.specs.Stopping.{former_lines, later_line};
+ghost use Rattle.mq_command.specs.Stopping.{former_lines, later_line, stop_status};
 ghost use Rattle.mq_command.specs.Stopping.{stopped_lines, verb};
 
 use crate::allow::{AllowFault, Setter, line_of};
+use crate::errors::Errors;
 use crate::hold::{HeldLimit, LaterUse, hold, hold_later};
 use crate::later::clear_and_say;
 use crate::look_back::{SoughtDay, look_back};
 use crate::order::OrderFault;
-use crate::telling::{say, tell_line};
+use crate::stop_end::{StopEnd, leave_unstopped};
+use crate::telling::tell_line;
 use crate::usage::{DayUsage, ask_used};
 use mq_link::Link;
 use mq_request::Login;
@@ -21,6 +23,17 @@ use std::io::Write;
 /// On how many days, that of a `stop` and those before, a login used nothing that isn't stopped
 /// unless it is meant.
 const IDLE_DAYS: u32 = 3;
+
+/// What a server says of whether a login sent something lately.
+#[derive(Clone, Copy, Debug, PartialEq, Eq)]
+pub enum SentLately {
+    /// It used something on the day or on one of the two before.
+    Yes,
+    /// It used nothing on these days.
+    No,
+    /// The server gave no answer.
+    Unanswered,
+}
 
 /// How a login is stopped.
 #[derive(Clone, Copy)]
@@ -44,18 +57,19 @@ struct StoppedLogin {
     later: LaterUse,
 }
 
-/// Whether the server answers that a login used something on a day or on one of the two before. It
-/// isn't so where no answer comes. Of several servers one that says so is enough for `run_stop` at
-/// each: the login is meant. `day` is a day number, 0 to 376,200.
-pub fn has_sent<L: Link>(alloc: Global, link: &mut L, login: &Login, day: u32) -> bool
+/// Whether a login used something on a day or on one of the two before. Of several servers one that
+/// says so is enough for `run_stop` at each: the login is meant. One that gives no answer can't say
+/// that it is misspelled. `day` is a day number, 0 to 376,200.
+pub fn has_sent<L: Link>(alloc: Global, link: &mut L, login: &Login, day: u32) -> SentLately
     requires login { IsLogin login.now }
     requires day { IsDay day }
     ensures { HasSent login.now day (L.told link.old) (L.told link.new) result }
 {
-    matches!(
-        look_back(alloc, link, SoughtDay::Use, login, day, IDLE_DAYS),
-        Ok(Some(_))
-    )
+    match look_back(alloc, link, SoughtDay::Use, login, day, IDLE_DAYS) {
+        Ok(Some(_day)) => SentLately::Yes,
+        Ok(None) => SentLately::No,
+        Err(_) => SentLately::Unanswered,
+    }
 }
 
 /// Refuses to stop a login that used nothing on a day, nor on the two before, unless it is clear
@@ -191,8 +205,7 @@ fn stopped_text(
 }
 
 /// Lets a login have nothing more on a day and on each later day, and prints on `output` the day's
-/// limit and the one that it had there, or says on `errors` why not each limit is set. The result
-/// is the exit status, 0 or 1.
+/// limit and the one that it had there, or says on `errors` why not each limit is set.
 ///
 /// A login that sent nothing on that day and the two before isn't stopped, unless it is known to be
 /// meant. No limit that it sets is above the one that the login had on the limit's own first day.
@@ -201,30 +214,30 @@ fn stopped_text(
 ///
 /// Limits that were set from a day after the next stay in force from that day on. Where the login
 /// is stopped they are looked for, a day at a time, on up to 399 days and on the last day of all.
-/// They are lowered, if all are to be, else the first is said on `errors`, with status 1.
-pub fn run_stop<L: Link, W: Write, E: Write>(
+/// They are lowered, if all are to be, else the first is said on `errors`, and the `stop` fails.
+pub fn run_stop<L: Link, W: Write, E: Errors>(
     alloc: Global,
     link: &mut L,
     setter: &Setter,
     order: StopOrder,
     output: &mut W,
     errors: &mut E,
-) -> u8
+) -> StopEnd
     requires setter { IsSetter setter.now }
     requires day { IsDay (order.day + 1) }
     ensures stops { RunsStop setter.now order result (L.told link.old) (L.told link.new)
         (W.contents output.old)
         (W.contents output.new) }
-    ensures quiet { result ≡ 0 → errors.new ≡ errors.old }
+    ensures quiet { stop_status result ≡ 0 → errors.new ≡ errors.old }
 {
     let stopped = match stop(alloc, link, setter, order.day, order.is_meant) {
         Ok(stopped) => stopped,
-        Err(fault) => return say(errors, &fault),
+        Err(fault) => return leave_unstopped(fault, errors),
     };
     let lines = stopped_text(alloc, &setter.login, stopped, order.day);
     let status = tell_line(lines, output, errors);
     if status != 0 {
-        return status;
+        return StopEnd::Failed;
     }
     clear_and_say(
         alloc,

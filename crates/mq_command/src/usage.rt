@@ -4,7 +4,7 @@ ghost use Rattle.mq_request.specs.Range.{IsAmount, IsDay, IsLogin, IsReply};
 ghost use Rattle.mq_command.specs.Usage.{AsksUsed, IsUsed};
 ghost use Rattle.mq_command.specs.Report.{AnswersUsage};
 
-use crate::ask::{AskFault, ask};
+use crate::ask::{NoAnswer, ask};
 use mq_link::Link;
 use mq_request::{Login, Reply, Request};
 use std::alloc::Global;
@@ -45,7 +45,7 @@ pub fn ask_used<L: Link>(
     link: &mut L,
     login: &Login,
     day: u32,
-) -> Result<DayUsage, AskFault>
+) -> Result<DayUsage, NoAnswer>
     requires login { IsLogin login.now }
     requires day { IsDay day }
     ensures asked { AsksUsed login.now day (L.told link.old) (L.told link.new) result }
@@ -53,7 +53,7 @@ pub fn ask_used<L: Link>(
 {
     let login = match login.clone() {
         Ok(login) => login,
-        Err(_) => return Err(AskFault::Memory),
+        Err(_) => return Err(NoAnswer::Memory),
     };
     match ask(alloc, link, &Request::Usage { login, day }) {
         Ok(reply) => Ok(usage_of(&reply)),

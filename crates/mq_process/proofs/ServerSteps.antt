@@ -1,11 +1,11 @@
 -- Steps over the servers that a command asks.
-use Rattle.std.proofs.Common.{◌≡◌, ◌<◌, ◌≤◌, ◌+◌, ℕ, List, Bool, true, false, length, drop, get_or, map, max, sym, subst, inr}
+use Rattle.std.proofs.Common.{◌≡◌, ◌<◌, ◌≤◌, ◌+◌, ℕ, List, Bool, true, length, drop, get_or, map, max, sym, subst, inr}
 use Rattle.std.proofs.lemmas.List.{drop_all, drop_more}
 use Rattle.std.specs.Borrow.{Bor}
 use Rattle.std.specs.Net.Grammar.{IsSocketText}
 use Rattle.std.specs.declared.net.SocketAddr.{SocketAddr}
 use Rattle.mq_process.specs.Refusals.{HasNoAddress}
-use Rattle.mq_process.specs.Servers.{AsksEach, AsksUntil, no_server, server, no_one, yes, no}
+use Rattle.mq_process.specs.Servers.{AsksEach, no_server, server}
 
 -- one that is asked, before those that are left
 pub asks_more : {F : Type 0} {Asks : F → SocketAddr → ℕ → F → Type 0} {is_alone : Bool} {last : F} {status : ℕ} {after : F} (xs : List (Bor (List ℕ))) (k next : ℕ)
@@ -28,22 +28,3 @@ asks_none Asks is_alone last status xs k all = subst (λ l. AsksEach Asks is_alo
 pub others_have_none : (xs : List (Bor (List ℕ))) (k : ℕ) (d : Bor (List ℕ)) (address : SocketAddr) → k < length xs → IsSocketText (get_or xs k d).now address
     → (HasNoAddress (map (λ s. s.now) (drop k xs)) → ⊥) → HasNoAddress (map (λ s. s.now) (drop (k + 1) xs)) → ⊥
 others_have_none xs k d address below spelled none some = none (subst (λ l. HasNoAddress (map (λ s. s.now) l)) (sym (drop_more xs k d below)) (inr some))
-
--- one that says no, before those that are left
-pub until_more : {F : Type 0} {Asks : F → SocketAddr → Bool → F → Type 0} {last : F} {after : F} (xs : List (Bor (List ℕ))) (k : ℕ) (result : Bool)
-    → AsksUntil Asks last after (map (λ s. s.now) (drop (k + 1) xs)) result → (before : F) (said : Bool) (d : Bor (List ℕ)) (address : SocketAddr) → k < length xs
-    → IsSocketText (get_or xs k d).now address → said ≡ false → Asks before address said after → AsksUntil Asks last before (map (λ s. s.now) (drop k xs)) result
-until_more {F} {Asks} {last} {after} xs k result others before said d address below spelled is asked =
-    subst (λ l. AsksUntil Asks last before (map (λ s. s.now) l) result) (sym (drop_more xs k d below))
-    (no before after _ _ address result spelled (subst (λ b. Asks before address b after) is asked) others)
-
--- one that says yes
-pub until_yes : {F : Type 0} {Asks : F → SocketAddr → Bool → F → Type 0} {last : F} (xs : List (Bor (List ℕ))) (k : ℕ) (before : F) (said : Bool) (d : Bor (List ℕ)) (address : SocketAddr) → k < length xs
-    → IsSocketText (get_or xs k d).now address → said ≡ true → Asks before address said last → AsksUntil Asks last before (map (λ s. s.now) (drop k xs)) true
-until_yes {F} {Asks} {last} xs k before said d address below spelled is asked =
-    subst (λ l. AsksUntil Asks last before (map (λ s. s.now) l) true) (sym (drop_more xs k d below))
-    (yes before _ _ address spelled (subst (λ b. Asks before address b last) is asked))
-
--- none is left to say yes
-pub until_none : {F : Type 0} (Asks : F → SocketAddr → Bool → F → Type 0) (last : F) (xs : List (Bor (List ℕ))) (k : ℕ) → length xs ≤ k → AsksUntil Asks last last (map (λ s. s.now) (drop k xs)) false
-until_none Asks last xs k all = subst (λ l. AsksUntil Asks last last (map (λ s. s.now) l) false) (sym (drop_all k xs all)) no_one

@@ -39,13 +39,13 @@ pub use arguments::{
 pub use asking::{
     TIMEOUT, address_of, checked, first_id, link_to, login_of, names_login, tell_note,
 };
-pub use clock::{elapsed, run_number};
+pub use clock::{WallClock, elapsed, run_number};
 pub use dialing::{Dial, Dialer};
 pub use fault::ProcessFault;
 pub use moment::{day, moment_or_now};
 pub use probing::{Question, ask_once, ask_status, probe};
 pub use refusing::{end_process, refuse};
-pub use servers::{ask_each, ask_until, check_addresses};
+pub use servers::{ask_each, check_addresses, tell_server};
 pub use settings::{filter_settings, server_settings};
 pub use today::{day_named, day_to_stop};
 pub use whom::{address_found, filter_settings_in_place, found_server, servers_or};

@@ -1,7 +1,7 @@
 //! The servers that a command asks in turn.
 ghost use Rattle.std.specs.Prelude.{◌≡◌, MatchResult, map, ◌==◌, length};
 ghost use Rattle.mq_process.specs.Refusals.{HasNoAddress};
-ghost use Rattle.mq_process.specs.Servers.{AsksEach, AsksUntil};
+ghost use Rattle.mq_process.specs.Servers.{AsksEach};
 
 use crate::asking::address_of;
 use crate::fault::ProcessFault;
@@ -58,30 +58,7 @@ pub fn ask_each<R: Print + Eprint + AllocGlobal, E: Write, F: FnMut(SocketAddr, 
     status
 }
 
-/// Asks the server at each of these addresses in turn, up to the first that says yes. The result is
-/// whether one does. Nothing is printed.
-pub fn ask_until<R: Eprint, F: FnMut(SocketAddr) -> bool>(
-    rt: &R,
-    servers: &[&str],
-    mut ask: F,
-) -> bool
-    requires callable { F.IsAlwaysCallable ask }
-    requires addresses { ¬ HasNoAddress (map (λ s. s.now) servers.now) }
-    ensures { (last : F) × AsksUntil (λ f address said g. F.step f address said g) last ask
-        (map (λ s. s.now) servers.now) result }
-{
-    for server in servers {
-        let Ok(address) = address_of(rt, server) else {
-            unreachable!();
-        };
-        if ask(address) {
-            return true;
-        }
-    }
-    false
-}
-
 /// Prints the line above what is printed of a server. The result is the status.
-fn tell_server<R: Print + AllocGlobal, E: Write>(rt: &R, server: &str, errors: &mut E) -> u8 {
+pub fn tell_server<R: Print + AllocGlobal, E: Write>(rt: &R, server: &str, errors: &mut E) -> u8 {
     print_heading(rt.alloc(), server, &mut io::writer(rt), errors)
 }

@@ -5,14 +5,16 @@ use Rattle.std.proofs.lemmas.List.{length-map}
 use Rattle.std.specs.Borrow.{Bor}
 use Rattle.std.specs.Net.Text.{socket_text}
 use Rattle.std.specs.declared.net.SocketAddr.{SocketAddr}
+use Rattle.std.specs.declared.time.SystemTime.{SystemTime}
 use Rattle.mq_client.specs.declared.spans.Spans.{Spans}
 use Rattle.mq_process.specs.declared.arguments.LimitArguments.{LimitArguments}
 use Rattle.mq_link.specs.declared.link.ReportedExchange.{ReportedExchange}
 use Rattle.mq_request.specs.Range.{IsRun}
 use Rattle.mq_request.specs.declared.message.Request.{Request}
 use Rattle.mq_process.specs.Faults.{process_status}
+use Rattle.mq_process.specs.Clocks.{IsRunAt}
 use Rattle.mq_process.specs.Links.{AsksOver}
-use Rattle.mq_process.specs.Servers.{AsksEach, AsksUntil, no, no_one, server, yes}
+use Rattle.mq_process.specs.Servers.{AsksEach, server}
 use Rattle.mq_process.specs.Servers.{no_server as none_asked}
 use Rattle.mq_process.specs.Whom.{FindsAddress, IsWhom, servers_or}
 use Rattle.mq_process.specs.declared.asking.TheConstants.{TIMEOUT}
@@ -20,7 +22,7 @@ use Rattle.mq_process.specs.declared.fault.ProcessFault.{ProcessFault}
 use Rattle.mq_process.specs.declared.fault.ProcessFault.TheVariants.{Memory}
 use Rattle.mq_remote.specs.Asked.{AsksAt, IsLimitBy, IsRunBy, SendsLimit, SendsLimitBy}
 use Rattle.mq_command.specs.Orders.{PrintsLine}
-use Rattle.mq_remote.specs.Servers.{AsksAll, AsksToYes, asks_one, no_server, none_left, says_no, says_yes}
+use Rattle.mq_remote.specs.Servers.{AsksAll, asks_one, none_left}
 
 -- what each call of this state brings was asked at each server
 all_asked : {F : Type 0} {Asks : F → SocketAddr → ℕ → F → Type 0} {At : SocketAddr → ℕ → Type 0} {is_alone : Bool} {last : F} {status : ℕ} (state : F)
@@ -39,24 +41,6 @@ pub servers_asked : {F : Type 0} {Asks : F → SocketAddr → ℕ → F → Type
 servers_asked {At = At} {status = status} state texts each asked =
     subst (λ n. AsksAll At (n == 1) status (map (λ s. s.now) texts) 0) (sym (length-map texts (λ s. s.now))) (all_asked state each state _ _ refl asked)
 
--- what each call of this state brings was asked at each server, up to the first that said yes
-asked_to_yes : {F : Type 0} {Asks : F → SocketAddr → Bool → F → Type 0} {At : SocketAddr → Bool → Type 0} {last : F} {result : Bool} (state : F)
-    → ((address : SocketAddr) (said : Bool) (after : F) → Asks state address said after → At address said × (after ≡ state))
-    → (before : F) (texts : List (List ℕ)) → before ≡ state → AsksUntil Asks last before texts result → AsksToYes At texts result
-asked_to_yes state each before texts is no_one = no_server
-asked_to_yes {Asks = Asks} {last = last} state each before texts is (yes before' text others address spelled asked) =
-    let one = each address true last (subst (λ b. Asks b address true last) is asked) in
-    says_yes text others address spelled one.0
-asked_to_yes {Asks = Asks} state each before texts is (no before' after text others address result spelled asked rest) =
-    let one = each address false after (subst (λ b. Asks b address false after) is asked) in
-    says_no text others address result spelled one.0 (asked_to_yes state each after others one.1 rest)
-
--- the same of servers that are lent
-pub servers_to_yes : {F : Type 0} {Asks : F → SocketAddr → Bool → F → Type 0} {At : SocketAddr → Bool → Type 0} {last : F} {result : Bool} (state : F) (texts : List (List ℕ))
-    → ((address : SocketAddr) (said : Bool) (after : F) → Asks state address said after → At address said × (after ≡ state))
-    → AsksUntil Asks last state texts result → AsksToYes At texts result
-servers_to_yes state texts each asked = asked_to_yes state each state texts refl asked
-
 -- the servers of the words, or the one that was found
 pub whom_of : {F X : Type 0} (remaining : F → Option (List ℕ)) (named : Option X) (words given asked servers : List (List ℕ)) (found shown : List ℕ) → words ≡ given → shown ≡ found
     → (words ≡ [] → (address : SocketAddr) × FindsAddress remaining named (Ok address) × (found ≡ socket_text address))
@@ -66,10 +50,11 @@ whom_of remaining named words [] asked servers found shown same text finds chose
     (it.0, it.1, is ∙ chosen ∙ ap (servers_or shown) same ∙ ap (λ t. t ∷ []) (text ∙ it.2))
 whom_of remaining named words (given ∷ more) asked servers found shown same text finds chosen is = is ∙ chosen ∙ ap (servers_or shown) same
 
--- the run that is given, or another one
-pub run_by : (given : Option ℕ) (run : ℕ) (numbered : Result ℕ ProcessFault) → numbered ≡ Ok run → IfSome given (λ g. numbered ≡ Ok g) → IsRun run → IsRunBy given run
-run_by (Some g) run numbered was is in_range = let e = sym was ∙ is in cc
-run_by None run numbered was is in_range = in_range
+-- the run that is given, or the clock's
+pub run_by : (Shows : SystemTime → Type 0) (given : Option ℕ) (run : ℕ) (numbered : Result ℕ ProcessFault) → numbered ≡ Ok run → IfSome given (λ g. numbered ≡ Ok g) → IsRun run
+    → (given ≡ None → IsRunAt Shows run) → IsRunBy Shows given run
+run_by Shows (Some g) run numbered was is in_range clock = let e = sym was ∙ is in cc
+run_by Shows None run numbered was is in_range clock = (in_range, clock refl)
 
 -- a server was asked, or memory ran out before
 pub asked_or_not : {L : Type 0} (leads : L → SocketAddr → ℕ → Type 0) (told : L → Option (List ReportedExchange))

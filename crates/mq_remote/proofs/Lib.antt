@@ -1,2 +1,3 @@
 pub mod AskedSteps
 pub mod RefusalSteps
+pub mod StopSteps

@@ -6,6 +6,7 @@ use Rattle.std.specs.Borrow.{Bor}
 use Rattle.std.specs.Net.Grammar.{IsSocketText}
 use Rattle.std.specs.Net.Text.{socket_text}
 use Rattle.std.specs.declared.net.SocketAddr.{SocketAddr}
+use Rattle.std.specs.declared.time.SystemTime.{SystemTime}
 use Rattle.mq_request.specs.Range.{IsLogin, IsRun}
 use Rattle.mq_request.specs.declared.message.Request.{Request}
 use Rattle.mq_request.specs.declared.message.Request.TheVariants as asks
@@ -21,12 +22,13 @@ use Rattle.mq_command.specs.Allowing.{resumed_line}
 use Rattle.mq_command.specs.Asking.{status_of}
 use Rattle.mq_command.specs.Orders.{Orders, OrdersFresh, Prints, PrintsLine, word}
 use Rattle.mq_command.specs.Report.{Reports}
-use Rattle.mq_command.specs.Stopping.{GivesMore, HasSent, Restores, RunsStop, restored_lines}
+use Rattle.mq_command.specs.Stopping.{GivesMore, Restores, restored_lines}
 use Rattle.mq_command.specs.Top.{ReportsTop, columns_line}
 use Rattle.mq_command.specs.declared.allow.Setter.{Setter}
 use Rattle.mq_command.specs.declared.order.OrderFault.{OrderFault}
 use Rattle.mq_command.specs.declared.report.ReportFault.{ReportFault}
 use Rattle.mq_command.specs.declared.stop.StopOrder.{StopOrder}
+use Rattle.mq_process.specs.Clocks.{IsRunAt}
 use Rattle.mq_process.specs.Links.{AsksOver}
 use Rattle.mq_process.specs.Questions.{Puts}
 use Rattle.mq_process.specs.Refusals.{Names}
@@ -36,16 +38,17 @@ use Rattle.mq_process.specs.Whom.{FindsAddress, IsWhom}
 use Rattle.mq_process.specs.declared.asking.TheConstants.{TIMEOUT}
 use Rattle.mq_process.specs.declared.probing.Question.{Question}
 use Rattle.mq_process.specs.declared.probing.Question.TheVariants.{Status, Host}
-use Rattle.mq_remote.specs.Servers.{AsksAll, AsksToYes}
+use Rattle.mq_remote.specs.Servers.{AsksAll}
+use Rattle.mq_remote.specs.Stops.{AsksUse, StopsAll, UseAt}
 use Rattle.mq_remote.specs.declared.subcommands.report.ReportedLogins.{ReportedLogins}
 use Rattle.mq_remote.specs.declared.subcommands.report.ReportedLogins.TheVariants.{One, Top, All}
 use Rattle.mq_remote.specs.declared.subcommands.retire.Target.{Target}
 use Rattle.mq_settings.specs.declared.settings.FilterSettings.{FilterSettings}
 
--- the run that is given, or another in range where none is
-abbrev pub IsRunBy : Option ℕ → ℕ → Type 0
-IsRunBy (Some given) run = run ≡ given
-IsRunBy None run = IsRun run
+-- the run that is given, or where none is the milliseconds of a time that a clock showed, in range
+abbrev pub IsRunBy : (SystemTime → Type 0) → Option ℕ → ℕ → Type 0
+IsRunBy Shows (Some given) run = run ≡ given
+IsRunBy Shows None run = IsRun run × IsRunAt Shows run
 
 -- The server at an address was asked so, over a link that leads there; or memory ran out before, and the status is 1.
 abbrev pub AsksAt : {L : Type 0} → (L → SocketAddr → ℕ → Type 0) → (L → Option (List ReportedExchange))
@@ -100,13 +103,13 @@ SendsLimitBy given day run status old new output output' =
 
 -- what `limit` asks: of each server the same
 pub record AsksLimit {L F : Type 0} (leads : L → SocketAddr → ℕ → Type 0) (told : L → Option (List ReportedExchange))
-    (remaining : F → Option (List ℕ)) (given : LimitArguments) (status : ℕ) : Type 0 where
+    (remaining : F → Option (List ℕ)) (Shows : SystemTime → Type 0) (given : LimitArguments) (status : ℕ) : Type 0 where
   pub servers : List (List ℕ)
   pub whom : IsWhom remaining given.config given.servers servers
   pub day : ℕ
   pub from : NamesDay remaining given.from day
   pub run : ℕ
-  pub is_run : IsRunBy given.run run
+  pub is_run : IsRunBy Shows given.run run
   pub asked : AsksEachOf leads told (SendsLimitBy given day run) servers status
 
 -- ---- `stop` and `resume`
@@ -117,19 +120,15 @@ pub record IsSetterBy (host : List ℕ) (login : LoginArgument) (setter : Setter
   pub in_run : IsRun setter.run
   pub named : Names login setter.login
 
--- the server at an address was asked whether this login used something on this day or one of the two before
-abbrev pub UseAt : {L : Type 0} → (L → SocketAddr → ℕ → Type 0) → (L → Option (List ReportedExchange)) → List ℕ → ℕ → SocketAddr → Bool → Type 0
-UseAt leads told login day address said =
-    AsksOver leads told address TIMEOUT (λ old new output output'. HasSent login day old new said)
-
--- Whether a login is meant at each of these servers: it is said so, or one of several was asked, and the first of them that knows
--- that it used something on this day or one of the two before says so. Of one server alone nothing is asked beforehand.
+-- Whether a login is meant at each of these servers: it is said so, or several were asked, and one knows that it used something on
+-- this day or one of the two before, or else one gives no answer. Of one server alone nothing is asked beforehand.
 abbrev pub IsMeant : {L : Type 0} → (L → SocketAddr → ℕ → Type 0) → (L → Option (List ReportedExchange)) → List ℕ → ℕ → Bool → List (List ℕ) → Bool → Type 0
 IsMeant leads told login day true servers meant = meant ≡ true
 IsMeant leads told login day false servers meant =
-    ((length servers < 2) × (meant ≡ false)) ⊎ ((1 < length servers) × AsksToYes (UseAt leads told login day) servers meant)
+    ((length servers < 2) × (meant ≡ false)) ⊎ ((1 < length servers) × AsksUse (UseAt leads told login day) servers false meant)
 
--- what `stop` asks: of each server the same, from the day on that the words or the clock say
+-- what `stop` asks: of each server the same, from the day on that the words or the clock say, and again of those that give no
+-- answer where the words say so
 pub record AsksStop {L F : Type 0} (leads : L → SocketAddr → ℕ → Type 0) (told : L → Option (List ReportedExchange))
     (remaining : F → Option (List ℕ)) (given : StopArguments) (status : ℕ) : Type 0 where
   pub servers : List (List ℕ)
@@ -140,7 +139,7 @@ pub record AsksStop {L F : Type 0} (leads : L → SocketAddr → ℕ → Type 0)
   pub from : StopsFrom remaining given.config given.is_forced given.day (Ok order.day)
   pub meant : IsMeant leads told setter.login order.day given.is_forced servers order.is_meant
   pub all : order.is_all ≡ given.is_all
-  pub asked : AsksEachOf leads told (RunsStop setter order) servers status
+  pub asked : StopsAll leads told setter order given.is_waiting servers status
 
 -- the login was to have so many more from this day on, or the limit that it had
 abbrev pub ResumesThere : Setter → ℕ → Option ℕ → ℕ → Option (List ReportedExchange) → Option (List ReportedExchange) → Option (List ℕ) → Option (List ℕ) → Type 0
@@ -187,9 +186,9 @@ IsTarget remaining named None given target = IsTargetOfFilter remaining given ta
 
 -- what `retire` asks: that the runs of the host below this one are given up
 pub record AsksRetire {L F : Type 0} (leads : L → SocketAddr → ℕ → Type 0) (told : L → Option (List ReportedExchange))
-    (remaining : F → Option (List ℕ)) (given : RetireArguments) (status : ℕ) : Type 0 where
+    (remaining : F → Option (List ℕ)) (Shows : SystemTime → Type 0) (given : RetireArguments) (status : ℕ) : Type 0 where
   pub run : ℕ
-  pub is_run : IsRunBy given.run run
+  pub is_run : IsRunBy Shows given.run run
   pub server : Option SocketAddr
   pub spelled : IsAddressBy (option_map (λ text. text.now) given.server) server
   pub target : Target

@@ -1,3 +1,4 @@
 pub mod Asked
 pub mod Filters
 pub mod Servers
+pub mod Stops

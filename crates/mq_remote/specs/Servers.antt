@@ -1,5 +1,5 @@
 -- The servers that a command asks.
-use Rattle.std.specs.Prelude.{◌≡◌, ℕ, List, [], ◌∷◌, Bool, true, false, max}
+use Rattle.std.specs.Prelude.{◌≡◌, ℕ, List, [], ◌∷◌, Bool, true, max}
 use Rattle.std.specs.Net.Grammar.{IsSocketText}
 use Rattle.std.specs.declared.net.SocketAddr.{SocketAddr}
 
@@ -11,13 +11,3 @@ pub data AsksAll (Asks : SocketAddr → ℕ → Type 0) (is_alone : Bool) (statu
       → IsSocketText text address → (is_alone ≡ true → told ≡ 0) → Asks address said
       → AsksAll Asks is_alone status texts (max so_far (max told said))
       → AsksAll Asks is_alone status (text ∷ texts) so_far
-
--- The servers at these addresses were asked so in turn, each once, in this order, up to the first that said yes; the result is
--- whether one did.
-pub data AsksToYes (Asks : SocketAddr → Bool → Type 0) : List (List ℕ) → Bool → Type 0 where
-  no_server : AsksToYes Asks [] false
-  says_yes : (text : List ℕ) (texts : List (List ℕ)) (address : SocketAddr)
-      → IsSocketText text address → Asks address true → AsksToYes Asks (text ∷ texts) true
-  says_no : (text : List ℕ) (texts : List (List ℕ)) (address : SocketAddr) (result : Bool)
-      → IsSocketText text address → Asks address false → AsksToYes Asks texts result
-      → AsksToYes Asks (text ∷ texts) result

@@ -123,6 +123,7 @@ pub record MeansStop (found : Found) (given : StopArguments) : Type 0 where
   pub day : HasDay found (codes "day") last_stop_day given.day
   pub force : HasFlag found (codes "force") given.is_forced
   pub every : HasFlag found (codes "all") given.is_all
+  pub waiting : HasFlag found (codes "wait") given.is_waiting
 
 pub record MeansResume (found : Found) (given : ResumeArguments) : Type 0 where
   pub servers : given.servers ≡ texts_of found (codes "server")

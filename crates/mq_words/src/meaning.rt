@@ -241,6 +241,7 @@ fn stop_of<'a>(alloc: Global, found: &ArgMatches<'a>) -> Result<StopArguments<'a
         day: day_of(found, "day", EARLIER_DAYS),
         is_forced: found.get_flag("force"),
         is_all: found.get_flag("all"),
+        is_waiting: found.get_flag("wait"),
     })
 }
 

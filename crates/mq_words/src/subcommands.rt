@@ -375,6 +375,15 @@ const ALL: CommandOption = CommandOption {
     default: None,
 };
 
+const WAIT: CommandOption = CommandOption {
+    name: "wait",
+    value: "",
+    help: "Ask a server that is away again, for up to an hour",
+    takes: Takes::Nothing,
+    need: Need::Optional,
+    default: None,
+};
+
 const MORE: CommandOption = CommandOption {
     name: "cap",
     value: "N",
@@ -532,6 +541,7 @@ pub const SUBCOMMANDS: [Subcommand; 14] = [
             AGO,
             FORCE,
             ALL,
+            WAIT,
         ],
         groups: &[NAMED],
     },

@@ -1,8 +1,11 @@
 """Commands that ask several servers in turn: what each prints and is asked, and one that is away,
 at a wrong address or without answers."""
 import re
+import subprocess
 import time
 
+import clocks
+from cases.as_used import quiet_port
 from cases.stopping import (
     SET,
     caps,
@@ -14,7 +17,18 @@ from cases.stopping import (
     usage_reply,
     wait_past_midnight,
 )
-from ends import NO_PORT, Script, Server, bad_address, loopback_of_6, nobody_there, unavailable
+from ends import (
+    NO_PORT,
+    SECONDS,
+    Script,
+    Server,
+    bad_address,
+    loopback_of_6,
+    nobody_there,
+    unavailable,
+    under,
+    wait_until,
+)
 from smtpd import clock
 from wire import frame, limit, number, page_reply, reserve, row, text, usage
 
@@ -25,6 +39,8 @@ def run(world, checks):
     each_is_asked(world, checks)
     one_that_is_away(world, checks)
     use_at_one_of_them(world, checks)
+    one_that_comes_back(world, checks)
+    one_that_stays_away(world, checks)
     one_number_for_all(world, checks)
     in_the_order_given(world, checks)
     wrong_words(world, checks)
@@ -43,6 +59,23 @@ def heading(address):
 
 def undone(address):
     return f"mailquota: not done by server {address}\n"
+
+
+def is_silent(address):
+    return (
+        f"mailquota: note: server {address} gives no answer: the login is stopped without asking"
+        " whether it is misspelled\n"
+    )
+
+
+def not_known(address):
+    return f"mailquota: not known to be stopped at server {address}, which gave no answer\n"
+
+
+def is_awaited(address):
+    return (
+        f"mailquota: note: server {address} is asked again until it answers, for up to an hour\n"
+    )
 
 
 def each_is_asked(world, checks):
@@ -180,10 +213,11 @@ def one_that_is_away(world, checks):
                     heading(it) + (b"" if it == away else done.encode()) for it in addresses
                 )
                 came = world.run(name, *at(*addresses), *more)
+                said = (unavailable(away)[2] + undone(away)) * count
+                if name == "stop":
+                    said += not_known(away) * count
                 checks.equal(
-                    f"{name} at {places}, of which - is away",
-                    came,
-                    (1, printed, (unavailable(away)[2] + undone(away)) * count),
+                    f"{name} at {places}, of which - is away", came, (1, printed, said)
                 )
         checks.equal(
             "what was set at the one that answers",
@@ -291,14 +325,37 @@ def use_at_one_of_them(world, checks):
                     f" {''.join('-' if it == away else '1' if it == first.address else '2' for it in addresses)}"
                 ),
                 (came[0], shown, came[2]),
-                (1, printed, unavailable(away)[2] + undone(away)),
+                (1, printed, unavailable(away)[2] + undone(away) + not_known(away)),
             )
-        came = world.run(*words, "nowhere", *at(away, first.address))
-        told = unavailable(away)[2] + undone(away) + nothing + undone(first.address)
+        # but where the others know nothing, it might
+        for addresses in ([away, first.address], [first.address, away]):
+            login = "nowhere" if addresses[0] == away else "unseen"
+            came = world.run(*words, login, *at(*addresses))
+            done = f"stopped: {login} used 0 on day {today}\nlimit before: 9\n".encode()
+            checks.equal(
+                "stop at two, of which one is away, used at none,"
+                f" {''.join('-' if it == away else '+' for it in addresses)}",
+                came,
+                (
+                    1,
+                    b"".join(heading(it) + (b"" if it == away else done) for it in addresses),
+                    is_silent(away) + unavailable(away)[2] + undone(away) + not_known(away),
+                ),
+            )
         checks.equal(
-            "stop at two, of which one is away, used at none",
-            came,
-            (1, heading(away) + heading(first.address), told),
+            "its limits at the one that answers",
+            caps(first, b"nowhere", today, today + 1),
+            [0, 0],
+        )
+        checks.equal(
+            "stop at one server alone that is away",
+            world.run(*words, "nowhere", *at(away)),
+            unavailable(away),
+        )
+        checks.equal(
+            "stop --wait at two that answer, used at none",
+            world.run(*words, "other", *both, "--wait"),
+            refused,
         )
     unused = [usage_reply(0, 0, day=day) for day in (today, today - 1, today - 2)]
     asked = [usage(b"u", day) for day in (today, today - 1, today - 2)]
@@ -323,6 +380,96 @@ def use_at_one_of_them(world, checks):
         "once one says so the others aren't asked",
         (came[0], first.heard[:-2], second.heard[:-2]),
         (0, asked[:1] * 2, asked[:1]),
+    )
+
+
+def begun(world, words, limit=()):
+    return subprocess.Popen(
+        [*under(limit), world.program, "stop", "--wait", "--host", "admin", "--login", *words],
+        stdin=subprocess.DEVNULL,
+        stdout=subprocess.PIPE,
+        stderr=subprocess.PIPE,
+        text=True,
+    )
+
+
+def done_by(process):
+    output, errors = process.communicate(timeout=SECONDS)
+    return process.returncode, output.encode(), errors
+
+
+def one_that_comes_back(world, checks):
+    """A `stop` that waits stops the login at once where it can, and at a server that is away once
+    that answers."""
+    wait_past_midnight()
+    today = int(time.time()) // 86_400
+    day, away = ["--day", str(today)], f"127.0.0.1:{quiet_port()}"
+
+    def stopped(login, before):
+        return f"stopped: {login} used 0 on day {today}\nlimit before: {before}\n".encode()
+
+    with Server(world, default=9) as first:
+        among = begun(world, ["u", *day, *at(away, first.address)])
+        alone = begun(world, ["v", *day, "--force", *at(away)])
+        wait_until(lambda: caps(first, b"u", today, today + 1) == [0, 0])
+        # (more than one round is over by then)
+        time.sleep(7)
+        checks.equal("stop --wait while one is away", (among.poll(), alone.poll()), (None, None))
+        with Server(world, words=(), listen=away, default=5) as second:
+            came = done_by(among), done_by(alone)
+            checks.equal(
+                "stop --wait at two, once the first of them answers: its limits",
+                caps(second, b"u", today, today + 1),
+                [0, 0],
+            )
+    said = unavailable(away)[2]
+    checks.equal(
+        "stop --wait at two, once the first of them answers",
+        came[0],
+        (
+            0,
+            heading(away)
+            + heading(first.address)
+            + stopped("u", 9)
+            + heading(away)
+            + stopped("u", 5),
+            is_silent(away) + said + undone(away) + is_awaited(away),
+        ),
+    )
+    checks.equal(
+        "stop --wait at one alone, once it answers",
+        came[1],
+        (0, stopped("v", 5), said + is_awaited(away)),
+    )
+
+
+def one_that_stays_away(world, checks):
+    """It waits for an hour by the clock."""
+    with Server(world, default=9) as first, nobody_there() as away:
+        words = ["u", "--day", "1", "--force", *at(away, first.address)]
+        process = begun(world, words, clocks.limit(0))
+        lines = [process.stderr.readline() for _ in range(4)]
+        checks.equal(
+            "stop --wait: what it says before it waits",
+            "".join(lines),
+            unavailable(away)[2] + undone(away) + is_awaited(away),
+        )
+        clock = clocks.Clock(process.pid)
+        clock.pass_to(clock.now() + 3_580)
+        time.sleep(7)
+        checks.equal("stop --wait, after most of an hour", process.poll(), None)
+        clock.pass_to(clock.now() + 20)
+        came = done_by(process)
+    checks.equal(
+        "stop --wait of a server that stays away for an hour",
+        came,
+        (
+            1,
+            heading(away)
+            + heading(first.address)
+            + b"stopped: u used 0 on day 1\nlimit before: 9\n",
+            not_known(away),
+        ),
     )
 
 

@@ -161,6 +161,7 @@ Options:
       --ago <N>            That many days before today
       --force              Also on another day, or if it sent nothing lately
       --all                Also from each later day with a limit of its own
+      --wait               Ask a server that is away again, for up to an hour
   -h, --help               Print help
 """,
     ),

@@ -1,19 +1,19 @@
 //! `stop` and `resume`: how many recipients more a login may have.
-ghost use Rattle.std.specs.Prelude.{◌≡◌, Err, IfOk, IfSome, map};
+ghost use Rattle.std.specs.Prelude.{◌≡◌, Err, IfOk, IfSome, false, map};
 ghost use Rattle.mq_request.specs.Range.{IsAmount, IsHost, IsRun, IsWithin};
 ghost use Rattle.mq_command.specs.Allowing.{IsSetter};
 ghost use Rattle.mq_process.specs.Arguments.{IsResumeArguments, IsStopArguments, last_stop_day};
 ghost use Rattle.mq_process.specs.Refusals.{HasNoAddress, NamesLogin, OrderRefuses};
-ghost use Rattle.mq_command.specs.Stopping.{RunsStop};
 ghost use Rattle.mq_remote.specs.Asked.{AsksAt, AsksEachOf, AsksResume, AsksStop, IsMeant};
-ghost use Rattle.mq_remote.specs.Asked.{IsSetterBy, ResumesThere, UseAt};
-ghost use Rattle.mq_remote.specs.Servers.{AsksToYes};
+ghost use Rattle.mq_remote.specs.Asked.{IsSetterBy, ResumesThere};
+ghost use Rattle.mq_remote.specs.Stops.{AsksUse, UseAt};
 
+use crate::subcommands::stopping::{ask_use, stop_everywhere};
 use log::sink::Console;
 use log::{LevelFilter, Logged};
-use mq_command::{Setter, StopOrder, has_sent, run_restore, run_resume, run_stop};
+use mq_command::{SentLately, ServerErrors, Setter, StopOrder, run_restore, run_resume};
 use mq_process::{
-    Dial, LoginArgument, ProcessFault, ResumeArguments, StopArguments, ask_each, ask_until,
+    Dial, LoginArgument, ProcessFault, ResumeArguments, StopArguments, address_of, ask_each,
     checked, day_named, day_to_stop, found_server, link_to, login_of, run_number, servers_or,
     tell_note,
 };
@@ -47,7 +47,7 @@ fn setter_of(
 }
 
 /// `stop`: lets a login have nothing more. Where one of several servers knows that it sent
-/// something lately, it is meant at each.
+/// something lately, or gives no answer, it is meant at each.
 pub fn stop<R: Files + Clock + Print + Eprint + AllocGlobal, D: Dial, E: Write>(
     rt: &R,
     dial: &D,
@@ -68,47 +68,25 @@ pub fn stop<R: Files + Clock + Print + Eprint + AllocGlobal, D: Dial, E: Write>(
     let run = run_number(rt, None)?;
     let setter = setter_of(rt.alloc(), given.host, run, given.login)?;
     tell_note(rt.alloc(), &login_of(rt.alloc(), given.login)?, errors)?;
-    let is_meant = is_meant_at_one(rt, dial, servers, &setter, day, given.is_forced);
+    let is_meant = is_meant_at_one(rt, dial, servers, &setter, day, given.is_forced, errors);
     let order = StopOrder {
         day,
         is_meant,
         is_all: given.is_all,
     };
-    Ok(stop_at_each(rt, dial, servers, &setter, order, errors))
-}
-
-/// Stops a login at each of these servers.
-fn stop_at_each<R: Print + Eprint + AllocGlobal, D: Dial, E: Write>(
-    rt: &R,
-    dial: &D,
-    servers: &[&str],
-    setter: &Setter,
-    order: StopOrder,
-    errors: &mut E,
-) -> u8
-    requires servers { ¬ HasNoAddress (map (λ s. s.now) servers.now) }
-    requires setter { IsSetter setter.now }
-    requires day { IsWithin 0 last_stop_day order.day }
-    ensures { AsksEachOf D.leads D.Link.told (RunsStop setter.now order)
-        (map (λ s. s.now) servers.now) result }
-{
-    ask_each(
-        rt,
-        servers,
-        errors,
-        |address, errors| ask_stop(rt, dial, address, setter, order, errors),
-    )
+    Ok(stop_everywhere(rt, dial, servers, &setter, order, given.is_waiting, errors))
 }
 
 /// Whether a login is meant: it is said so, or one of several servers answers that it sent
-/// something lately. A server that is asked alone finds that out itself.
-fn is_meant_at_one<R: Eprint + AllocGlobal, D: Dial>(
+/// something lately, or gives no answer. A server that is asked alone finds that out itself.
+fn is_meant_at_one<R: Eprint + AllocGlobal, D: Dial, E: Write>(
     rt: &R,
     dial: &D,
     servers: &[&str],
     setter: &Setter,
     day: u32,
     is_forced: bool,
+    errors: &mut E,
 ) -> bool
     requires servers { ¬ HasNoAddress (map (λ s. s.now) servers.now) }
     requires setter { IsSetter setter.now }
@@ -122,66 +100,51 @@ fn is_meant_at_one<R: Eprint + AllocGlobal, D: Dial>(
     if servers.len() < 2 {
         return false;
     }
-    has_sent_at_one(rt, dial, servers, setter, day)
+    has_sent_at_one(rt, dial, servers, setter, day, errors)
 }
 
-/// Whether one of these servers answers that a login sent something lately.
-fn has_sent_at_one<R: Eprint + AllocGlobal, D: Dial>(
+/// Notes on `errors` that a server gives no answer, which might know the login.
+fn note_silent<E: Write>(server: &str, errors: &mut E) {
+    let _ = writeln!(
+        errors,
+        "mailquota: note: server {server} gives no answer: the login is stopped without asking whether it is misspelled"
+    );
+}
+
+/// Whether one of these servers answers that a login sent something lately, or else one gives no
+/// answer, which is noted.
+fn has_sent_at_one<R: Eprint + AllocGlobal, D: Dial, E: Write>(
     rt: &R,
     dial: &D,
     servers: &[&str],
     setter: &Setter,
     day: u32,
+    errors: &mut E,
 ) -> bool
     requires servers { ¬ HasNoAddress (map (λ s. s.now) servers.now) }
     requires setter { IsSetter setter.now }
     requires day { IsWithin 0 last_stop_day day }
-    ensures { AsksToYes (UseAt D.leads D.Link.told setter.now.login day)
-        (map (λ s. s.now) servers.now) result }
+    ensures { AsksUse (UseAt D.leads D.Link.told setter.now.login day)
+        (map (λ s. s.now) servers.now) false result }
 {
-    ask_until(
-        rt,
-        servers,
-        |address| ask_use(rt, dial, address, setter, day),
-    )
-}
-
-/// Asks the server at this address whether a login sent something lately. One that doesn't answer
-/// is logged where it is asked to stop it.
-fn ask_use<R: Eprint + AllocGlobal, D: Dial>(
-    rt: &R,
-    dial: &D,
-    address: SocketAddr,
-    setter: &Setter,
-    day: u32,
-) -> bool
-    requires setter { IsSetter setter.now }
-    requires day { IsWithin 0 last_stop_day day }
-    ensures { UseAt D.leads D.Link.told setter.now.login day address result }
-{
-    let logged = Logged::new(rt, LevelFilter::Off, Console(rt));
-    let mut link = link_to(dial, address, &logged);
-    has_sent(rt.alloc(), &mut link, &setter.login, day)
-}
-
-/// Asks the server at this address to stop a login, and prints what comes of it. Where it is
-/// stopped, limits of later days are looked for.
-fn ask_stop<R: Print + Eprint + AllocGlobal, D: Dial, E: Write>(
-    rt: &R,
-    dial: &D,
-    address: SocketAddr,
-    setter: &Setter,
-    order: StopOrder,
-    errors: &mut E,
-) -> u8
-    requires setter { IsSetter setter.now }
-    requires day { IsWithin 0 last_stop_day order.day }
-    ensures { AsksAt D.leads D.Link.told (RunsStop setter.now order) address result }
-{
-    let logged = Logged::new(rt, LevelFilter::Error, Console(rt));
-    let mut link = link_to(dial, address, &logged);
-    let mut output = io::writer(rt);
-    run_stop(rt.alloc(), &mut link, setter, order, &mut output, errors)
+    let mut silent = None;
+    for server in servers {
+        let Ok(address) = address_of(rt, server) else {
+            unreachable!();
+        };
+        match ask_use(rt, dial, address, setter, day) {
+            SentLately::Yes => return true,
+            SentLately::No => {}
+            SentLately::Unanswered => silent = Some(*server),
+        }
+    }
+    match silent {
+        Some(server) => {
+            note_silent(server, errors);
+            true
+        }
+        None => false,
+    }
 }
 
 /// `resume`: lets a login have more again.
@@ -252,6 +215,7 @@ fn ask_resume<R: Print + Eprint + AllocGlobal, D: Dial, E: Write>(
     let logged = Logged::new(rt, LevelFilter::Error, Console(rt));
     let mut link = link_to(dial, address, &logged);
     let mut output = io::writer(rt);
+    let mut told = ServerErrors::new(errors, address);
     match more {
         Some(more) => run_resume(
             rt.alloc(),
@@ -260,8 +224,8 @@ fn ask_resume<R: Print + Eprint + AllocGlobal, D: Dial, E: Write>(
             day,
             more,
             &mut output,
-            errors,
+            &mut told,
         ),
-        None => run_restore(rt.alloc(), &mut link, setter, day, &mut output, errors),
+        None => run_restore(rt.alloc(), &mut link, setter, day, &mut output, &mut told),
     }
 }

@@ -12,5 +12,5 @@ returns-clause-asks g c = record {
   from = c.in_ok-day.ensures.stops;
   meant = c.is_meant_at_one-is_meant.ensures;
   all = refl;
-  asked = c.stop_at_each.ensures;
+  asked = c.stop_everywhere.ensures;
 }

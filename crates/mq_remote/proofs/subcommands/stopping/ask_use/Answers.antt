@@ -1,5 +1,5 @@
 use Rattle.std.proofs.Common.{None}
-use Rattle.mq_remote.proofs.subcommands.stop.ask_use.Goals as goal
+use Rattle.mq_remote.proofs.subcommands.stopping.ask_use.Goals as goal
 
 pub returns : goal.returns
 returns g c = record { link = _; after = _; output = None; output' = None; is_led = c.link_to-link.ensures; asked = c.has_sent.ensures }

@@ -1,5 +1,0 @@
-use Rattle.std.proofs.Common.{None, inr}
-use Rattle.mq_remote.proofs.subcommands.stop.ask_stop.Goals as goal
-
-pub returns : goal.returns
-returns g c = inr (record { link = _; after = _; output = None; output' = None; is_led = c.link_to-link.ensures; asked = c.run_stop.ensures.stops })
