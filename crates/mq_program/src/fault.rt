@@ -51,6 +51,9 @@ pub enum ProgramFault {
     Audit(LedgerFault),
     #[error("listen failed")]
     Listen,
+    /// The file that lists who may ask what can't be used.
+    #[error("permits can't be used")]
+    Permits,
     #[error("{0}")]
     Serve(RoomFault),
 }

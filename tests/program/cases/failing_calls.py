@@ -95,8 +95,9 @@ def outcomes(world, run):
 
 
 def removed(path):
-    """Removes a ledger's file and its log, where they are there; gives the path."""
-    for end in ("", "-wal"):
+    """Removes a ledger's file, its log and its server's reserve, where they are there; gives the
+    path."""
+    for end in ("", "-wal", ".ballast"):
         if os.path.exists(path + end):
             os.remove(path + end)
     return path
@@ -132,6 +133,9 @@ def of_commands(world, checks, source):
             fault("store can't be opened", log=asked + of_store("PATH", cause))
             for cause in (FAILED, UNOPENED)
         ]
+        if "server" in words:
+            reserve = f"[ERROR mq_program::room] PATH.ballast: {OF_SYSTEM}\n"
+            wanted.append(fault("store can't be opened", log=reserve))
         if "--create" in words:
             wanted.append(fault("store failed", log=refusal("PATH", FAILED)))
         found, what = outcomes(world, run), " ".join(words)
@@ -343,10 +347,13 @@ def of_a_night(world, checks):
             for cause in (FAILED, UNOPENED, OF_SYSTEM)
         ],
         "it can't be filled": [(0, stays.format(FAILED), ("", "-wal"))],
+        "its reserve can't be looked at": [
+            (0, f"[WARN  mq_program::caretaker] PATH.ballast: {OF_SYSTEM}", tuple(NOTED))
+        ],
         "a step of the switch fails": [
             (1, fault("store can't be opened", log=of_store(f"PATH{it}", cause))[2][:-1], left)
             for it, cause, left in [
-                ("", OF_SYSTEM, ("-wal", ".old", ".part", ".part-wal")),
+                (".old", OF_SYSTEM, ("-wal", ".old", ".part", ".part-wal")),
                 (".old", FAILED, ("-wal", ".old", ".part", ".part-wal")),
                 (".part", OF_SYSTEM, ("-wal", ".next", ".old", ".part-wal")),
                 (".part-wal", OF_SYSTEM, ("-wal", ".next", ".old")),

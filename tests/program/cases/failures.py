@@ -26,6 +26,8 @@ DEFAULT = 1_000_000
 FRAMES = 200
 # how many bytes are changed, each in a file of its own
 PLACES = 100
+# how many bytes a full disk has that the file may still take
+LEFT = 131_072
 REFUSAL = re.compile(
     r"mailquota: (store can't be opened|store is not this ledger|store has another"
     r" (zone|default)|store failed|out of memory"
@@ -69,6 +71,12 @@ class Disk:
 
     def remount(self, options):
         subprocess.run(["mount", "-o", f"remount,{options}", self.folder], check=True)
+
+    def fill(self, left):
+        """Takes all of its room but so many bytes."""
+        room = os.statvfs(self.folder)
+        with open(f"{self.folder}/filler", "wb") as file:
+            file.write(bytes(room.f_bavail * room.f_frsize - left))
 
 
 def can_mount(world, checks, what):
@@ -165,28 +173,59 @@ def same_answers(checks, what, server, asked):
 
 
 def full_disks(world, checks):
-    """The log fills a small disk; a larger one is full when the file has to grow."""
+    """The log fills a small disk, beside the reserve; a larger one is full when the file has to
+    grow."""
     if not can_mount(world, checks, "a disk that is full"):
         return
-    for size, larger in [("1m", "8m"), ("6m", "32m")]:
+    for size, larger, is_of_log in [("6m", "16m", True), ("11m", "40m", False)]:
         with Disk(world, size) as disk:
-            a_full_disk(world, checks, disk, larger)
+            a_full_disk(world, checks, disk, larger, is_of_log)
 
 
-def a_full_disk(world, checks, disk, larger):
+def log_that_is_long_enough(server, path, asked, disk):
+    """Asks until the log was written into the file, and begins anew, and leaves the file little
+    room; gives the log's size."""
+    first = os.path.getsize(path)
+    while os.path.getsize(path) == first and server.process.poll() is None:
+        asked.ask_on(server, len(asked.replies) + FRAMES)
+    disk.fill(LEFT)
+    return os.path.getsize(f"{path}-wal")
+
+
+def a_full_disk(world, checks, disk, larger, is_of_log):
     what, path, asked = f"a disk of {disk.size} that is full", f"{disk.folder}/ledger", Asked()
     with Server(world, words=["--create"], store=path, default=DEFAULT) as server:
+        size = None if is_of_log else log_that_is_long_enough(server, path, asked, disk)
         asked.ask_on(server, 100_000)
+        if size:
+            more = os.path.getsize(f"{path}-wal") - size
+            checks.holds(
+                f"{what}: it isn't the log that has no room",
+                more <= LEFT // 2,
+                f"at most {LEFT // 2} bytes more of it",
+                more,
+            )
         checks.equal(
             f"{what}: status and text", how_it_ended(server), (1, "mailquota: store failed\n")
         )
+        # (one that takes longer than 5 s to fill its disk gives its reserve up, and then asks for
+        # room each minute)
         log = server.log_lines()[:-1]
-        good = len(log) == 2 and log[0].startswith("[ERROR") and "store failed" in log[0]
+        given_up, asks = (
+            f"[WARN  mq_program::caretaker] {path}{it}: No space left on device (os error 28); make"
+            " room"
+            for it in (".ballast is given up", "")
+        )
+        told = log[:-2]
+        good = len(log) >= 2 and told == [given_up, *[asks] * len(told)][: len(told)]
         cause = f"[ERROR mq_program::store] {path}: database or disk is full"
         checks.holds(
             f"{what}: the log",
-            good and log[1] == cause,
-            "the connection, and the path with the cause",
+            good
+            and log[-2].startswith("[ERROR")
+            and "store failed" in log[-2]
+            and log[-1] == cause,
+            "the connection, and the path with the cause, after what is told of its room",
             log,
         )
         came = world.filter(server.address, INPUT)[:2]
@@ -197,19 +236,15 @@ def a_full_disk(world, checks, disk, larger):
         "more than 20",
         len(asked.replies),
     )
-    with Server(world, store=path, default=DEFAULT) as server:
-        replies_of(server, [asked.request(len(asked.replies) + 1000)])
-        again = asked.again(server)
-        good = all(one == other for one, other in zip(again, asked.replies))
-        checks.holds(f"{what}, and a new start: old answers", good, "none that differs", again)
-        if ends_by_itself(server, seconds=2):
-            status, text = how_it_ended(server)
-            checks.holds(
-                f"{what}, and a new start: its end",
-                status == 1 and is_refusal(text),
-                "status 1 and a text",
-                (status, text),
-            )
+    status, _, errors = world.run("server", "--config", world.new_file(settings_of(path)))
+    log, text = apart(errors)
+    checks.holds(
+        f"{what}, and a new start: it ends before it reads the ledger",
+        (status, text, len(log)) == (1, "mailquota: store can't be opened\n", 1)
+        and f" {path}.ballast: No space left on device (os error 28); " in log[0],
+        "status 1, a text, and the reserve with the cause",
+        (status, errors),
+    )
     disk.remount(f"size={larger}")
     with Server(world, store=path, default=DEFAULT) as server:
         same_answers(checks, f"{what}, and room again", server, asked)
@@ -220,23 +255,22 @@ def a_full_disk(world, checks, disk, larger):
 
 
 def too_small_a_disk(world, checks):
-    """Not even the tables have room; once there is some, they are made."""
+    """Not even the tables have room, for which a server has no reserve then; once there is some,
+    they are made."""
     if not can_mount(world, checks, "a disk without room for the tables"):
         return
     for size in ("4k", "16k", "40k", "64k", "100k"):
         with Disk(world, size) as disk:
             path = f"{disk.folder}/ledger"
-            status, _, errors = world.run(
-                "server", "--config", world.new_file(settings_of(path)), "--create"
-            )
+            status, _, errors = world.run("init", "--config", world.new_file(settings_of(path)))
             log, text = apart(errors)
             checks.equal(
-                f"--create on a disk of {size}",
+                f"init on a disk of {size}",
                 (status, text, len(log)),
                 (1, "mailquota: store can't be opened\n", 1),
             )
             checks.holds(
-                f"--create on a disk of {size}: the log",
+                f"init on a disk of {size}: the log",
                 f"{path}: database or disk is full" in log[0],
                 "the path and the cause",
                 log,

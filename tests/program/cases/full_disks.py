@@ -99,7 +99,11 @@ def grows_no_further(world, checks, room):
 def says_why(checks, what, server, path):
     """After the line of the connection the log says which file it is, and what the system or the
     disk said."""
-    log = apart("".join(f"{line}\n" for line in server.log_lines()))[0]
+    log = [
+        line
+        for line in apart("".join(f"{line}\n" for line in server.log_lines()))[0]
+        if " mq_program::caretaker] " not in line
+    ]
     good = (
         len(log) == 2
         and log[0].startswith("[ERROR mq_connections::")
@@ -194,9 +198,16 @@ def too_small(world, checks, size):
     what, path = f"files of {size:,} bytes at most", f"{world.folder}/small{size}"
     settings = ledger_settings(world, path)
     came = world.run("server", "--config", settings, "--create", limit=("RLIMIT_FSIZE", size))
+    # (the reserve comes first)
+    wanted = fault(
+        "store can't be opened",
+        log=f"[ERROR mq_program::room] {path}.ballast: File too large (os error 27)\n",
+    )
+    checks.equal(f"{what}: --create", came, wanted)
+    came = world.run("init", "--config", settings, limit=("RLIMIT_FSIZE", size))
     wanted = [fault("store can't be opened", log=of_store(path, cause)) for cause in FULL]
     checks.holds(
-        f"{what}: --create",
+        f"{what}: init",
         came in wanted,
         "refused, with the path and that there is no room",
         came,

@@ -34,6 +34,7 @@ from ends import (
     as_user,
     copied,
     fault,
+    files_in,
     ledger_settings,
     nobody_there,
     of_settings,
@@ -341,9 +342,7 @@ def links_beside_a_ledger(world, checks):
 def user_of(world):
     """The world of a user who isn't root, and has this world's folder."""
     os.chmod(world.folder, 0o711)
-    path = world.new_file(
-        f'#!/bin/sh\nexec {" ".join(as_user(USER))} {world.program} "$@"\n'
-    )
+    path = world.new_file(f'#!/bin/sh\nexec {" ".join(as_user(USER))} {world.program} "$@"\n')
     os.chmod(path, 0o755)
     user = World(path, world.folder)
     user.numbers = world.numbers
@@ -382,7 +381,7 @@ def folders_of_others(world, checks, user):
         path = folder_of(world, what.replace(" ", "-"), source)
         for end, mode in changes.items():
             os.chmod(os.path.dirname(path) + end, mode)
-        before = sorted(os.listdir(os.path.dirname(path)))
+        before = files_in(os.path.dirname(path))
         if cause is None:
             checks.equal(f"{what}: audit", audit(user, path, default=DEFAULT), sound(books))
             with Server(user, store=path, default=DEFAULT) as server:
@@ -400,7 +399,7 @@ def folders_of_others(world, checks, user):
                         user.run(*words, "--config", config),
                         fault(NOT_OPENED, log=log),
                     )
-        checks.equal(f"{what}: files", sorted(os.listdir(os.path.dirname(path))), before)
+        checks.equal(f"{what}: files", files_in(os.path.dirname(path)), before)
         os.chmod(os.path.dirname(path), 0o700)
         if cause:
             same_rows(checks, what, path, filled_books())
