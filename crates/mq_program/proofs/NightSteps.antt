@@ -11,7 +11,7 @@ use Rattle.mq_connections.specs.declared.fault.RoomFault.TheVariants.{Store}
 use Rattle.mq_connections.specs.Sessions.{EndsServing, Outside}
 use Rattle.mq_store.specs.Forgetting.{IsRemembered}
 use Rattle.mq_store.specs.Soundness.{book_in, IsSound}
-use Rattle.mq_program.specs.Nights.{AfterNights, AreKept, AreServed, Begun, Closes, HasDawned, HasPassed, Night, ServesNights, around}
+use Rattle.mq_program.specs.Nights.{AfterNights, AreKept, AreServed, Begun, Closes, HasDawned, HasPassed, Night, ServesNights, Stayed, around}
 
 -- what holds of what a night gave holds of what is made of that
 pub next_one : {A B E : Type 0} (outcome : Result (Option A) E) (night : Option B) (R : A → B → Type 0) (P : B → Type 0) (Q : A → Type 0)
@@ -31,6 +31,7 @@ kept_before P None last new closes kept = absurd (subst (AreKept P) closes kept)
 nights_on : (start b c : Book) → AfterNights start b → AfterNights b c → AfterNights start c
 nights_on start b c before Begun = before
 nights_on start b c before (Night m grown day after served) = Night m grown day (nights_on start b m before after) served
+nights_on start b c before (Stayed m grown after served) = Stayed m grown (nights_on start b m before after) served
 
 passed_on : (start b now : Book) → AfterNights start b → ServesNights b now → ServesNights start now
 passed_on start b now before nights = record { dawn = nights.dawn; nights = nights_on start b nights.dawn before nights.nights; served = nights.served }
@@ -50,6 +51,13 @@ module _ (zone z : Zone) (default d : ℕ) (zone_is : z ≡ zone) (default_is : 
       let grown : Book = book_in zone default old in
       let same : AreServed start grown = subst₂ (λ k n. AreServed start (book_in k n old)) zone_is default_is served in
       subst (λ h. AfterNights start (record { zone = zone; default = default; history = h })) (sym has.history) (Night start grown day Begun same)
+
+  -- a night in which the former ledger stayed
+  pub stayed : (new : State) → IsSound z d new → AreServed start (book_in z d new.now) → HasDawned zone default start new
+  stayed new sound served = (
+    subst₂ (λ k n. IsSound k n new) zone_is default_is sound,
+    Stayed start (book_in zone default new.now) Begun (subst₂ (λ k n. AreServed start (book_in k n new.now)) zone_is default_is served),
+  )
 
   -- a serving without a night
   pub passed_at_once : (new : State) → IsSound z d new → AreServed start (book_in z d new.now) → HasPassed zone default start new

@@ -7,6 +7,7 @@ pub mod Forgetting
 pub mod Describing
 pub mod Listing
 pub mod Refusals
+pub mod Room
 pub mod Serving
 pub mod AfterForgetting
 pub mod Nights

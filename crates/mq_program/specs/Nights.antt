@@ -30,10 +30,11 @@ abbrev pub AreServed : Book → Book → Type 0
 AreServed old new = (failed : Option Request) × HaveServed (around old) (around new) failed
 
 -- From the first book on, night after night: connections were served, and then what isn't remembered from a day on was
--- forgotten.
+-- forgotten, or nothing was, since the new ledger couldn't take the place of the former one.
 pub data AfterNights (start : Book) : Book → Type 0 where
   Begun : AfterNights start start
   Night : (b grown : Book) (day : ℕ) → AfterNights start b → AreServed b grown → AfterNights start (remembered_book day grown)
+  Stayed : (b grown : Book) → AfterNights start b → AreServed b grown → AfterNights start grown
 
 -- the same, and then connections were served
 pub record ServesNights (start now : Book) : Type 0 where

@@ -7,14 +7,15 @@
 //!     Arguments::Server(given) => end_program(server(rt, given, start), errors),
 //!
 //! Those that need no ledger, the filter among them, are `mq_remote`'s. It stands on `mq_request`,
-//! `mq_stream`, `mq_frame`, `mq_ledger`, `mq_chore`, `mq_forget`, `mq_rows`, `mq_tables`,
-//! `mq_server`, `mq_settings`, `mq_connections`, `mq_watch`, `mq_command`, `mq_replay`,
-//! `mq_process`, `mq_store` and `mq_nights`. It knows no words of the command line, and decides
-//! nothing by itself. Begin with `serving.rt`, where the server is put together, then `store.rt`,
-//! then `nights.rt`.
+//! `mq_permits`, `mq_permits_file`, `mq_stream`, `mq_frame`, `mq_ledger`, `mq_chore`, `mq_forget`,
+//! `mq_rows`, `mq_tables`, `mq_server`, `mq_settings`, `mq_connections`, `mq_watch`, `mq_command`,
+//! `mq_replay`, `mq_process`, `mq_store` and `mq_nights`. It knows no words of the command line, and
+//! decides nothing by itself. Begin with `serving.rt`, where the server is put together, then
+//! `store.rt`, then `nights.rt`.
 #![tactic(auto)]
 
 mod auditing;
+mod caretaker;
 mod describing;
 mod fault;
 mod forgetting;
@@ -24,10 +25,13 @@ mod listing;
 mod making;
 mod memory;
 mod nights;
+mod permits;
 mod probing;
 mod progress;
 mod refusal;
 mod replaying;
+mod reserve;
+mod room;
 mod serving;
 mod store;
 mod switching;

@@ -1,5 +1,5 @@
 //! `server` with `keep`: a ledger is served night after night, and days leave it meanwhile.
-ghost use Rattle.std.specs.Prelude.{◌≡◌, IfErr, IfOk, IfSome, IsSomeAnd};
+ghost use Rattle.std.specs.Prelude.{◌≡◌, IfErr, IfOk, IfSome, IsSomeAnd, MatchResult};
 ghost use Rattle.sqlite.specs.Held.{state};
 ghost use Rattle.mq_process.specs.Settings.{AreInRange};
 ghost use Rattle.mq_server.specs.Delivery.{HasGrown};
@@ -7,26 +7,30 @@ ghost use Rattle.mq_store.specs.Forgetting.{IsRemembered};
 ghost use Rattle.mq_store.specs.Soundness.{book_in, HasKept, IsSound};
 ghost use Rattle.mq_program.specs.Nights.{AreKept, AreServed, HasDawned, HasPassed};
 
+use crate::caretaker::Caretaker;
 use crate::fault::ProgramFault;
 use crate::host::Databases;
 use crate::last_night::{last_night, note_night};
-use crate::serving::{Crowd, Elapsed, EndedServing, bind, log_ledger};
-use crate::store::{ledger_of_settings, log_cause, path_of};
-use crate::switching::{Names, PartStore, discard_part, make_part, switch};
+use crate::serving::{
+    Crowd, Elapsed, EndedServing, bind, days_of, log_ledger, outcome_of, times_of,
+};
+use crate::store::{ledger_of_settings, log_cause};
+use crate::switching::{Names, NoSwitch, PartStore, begin_switch, discard_part, make_part, switch};
 use log::{Log, info};
 use mq_connections::Connections;
 use mq_connections::laws::nothing_is_served;
 use mq_ledger::{Ledger, LedgerFault, Zone};
-use mq_nights::{NoPart, Parts, RenewedLedger, pass_night};
+use mq_nights::{Look, NoPart, Parts, RenewedLedger, Seen, pass_night};
+use mq_permits::Permits;
 use mq_process::elapsed;
 use mq_settings::ServerSettings;
 use mq_store::SqlLedger;
-use mq_watch::WatchedLedger;
+use mq_watch::{LedgerDays, WatchedLedger};
 use sqlite::{Alter, Connection, Unknown};
 use std::alloc::AllocError;
 use std::net::{Net, TcpListener, TcpStream};
 use std::rt::{Clock, Files};
-use std::time::{Duration, Instant};
+use std::time::Instant;
 
 /// A ledger with the log of what comes to it.
 type Serving<'a, S, R, G> = WatchedLedger<'a, SqlLedger<S>, R, G>;
@@ -37,6 +41,8 @@ struct Nights<'a, R, G> {
     rt: &'a R,
     log: &'a G,
     settings: &'a ServerSettings,
+    /// Who may ask what.
+    permits: Option<&'a Permits>,
     /// How many days before today are kept.
     keep: u32,
     /// The ledger's path.
@@ -55,7 +61,15 @@ trait Switch<C> {
     /// known any more.
     ghost closed: { Self → Option (List C) } = { λ _. None };
 
-    /// Closes the former ledger's file once it has another name, gives that of it to the new one,
+    /// Gives the former ledger's file its other name. Why it stays as it was is logged.
+    fn begin(&mut self) -> Result<(), NoSwitch>
+        ensures { closed self.new ≡ closed self.old };
+
+    /// Removes the new ledger's file, which takes no place: its connection is gone.
+    fn stay(&mut self)
+        ensures { closed self.new ≡ closed self.old };
+
+    /// Closes the former ledger's file, which has its other name, gives that of it to the new one,
     /// and logs and notes which days were forgotten. `zone` is the ledger's, and `began` when the
     /// renewal began.
     fn take_place(
@@ -73,6 +87,7 @@ struct NightFiles<'a, R, G> {
     rt: &'a R,
     log: &'a G,
     names: &'a Names,
+    caretaker: Caretaker<'a, R, G>,
 }
 
 impl<R, G> Clone for NightFiles<'_, R, G> {
@@ -83,7 +98,7 @@ impl<R, G> Clone for NightFiles<'_, R, G> {
 
 impl<R, G> Copy for NightFiles<'_, R, G> {}
 
-impl<R: Databases, G: Log> Parts<PartStore> for NightFiles<'_, R, G> {
+impl<R: Databases + Clock, G: Log> Parts<PartStore> for NightFiles<'_, R, G> {
     fn part(&mut self) -> Result<Connection<PartStore>, NoPart> {
         match make_part(self.rt, self.log, self.names) {
             Ok(connection) => Ok(connection),
@@ -96,7 +111,16 @@ impl<R: Databases, G: Log> Parts<PartStore> for NightFiles<'_, R, G> {
     }
 
     fn discard(&mut self) {
+        // (what is removed gives room back)
+        let want = self.caretaker.want_of_room();
         discard_part(self.rt, self.log, self.names);
+        if let Some(lack) = want {
+            self.caretaker.let_former_go(&lack);
+        }
+    }
+
+    fn look(&mut self, renews: bool) -> Look {
+        self.caretaker.look(renews)
     }
 }
 
@@ -104,6 +128,14 @@ impl<R, G: Log> Switch<Connection<PartStore>> for NightFiles<'_, R, G>
 where
     R: Files + Clock + AllocGlobal,
 {
+    fn begin(&mut self) -> Result<(), NoSwitch> {
+        begin_switch(self.rt, self.log, self.names)
+    }
+
+    fn stay(&mut self) {
+        discard_part(self.rt, self.log, self.names);
+    }
+
     fn take_place(
         &mut self,
         former: Connection<PartStore>,
@@ -133,8 +165,8 @@ struct Dawn<'a, N: Alter, R, G> {
     day: u32,
     /// When the renewal began.
     began: Option<Instant>,
-    /// The night, which has nothing left to do.
-    night: Option<u32>,
+    /// What was seen to.
+    seen: Seen,
 }
 
 /// A night that is over: the ledger that it began with, and the one that is served from then on, if
@@ -162,14 +194,14 @@ fn end_night<'a, R: Clock, G: Log, S: Alter + Drop, N: Alter + Drop>(
                 ledger,
                 day,
                 began,
-                night,
+                seen,
             } = renewed;
             let (ledger, serving) = serving.take_over(ledger);
             let dawn = Dawn {
                 serving,
                 day,
                 began,
-                night,
+                seen,
             };
             PassedNight {
                 ledger,
@@ -192,7 +224,7 @@ fn end_night<'a, R: Clock, G: Log, S: Alter + Drop, N: Alter + Drop>(
 fn pass<'a, R, G: Log, S: Alter + Drop, N: Alter + Drop, P: Parts<N> + Drop>(
     nights: &Nights<'a, R, G>,
     listener: &TcpListener,
-    done: Option<u32>,
+    seen: Seen,
     parts: P,
     serving: Serving<'a, S, R, G>,
     left: &mut Connections,
@@ -237,15 +269,16 @@ where
 {
     let mut serving = serving;
     let (rt, log) = (nights.rt, nights.log);
-    let timeout = Duration::from_millis(u64::from(nights.settings.timeout));
+    let times = times_of(nights.settings);
     match pass_night(
         rt,
         log,
         rt.alloc(),
         listener,
-        timeout,
+        times,
+        nights.permits,
         nights.keep,
-        done,
+        seen,
         parts,
         &mut serving,
         left,
@@ -262,12 +295,35 @@ where
     }
 }
 
-/// Serves a ledger until a renewal of it is through, and the new one has taken its place. Where the
-/// server ends before, it gives the ledger that was served last.
+/// The former ledger is served on, in place of the one that a renewal made, whose store is closed.
+/// The night has nothing left to do.
+fn stay_with<'a, R: Clock, G: Log, N: Alter + Drop>(
+    dawn: Dawn<'a, N, R, G>,
+    former: SqlLedger<N>,
+) -> Dawn<'a, N, R, G>
+    ensures { result.serving ≡ former }
+{
+    let Dawn {
+        serving,
+        day,
+        began,
+        seen,
+    } = dawn;
+    let (_renewed, serving) = serving.take_over(former);
+    Dawn {
+        serving,
+        day,
+        began,
+        seen,
+    }
+}
+
+/// Serves a ledger until a renewal of it is through, and the new one has taken its place, or can't
+/// be given it. Where the server ends before, it gives the ledger that was served last.
 fn serve_to_dawn<'a, R, G: Log, N: Alter + Drop, F>(
     nights: &Nights<'a, R, G>,
     listener: &TcpListener,
-    done: Option<u32>,
+    seen: Seen,
     files: &mut F,
     serving: Serving<'a, N, R, G>,
     left: &mut Connections,
@@ -278,7 +334,8 @@ where
     ensures closed { AreKept (λ c. HasKept (state N.Store c)) (F.closed files.new)
         → AreKept (λ c. HasKept (state N.Store c)) (F.closed files.old) }
     ensures kept { AreKept (λ c. HasKept (state N.Store c)) (F.closed files.new)
-        → IfErr result (λ s. HasKept (state N.Store s.ledger.connection))
+        → MatchResult result (λ d. HasKept (state N.Store d.serving.connection))
+        (λ s. HasKept (state N.Store s.ledger.connection))
         → HasKept (state N.Store serving.entry.connection) }
     ensures dawn { AreKept (λ c. HasKept (state N.Store c)) (F.closed files.new) → F.is_fresh
         → IsSound serving.entry.zone serving.entry.default (state N.Store serving.entry.connection)
@@ -297,9 +354,14 @@ where
         (state N.Store s.ledger.connection)) }
 {
     nothing_is_served();
-    let PassedNight { ledger, outcome } = pass(nights, listener, done, *files, serving, left);
+    let PassedNight { ledger, outcome } = pass(nights, listener, seen, *files, serving, left);
     match outcome {
         Ok(Some(dawn)) => {
+            if files.begin().is_err() {
+                let dawn = stay_with(dawn, ledger);
+                files.stay();
+                return Ok(dawn);
+            }
             let zone = *ledger.zone();
             match files.take_place(ledger.into_connection(), zone, dawn.day, dawn.began) {
                 Ok(()) => Ok(dawn),
@@ -326,6 +388,7 @@ fn pass_nights<R, G: Log, N: Alter + Drop, F>(
     listener: &TcpListener,
     files: &mut F,
     ledger: SqlLedger<N>,
+    days: Option<LedgerDays>,
 ) -> EndedServing<N>
 where
     R: Clock + Net + AllocGlobal,
@@ -335,8 +398,8 @@ where
         → HasKept (state N.Store ledger.connection) }
 
     // Where each ledger that was closed had kept its premise, and so has the last one: night after
-    // night connections were served, and what isn't remembered was forgotten, and nothing else came
-    // to what the ledger means.
+    // night connections were served, and what isn't remembered was forgotten, or nothing was, and
+    // nothing else came to what the ledger means.
     ensures nights { AreKept (λ c. HasKept (state N.Store c)) (F.closed files.new) → F.is_fresh
         → IsSound ledger.zone ledger.default (state N.Store ledger.connection)
         → HasKept (state N.Store result.ledger.connection)
@@ -347,13 +410,13 @@ where
     nothing_is_served();
     let rt = nights.rt;
     let mut left = nights.connections;
-    let mut serving = WatchedLedger::new(rt, nights.log, rt.alloc(), ledger);
-    let mut done = None;
+    let mut serving = WatchedLedger::new(rt, nights.log, rt.alloc(), ledger, days);
+    let mut seen = Seen::nothing();
     // (there are fewer nights than that)
     for _night in 0..u64::MAX {
-        match serve_to_dawn(nights, listener, done, files, serving, &mut left) {
+        match serve_to_dawn(nights, listener, seen, files, serving, &mut left) {
             Ok(dawn) => {
-                done = dawn.night;
+                seen = dawn.seen;
                 serving = dawn.serving;
             }
             Err(served) => return served,
@@ -365,13 +428,14 @@ where
     }
 }
 
-/// Logs from which day on a ledger has reserves, and how many before today are kept.
+/// Logs from which day on a ledger has reserves, and how many before today are kept. It gives the
+/// days on which something was reserved.
 fn log_keep<G: Log, S: Alter>(
     log: &G,
     path: &str,
     ledger: &mut SqlLedger<S>,
     keep: u32,
-) -> Result<(), LedgerFault>
+) -> Result<Option<LedgerDays>, LedgerFault>
     ensures lent { (ledger.new.zone ≡ ledger.old.zone) × (ledger.new.default ≡ ledger.old.default) }
     ensures kept { HasKept (state S.Store ledger.new.connection)
         → HasKept (state S.Store ledger.old.connection) }
@@ -381,22 +445,24 @@ fn log_keep<G: Log, S: Alter>(
     ensures same { HasKept (state S.Store ledger.new.connection)
         → (state S.Store ledger.new.connection).now ≡ (state S.Store ledger.old.connection).now }
 {
-    match ledger.days()? {
+    let days = days_of(ledger)?;
+    match days {
         Some(days) => {
             let oldest = days.oldest;
             info!(log; "ledger {path}: has days from {oldest} on, keeps {keep} before today");
         }
         None => info!(log; "ledger {path}: keeps {keep} days before today"),
     }
-    Ok(())
+    Ok(days)
 }
 
-/// Logs what a ledger holds as a server begins with it, and what is kept of it.
+/// Logs what a ledger holds as a server begins with it, and what is kept of it. It gives the days
+/// on which something was reserved.
 fn log_start<R, G: Log, S: Alter>(
     nights: &Nights<'_, R, G>,
     ledger: &mut SqlLedger<S>,
     took: Elapsed,
-) -> Result<(), LedgerFault>
+) -> Result<Option<LedgerDays>, LedgerFault>
     ensures lent { (ledger.new.zone ≡ ledger.old.zone) × (ledger.new.default ≡ ledger.old.default) }
     ensures kept { HasKept (state S.Store ledger.new.connection)
         → HasKept (state S.Store ledger.old.connection) }
@@ -411,12 +477,12 @@ fn log_start<R, G: Log, S: Alter>(
 }
 
 /// Logs the start over a ledger, with what its last night did, and listens at the address of the
-/// settings.
+/// settings. It gives the days on which something was reserved, too.
 fn prepare<R, G: Log, S: Alter>(
     nights: &Nights<'_, R, G>,
     ledger: &mut SqlLedger<S>,
     took: Elapsed,
-) -> Result<TcpListener, ProgramFault>
+) -> Result<(TcpListener, Option<LedgerDays>), ProgramFault>
 where
     R: Files + Net<Listener = TcpListener, Stream = TcpStream> + AllocGlobal,
     ensures lent { (ledger.new.zone ≡ ledger.old.zone) × (ledger.new.default ≡ ledger.old.default) }
@@ -429,14 +495,18 @@ where
         → (state S.Store ledger.new.connection).now ≡ (state S.Store ledger.old.connection).now }
 {
     let (log, path) = (nights.log, nights.path);
-    if let Err(fault) = log_start(nights, ledger, took) {
-        log_cause(log, path, ledger);
-        return Err(ProgramFault::Audit(fault));
-    }
+    let days = match log_start(nights, ledger, took) {
+        Ok(days) => days,
+        Err(fault) => {
+            log_cause(log, path, ledger);
+            return Err(ProgramFault::Audit(fault));
+        }
+    };
     if let Some(night) = last_night(nights.rt, path) {
         info!(log; "ledger {path}: {night}");
     }
-    bind(nights.rt, log, nights.settings.listen)
+    let listener = bind(nights.rt, log, nights.settings.listen)?;
+    Ok((listener, days))
 }
 
 /// Serves a ledger, and each that a renewal makes of it. The start, the end and what prevents it
@@ -461,11 +531,11 @@ where
     nothing_is_served();
     let mut ledger = ledger;
     match prepare(nights, &mut ledger, took) {
-        Ok(listener) => {
+        Ok((listener, days)) => {
             let address = nights.settings.listen;
             let crowd = Crowd(nights.connections);
             info!(nights.log; "listening on {address} for {crowd}");
-            pass_nights(nights, &listener, files, ledger)
+            pass_nights(nights, &listener, files, ledger, days)
         }
         Err(fault) => EndedServing {
             ledger,
@@ -475,11 +545,13 @@ where
 }
 
 /// Serves so many connections over the ledger in the file of the settings, with `create` over a new
-/// one. Meanwhile days leave it, but today and so many before.
+/// one. Meanwhile days leave it, but today and so many before. The permits say who may ask what.
 pub fn listen_by_night<R, G: Log>(
     rt: &R,
     log: &G,
     settings: &ServerSettings,
+    permits: Option<&Permits>,
+    names: &Names,
     keep: u32,
     create: bool,
     connections: Connections,
@@ -489,11 +561,11 @@ where
     requires { AreInRange settings.now }
 {
     let since = Instant::now(rt).ok();
-    let names = Names::new(rt.alloc(), path_of(settings)?)?;
     let nights = Nights {
         rt,
         log,
         settings,
+        permits,
         keep,
         path: names.ledger.as_str(),
         connections,
@@ -501,11 +573,11 @@ where
     let mut files = NightFiles {
         rt,
         log,
-        names: &names,
+        names,
+        caretaker: Caretaker::new(rt, log, names, true),
     };
     // (the files of nights have one type, and of one that a renewal makes nothing is known before)
     let ledger = ledger_of_settings(rt, log, settings, create, Unknown)?;
     let took = Elapsed(elapsed(rt, since));
-    let EndedServing { ledger: _, outcome } = begin_nights(&nights, &mut files, ledger, took);
-    outcome
+    outcome_of(begin_nights(&nights, &mut files, ledger, took))
 }

@@ -1,5 +1,6 @@
 //! `server`: serves a ledger to filters.
-ghost use Rattle.std.specs.Prelude.{◌≡◌, [], false, IfErr, IfOk, IsTrue};
+ghost use Rattle.std.specs.Prelude.{◌≡◌, ◌*◌, [], false, IfErr, IfOk, IsTrue};
+ghost use Rattle.std.specs.Duration.{as_nanos};
 ghost use Rattle.sqlite.specs.Files.{file_state};
 ghost use Rattle.sqlite.specs.Held.{state};
 ghost use Rattle.sqlite.specs.Steps.{over_memory};
@@ -16,25 +17,30 @@ ghost use Rattle.mq_connections.specs.Wires.{unknown};
 ghost use Rattle.mq_program.specs.declared.fault.ProgramFault.TheVariants.{Serve};
 ghost use Rattle.mq_process.specs.Settings.{AreInRange};
 
+use crate::caretaker::Caretaker;
 use crate::fault::ProgramFault;
 use crate::host::Databases;
 use crate::memory::warn_of_memory;
 use crate::nights::listen_by_night;
+use crate::permits::permits_of_settings;
 use crate::refusal::days_by;
+use crate::room::prepare_room;
 use crate::store::{ledger_of_settings, log_cause, memory_ledger};
+use crate::switching::Names;
 use log::sink::Console;
 use log::{Log, Logged, error, info, warn};
-use mq_chore::NoChore;
+use mq_chore::{Chore, NoChore};
 use mq_connections::laws::nothing_is_served;
-use mq_connections::{Connections, serve_connections};
+use mq_connections::{Connections, Times, serve_connections};
 use mq_forget::laws::late_requests_touch_no_later_day;
 use mq_ledger::laws::{built_is_legal, one_more_arrival};
 use mq_ledger::{Ledger, LedgerFault};
+use mq_permits::Permits;
 use mq_process::{ConnectionsArgument, ServerArguments, elapsed, server_settings};
 use mq_rows::VERSION;
 use mq_settings::{Place, ServerSettings};
 use mq_store::SqlLedger;
-use mq_watch::{Hear, WatchedLedger};
+use mq_watch::{Hear, InnerChore, LedgerDays, WatchedLedger};
 use sqlite::{Alter, FileFrom, FileStore, MemStore, Start};
 use std::alloc::Global;
 use std::fmt;
@@ -94,33 +100,66 @@ where
     requires { AreInRange settings.now }
 {
     let logged = Logged::new(rt, settings.log, Console(rt));
+    let permits = permits_of_settings(rt, &logged, settings)?;
+    serve_permitted(
+        rt,
+        &logged,
+        settings,
+        permits.as_ref(),
+        create,
+        connections,
+        start,
+    )
+}
+
+/// Serves so many connections by these settings, to whom these permits allow it.
+fn serve_permitted<R, G: Log, S: Start>(
+    rt: &R,
+    log: &G,
+    settings: &ServerSettings,
+    permits: Option<&Permits>,
+    create: bool,
+    connections: Connections,
+    start: S,
+) -> Result<u8, ProgramFault>
+where
+    R: Databases + Clock + Net<Listener = TcpListener, Stream = TcpStream>,
+    requires { AreInRange settings.now }
+{
     match &settings.store {
         Place::Memory => {
             if settings.keep.is_some() {
-                warn!(logged; "a ledger in memory forgets nothing, whatever `keep` says");
+                warn!(log; "a ledger in memory forgets nothing, whatever `keep` says");
             }
-            let EndedServing { ledger: _, outcome } = listen_in_memory(
-                rt,
-                &logged,
-                settings,
-                connections,
-            )?;
-            outcome
+            outcome_of(listen_in_memory(rt, log, settings, permits, connections)?)
         }
         Place::File(path) => {
-            warn_of_memory(rt, &logged, path.as_str());
+            warn_of_memory(rt, log, path.as_str());
+            let names = Names::new(rt.alloc(), path.as_str())?;
+            prepare_room(rt, log, &names, settings.keep.is_some(), create)?;
             if let Some(keep) = settings.keep {
-                return listen_by_night(rt, &logged, settings, keep, create, connections);
+                return listen_by_night(
+                    rt,
+                    log,
+                    settings,
+                    permits,
+                    &names,
+                    keep,
+                    create,
+                    connections,
+                );
             }
-            let EndedServing { ledger: _, outcome } = listen_over_file(
+            let served = listen_over_file(
                 rt,
-                &logged,
+                log,
                 settings,
+                permits,
+                &names,
                 create,
                 connections,
                 start,
             )?;
-            outcome
+            outcome_of(served)
         }
     }
 }
@@ -132,11 +171,21 @@ pub struct EndedServing<S: Alter> {
     pub outcome: Result<u8, ProgramFault>,
 }
 
+/// How a server ended, whose ledger is let go. It goes over any store, since a proof that lets a
+/// ledger go over the file's own takes far longer.
+pub fn outcome_of<S: Alter + Drop>(served: EndedServing<S>) -> Result<u8, ProgramFault>
+    ensures { result ≡ served.outcome }
+{
+    let EndedServing { ledger: _, outcome } = served;
+    outcome
+}
+
 /// Serves so many connections over a new ledger in memory.
 fn listen_in_memory<R, G: Log>(
     rt: &R,
     log: &G,
     settings: &ServerSettings,
+    permits: Option<&Permits>,
     connections: Connections,
 ) -> Result<EndedServing<MemStore>, ProgramFault>
 where
@@ -152,7 +201,16 @@ where
     let since = Instant::now(rt).ok();
     let ledger = memory_ledger(rt.alloc(), settings.zone, settings.default)?;
     let took = Elapsed(elapsed(rt, since));
-    Ok(listen_over(rt, log, settings, ledger, took, connections))
+    Ok(listen_over(
+        rt,
+        log,
+        settings,
+        permits,
+        ledger,
+        took,
+        NoChore,
+        connections,
+    ))
 }
 
 /// Serves so many connections over the ledger in the file of the settings; with `create` over a new
@@ -161,6 +219,8 @@ fn listen_over_file<R, G: Log, S: Start>(
     rt: &R,
     log: &G,
     settings: &ServerSettings,
+    permits: Option<&Permits>,
+    names: &Names,
     create: bool,
     connections: Connections,
     start: S,
@@ -194,17 +254,29 @@ where
     let since = Instant::now(rt).ok();
     let ledger = ledger_of_settings(rt, log, settings, create, start)?;
     let took = Elapsed(elapsed(rt, since));
-    Ok(listen_over(rt, log, settings, ledger, took, connections))
+    let caretaker = Caretaker::new(rt, log, names, false);
+    Ok(listen_over(
+        rt,
+        log,
+        settings,
+        permits,
+        ledger,
+        took,
+        caretaker,
+        connections,
+    ))
 }
 
-/// Serves so many connections over a ledger. It goes over any store, since a proof over the file's
-/// own takes far longer.
-fn listen_over<R, G: Log, S: Alter + Drop>(
+/// Serves so many connections over a ledger, with this chore between the requests. It goes over any
+/// store, since a proof over the file's own takes far longer.
+fn listen_over<R, G: Log, S: Alter + Drop, K: Chore<SqlLedger<S>> + Drop>(
     rt: &R,
     log: &G,
     settings: &ServerSettings,
+    permits: Option<&Permits>,
     ledger: SqlLedger<S>,
     took: Elapsed,
+    chore: K,
     connections: Connections,
 ) -> EndedServing<S>
 where
@@ -223,8 +295,8 @@ where
 {
     nothing_is_served();
     let mut ledger = ledger;
-    match log_ledger(log, settings, &mut ledger, took) {
-        Ok(()) => begin(rt, log, settings, ledger, connections),
+    match days_at_start(log, settings, &mut ledger, took) {
+        Ok(days) => begin(rt, log, settings, permits, ledger, days, chore, connections),
         Err(fault) => {
             log_cause(log, place_name(&settings.store), &ledger);
             EndedServing {
@@ -235,13 +307,58 @@ where
     }
 }
 
+/// Logs what a ledger holds as a server begins with it, and gives the days on which something was
+/// reserved.
+fn days_at_start<G: Log, S: Alter>(
+    log: &G,
+    settings: &ServerSettings,
+    ledger: &mut SqlLedger<S>,
+    took: Elapsed,
+) -> Result<Option<LedgerDays>, LedgerFault>
+    ensures lent { (ledger.new.zone ≡ ledger.old.zone) × (ledger.new.default ≡ ledger.old.default) }
+    ensures kept { HasKept (state S.Store ledger.new.connection)
+        → HasKept (state S.Store ledger.old.connection) }
+    ensures sound { HasKept (state S.Store ledger.new.connection)
+        → IsSound ledger.old.zone ledger.old.default (state S.Store ledger.old.connection)
+        → IsSound ledger.new.zone ledger.new.default (state S.Store ledger.new.connection) }
+    ensures same { HasKept (state S.Store ledger.new.connection)
+        → (state S.Store ledger.new.connection).now ≡ (state S.Store ledger.old.connection).now }
+{
+    log_ledger(log, settings, ledger, took)?;
+    days_of(ledger)
+}
+
+/// The first day on which something was reserved in a ledger, and the last, as the log of its
+/// requests wants them.
+pub fn days_of<S: Alter>(ledger: &mut SqlLedger<S>) -> Result<Option<LedgerDays>, LedgerFault>
+    ensures lent { (ledger.new.zone ≡ ledger.old.zone) × (ledger.new.default ≡ ledger.old.default) }
+    ensures kept { HasKept (state S.Store ledger.new.connection)
+        → HasKept (state S.Store ledger.old.connection) }
+    ensures sound { HasKept (state S.Store ledger.new.connection)
+        → IsSound ledger.old.zone ledger.old.default (state S.Store ledger.old.connection)
+        → IsSound ledger.new.zone ledger.new.default (state S.Store ledger.new.connection) }
+    ensures same { HasKept (state S.Store ledger.new.connection)
+        → (state S.Store ledger.new.connection).now ≡ (state S.Store ledger.old.connection).now }
+{
+    match ledger.days()? {
+        Some(days) => Ok(Some(LedgerDays {
+            oldest: days.oldest,
+            newest: days.newest,
+        })),
+        None => Ok(None),
+    }
+}
+
 /// Serves so many connections over a ledger, and logs what an administrator has to see of their
 /// requests.
-fn begin<R, G: Log, S: Alter + Drop>(
+fn begin<R, G: Log, S: Alter + Drop, K: Chore<SqlLedger<S>> + Drop>(
     rt: &R,
     log: &G,
     settings: &ServerSettings,
+    permits: Option<&Permits>,
     ledger: SqlLedger<S>,
+    days: Option<LedgerDays>,
+    chore: K,
     connections: Connections,
 ) -> EndedServing<S>
 where
@@ -258,8 +375,18 @@ where
         (book_in ledger.zone ledger.default (state S.Store result.ledger.connection).now)
         result.outcome }
 {
-    let mut watched = WatchedLedger::new(rt, log, rt.alloc(), ledger);
-    let outcome = listen(rt, log, rt.alloc(), settings, &mut watched, connections);
+    let mut watched = WatchedLedger::new(rt, log, rt.alloc(), ledger, days);
+    let mut chore = InnerChore { chore };
+    let outcome = listen(
+        rt,
+        log,
+        rt.alloc(),
+        settings,
+        permits,
+        &mut watched,
+        &mut chore,
+        connections,
+    );
     let ledger = watched.into_inner();
     log_cause(log, place_name(&settings.store), &ledger);
     EndedServing { ledger, outcome }
@@ -330,14 +457,28 @@ where
     }
 }
 
-/// Listens at the address of the settings, and serves so many connections over the ledger. The
-/// start, the end and what prevents it are logged.
-pub fn listen<R, G: Log, L: Ledger + Hear>(
+/// How long the settings let connections stay as they are.
+pub fn times_of(settings: &ServerSettings) -> Times
+    ensures timeout { as_nanos result.timeout ≡ settings.now.timeout * 1_000_000 }
+    ensures idle { as_nanos result.idle ≡ settings.now.idle * 1_000_000_000 }
+{
+    Times {
+        timeout: Duration::from_millis(u64::from(settings.timeout)),
+        idle: Duration::from_secs(u64::from(settings.idle)),
+    }
+}
+
+/// Listens at the address of the settings, and serves so many connections over the ledger, with
+/// this chore between the requests, which is to have no end. The start, the end and what prevents
+/// it are logged.
+pub fn listen<R, G: Log, L: Ledger + Hear, K: Chore<L>>(
     rt: &R,
     log: &G,
     alloc: Global,
     settings: &ServerSettings,
+    permits: Option<&Permits>,
     ledger: &mut L,
+    chore: &mut K,
     connections: Connections,
 ) -> Result<u8, ProgramFault>
 where
@@ -361,18 +502,11 @@ where
     };
     let crowd = Crowd(connections);
     info!(log; "listening on {address} for {crowd}");
-    let timeout = Duration::from_millis(u64::from(settings.timeout));
+    let times = times_of(settings);
     let mut left = connections;
-    // (it is `ServingEnd::Over`: there is no chore that could be done)
+    // (it is `ServingEnd::Over`: the chore is never done)
     let _ended = serve_connections(
-        rt,
-        log,
-        alloc,
-        &listener,
-        timeout,
-        ledger,
-        &mut NoChore,
-        &mut left,
+        rt, log, alloc, &listener, times, permits, ledger, chore, &mut left,
     )?;
     info!(log; "ending after {crowd}");
     Ok(0)

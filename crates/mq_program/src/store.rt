@@ -36,7 +36,7 @@ use std::rt::Files;
 use std::{fs, io};
 
 /// Who may read and write a file that is made: its owner alone.
-const MODE: u32 = 0o600;
+pub const MODE: u32 = 0o600;
 
 /// A new ledger in the memory of the server. `default` is 0 to 1,000,000.
 pub fn memory_ledger(
@@ -79,7 +79,7 @@ fn make_empty<R: Files<File = File> + AllocGlobal>(rt: &R, path: &str) -> io::Re
 
 /// Gives a file to the owner and the group of its folder, where this process may: what root makes
 /// is then the server's.
-fn give_to_owner<R: Files + AllocGlobal>(rt: &R, file: &File, path: &str) -> io::Result<()> {
+pub fn give_to_owner<R: Files + AllocGlobal>(rt: &R, file: &File, path: &str) -> io::Result<()> {
     let folder = fs::metadata(rt, folder_of(rt.alloc(), path)?.as_str())?;
     match fchown(file, Some(folder.uid()), Some(folder.gid())) {
         Err(cause) if cause.kind() == ErrorKind::PermissionDenied => Ok(()),

@@ -3,7 +3,7 @@
 //! A renewal fills `LEDGER.part`, and then that file takes the place of `LEDGER`:
 //!
 //! 1. `LEDGER` gets the name `LEDGER.old`, while it is open still, and is closed then. A
-//!    `LEDGER.old-wal` is removed before.
+//!    `LEDGER.old-wal` is removed before. Where that name can't be had, all stays as it was.
 //! 2. `LEDGER.part` gets the name `LEDGER.next`: from then on the new ledger is whole by its name.
 //! 3. `LEDGER.part-wal` becomes `LEDGER-wal`.
 //! 4. `LEDGER.next` becomes `LEDGER`.
@@ -12,7 +12,7 @@
 //! and there is no file `LEDGER` that could be opened beside the log of another one. Whoever opens
 //! the ledger next undoes the first step, or does the rest. The process that renews has locked the
 //! new file all the time, so nobody else does either before it has ended.
-ghost use Rattle.std.specs.Prelude.{IfOk};
+ghost use Rattle.std.specs.Prelude.{◌≡◌, ◌⊎◌, IfErr, IfOk};
 ghost use Rattle.sqlite.specs.Files.{file_state};
 ghost use Rattle.sqlite.specs.State.{HasCleanDisk};
 ghost use Rattle.mq_store.specs.Forgetting.{IsFree};
@@ -26,6 +26,7 @@ use mq_tables::laws::empty_databases_have_no_table;
 use os::RangeLock;
 use sqlite::{Connection, FileFrom, FileStore, Start, Unknown};
 use std::alloc::{AllocError, Global};
+use std::fmt::Display;
 use std::fs::{File, OpenFile, OpenOptions};
 use std::io::ErrorKind;
 use std::os::fd::AsRawFd;
@@ -40,7 +41,7 @@ const LOCK_LENGTH: u64 = 512;
 /// The store of a ledger that a renewal makes: its file is empty before.
 pub type PartStore = FileStore<FileFrom<Unknown>>;
 
-/// The path of a ledger, and the names that a switch gives to files beside it.
+/// The path of a ledger, the names that a switch gives to files beside it, and the reserve.
 #[derive(Drop)]
 pub struct Names {
     pub ledger: String,
@@ -55,6 +56,8 @@ pub struct Names {
     pub part_wal: String,
     /// The new ledger, which is whole.
     pub next: String,
+    /// The reserve of the server.
+    pub reserve: String,
 }
 
 impl Names {
@@ -68,17 +71,18 @@ impl Names {
             part: format!(in alloc; "{ledger}.part")?,
             part_wal: format!(in alloc; "{ledger}.part-wal")?,
             next: format!(in alloc; "{ledger}.next")?,
+            reserve: format!(in alloc; "{ledger}.ballast")?,
         })
     }
 }
 
 /// Whether there is something of this name, as far as this process may see.
-fn is_there(rt: &impl Files, path: &str) -> bool {
+pub fn is_there(rt: &impl Files, path: &str) -> bool {
     fs::symlink_metadata(rt, path).is_ok()
 }
 
 /// Whether there is nothing of this name.
-fn is_missing(rt: &impl Files, path: &str) -> bool {
+pub fn is_missing(rt: &impl Files, path: &str) -> bool {
     match fs::symlink_metadata(rt, path) {
         Ok(_) => false,
         Err(cause) => cause.kind() == ErrorKind::NotFound,
@@ -104,7 +108,9 @@ fn move_file<R: Files + AllocGlobal, G: Log>(
     log: &G,
     from: &str,
     to: &str,
-) -> Result<(), ProgramFault> {
+) -> Result<(), ProgramFault>
+    ensures { IfErr result (λ fault. fault ≡ ProgramFault.Store) }
+{
     match rename(rt, from, to) {
         Ok(()) => Ok(()),
         Err(cause) => Err(unopened(log, from, cause)),
@@ -122,7 +128,7 @@ fn remove<R: Files + AllocGlobal>(rt: &R, path: &str) -> io::Result<()> {
 
 /// Takes the lock that a process has of a database file that it has open, for as long as the file
 /// is held. There is none where another process has it.
-fn hold<R: Files<File = File>>(rt: &R, path: &str) -> io::Result<Option<File>> {
+pub fn hold<R: Files<File = File>>(rt: &R, path: &str) -> io::Result<Option<File>> {
     let file = OpenOptions::new().read(true).write(true).open(rt, path)?;
     let lock = os::try_lock_range(
         file.as_raw_fd(),
@@ -170,7 +176,9 @@ fn finish<R: Files + AllocGlobal, G: Log>(
     rt: &R,
     log: &G,
     names: &Names,
-) -> Result<(), ProgramFault> {
+) -> Result<(), ProgramFault>
+    ensures { IfErr result (λ fault. fault ≡ ProgramFault.Store) }
+{
     // (a log that can't be looked at is never left behind: its answers would be lost)
     if !is_missing(rt, names.part_wal.as_str()) {
         move_file(rt, log, names.part_wal.as_str(), names.wal.as_str())?;
@@ -179,21 +187,17 @@ fn finish<R: Files + AllocGlobal, G: Log>(
 }
 
 /// Gives the former ledger its name back. Its log is where it was.
-fn undo<R: Files + AllocGlobal, G: Log>(
-    rt: &R,
-    log: &G,
-    names: &Names,
-) -> Result<(), ProgramFault> {
+fn undo<R: Files + AllocGlobal, G: Log>(rt: &R, log: &G, names: &Names) -> Result<(), ProgramFault>
+    ensures { IfErr result (λ fault. fault ≡ ProgramFault.Store) }
+{
     move_file(rt, log, names.old.as_str(), names.ledger.as_str())
 }
 
 /// Holds the new file of a switch that was interrupted, which is refused while the process lives
 /// that switches. The cause of `ProgramFault::Store` is logged.
-fn hold_new<R: Files<File = File>, G: Log>(
-    rt: &R,
-    log: &G,
-    new: &str,
-) -> Result<File, ProgramFault> {
+fn hold_new<R: Files<File = File>, G: Log>(rt: &R, log: &G, new: &str) -> Result<File, ProgramFault>
+    ensures { IfErr result (λ fault. fault ≡ ProgramFault.Store) }
+{
     match hold(rt, new) {
         Ok(Some(file)) => Ok(file),
         Ok(None) => Err(unopened(log, new, "database is locked")),
@@ -207,7 +211,9 @@ fn repair<R: Files<File = File> + AllocGlobal, G: Log>(
     rt: &R,
     log: &G,
     names: &Names,
-) -> Result<(), ProgramFault> {
+) -> Result<(), ProgramFault>
+    ensures { IfErr result (λ fault. fault ≡ ProgramFault.Store) }
+{
     let ledger = names.ledger.as_str();
     match find_left(rt, names) {
         SwitchRemains::Nothing => {}
@@ -236,7 +242,9 @@ pub fn repair_switch<R: Files<File = File> + AllocGlobal, G: Log>(
     rt: &R,
     log: &G,
     ledger: &str,
-) -> Result<(), ProgramFault> {
+) -> Result<(), ProgramFault>
+    ensures { IfErr result (λ fault. (fault ≡ ProgramFault.Memory) ⊎ (fault ≡ ProgramFault.Store)) }
+{
     if !is_missing(rt, ledger) {
         return Ok(());
     }
@@ -332,30 +340,58 @@ fn remove_old_wal<R: Files + AllocGlobal, G: Log>(rt: &R, log: &G, names: &Names
     }
 }
 
+/// No switch was begun: the former ledger has its name.
+#[derive(Clone, Copy, Debug, PartialEq, Eq)]
+pub struct NoSwitch;
+
+/// Logs why no switch is begun.
+fn stays<G: Log, C: Display + Drop>(log: &G, path: &str, cause: C) -> NoSwitch {
+    warn!(log; "{path}: {cause}; the former ledger stays until the next night");
+    NoSwitch
+}
+
 /// Looks whether the new ledger and its log still have their names, before the former one loses its
 /// own.
-fn check_part<R: Files, G: Log>(rt: &R, log: &G, names: &Names) -> Result<(), ProgramFault> {
+fn check_part<R: Files, G: Log>(rt: &R, log: &G, names: &Names) -> Result<(), NoSwitch> {
     for name in [names.part.as_str(), names.part_wal.as_str()] {
         if !is_there(rt, name) {
-            return Err(unopened(log, name, "it was removed"));
+            return Err(stays(log, name, "it was removed"));
         }
     }
     Ok(())
 }
 
+/// Begins a switch: the former ledger gets its other name. Why it can't be begun is logged.
+pub fn begin_switch<R: Files + AllocGlobal, G: Log>(
+    rt: &R,
+    log: &G,
+    names: &Names,
+) -> Result<(), NoSwitch> {
+    check_part(rt, log, names)?;
+    remove_old_wal(rt, log, names);
+    let ledger = names.ledger.as_str();
+    match fs::rename(rt, ledger, names.old.as_str()) {
+        Ok(()) => Ok(()),
+        Err(cause) => Err(stays(log, ledger, cause)),
+    }
+}
+
 /// Lets the new ledger, which this process has open, take the place of the one that this connection
-/// is to. The cause of `ProgramFault::Store` is logged; what was begun by then, the next start
-/// undoes or finishes.
+/// is to, once the switch was begun. The cause of `ProgramFault::Store` is logged; what was done by
+/// then, the next start undoes or finishes.
 pub fn switch<R: Files + AllocGlobal, G: Log, S: Start>(
     rt: &R,
     log: &G,
     names: &Names,
     old: Connection<FileStore<FileFrom<S>>>,
 ) -> Result<(), ProgramFault> {
-    check_part(rt, log, names)?;
-    remove_old_wal(rt, log, names);
-    move_file(rt, log, names.ledger.as_str(), names.old.as_str())?;
-    close_file(log, names.old.as_str(), old)?;
+    let former = names.old.as_str();
+    let synced = sync_folder(rt, former);
+    // (closed in any case: the proof of a way out that lets a file's connection go takes long)
+    close_file(log, former, old)?;
+    if let Err(cause) = synced {
+        return Err(unopened(log, former, cause));
+    }
     move_file(rt, log, names.part.as_str(), names.next.as_str())?;
     finish(rt, log, names)
 }

@@ -3,6 +3,7 @@ import os
 import pty
 import subprocess
 
+from cases.permits import not_taken
 from ends import DRIP, RESET, SILENCE, Script, Server, fault, nobody_there, soon, unavailable
 from wire import (
     BAD,
@@ -254,6 +255,8 @@ def limit_by_script(world, checks):
         with Script(script) as server:
             came = set_limit(world, server.address, cap=5)
         wanted = unavailable(server.address, cause) if cause else other
+        if script == [RETRY] * 3:
+            wanted = not_taken(server.address)
         checks.equal(f"limit, {what}: what it says", (came, server.heard), (wanted, [asked] * 3))
     (came, server), took = soon(
         lambda: asked_of([SILENCE] * 3, lambda address: set_limit(world, address, cap=5)), 8
@@ -453,11 +456,9 @@ def those_that_used_most(world, checks):
             )
     with Server(world, default=1_000) as server:
         many = [b"%04d" % n for n in range(2_150)]
-        server.ask(
-            b"".join(
-                reserve(n, txn=n, count=1 + n % 900, login=login)
-                for n, login in enumerate(many, start=1)
-            )
+        server.ask_many(
+            reserve(n, txn=n, count=1 + n % 900, login=login)
+            for n, login in enumerate(many, start=1)
         )
         wanted = sorted((-(1 + n % 900), login) for n, login in enumerate(many, start=1))[:2_120]
         came = top(world, server.address, 2_120)

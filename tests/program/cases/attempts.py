@@ -4,6 +4,7 @@ recipients are at two servers as the address moves there and back.
 
 Each has its lines at the first fault, at the second, and once it works again.
 """
+import copy
 import os
 import re
 import time
@@ -44,7 +45,7 @@ from ends import (
     fault,
     ledger_settings,
     of_store,
-    read_all,
+    read_request,
     refusal,
     unavailable,
     wait_past_a_night,
@@ -157,9 +158,9 @@ def nights_until_the_next(world, checks):
 # rename(2), and how the system says that a call fails
 RENAME, ERROR, OF_SYSTEM = 82, 5, "Input/output error (os error 5)"
 # of each step of a switch: the file that gets another name, what is left where that fails, and how
-# the next start tells of it
+# the next start tells of it. Where the first fails no switch has begun
 STEPS = [
-    ("", ["", "-wal", ".part", ".part-wal"], None),
+    ("", ["", "-wal"], None),
     (".part", ["-wal", ".old", ".part", ".part-wal"], "undone"),
     (".part-wal", ["-wal", ".next", ".old", ".part-wal"], "finished"),
     (".next", ["-wal", ".next", ".old"], "finished"),
@@ -172,18 +173,40 @@ def renames_fail(before):
 
 
 def a_switch_and_its_repair(world, checks):
-    """A step of a switch fails: the server ends. A repair of it that fails, too, says at which file
-    and changes nothing, at each attempt. The next start does it, and forgets what is due still."""
+    """The first step of a switch fails: the server says so, and serves the former ledger on. A
+    later one fails: the server ends. A repair of it that fails, too, says at which file and changes
+    nothing, at each attempt. The next start does it, and forgets what is due still."""
     source, day = f"{world.folder}/to-be-switched", first_day()
     books = filled(world, source, FEW)
     for place, (of, left, told) in enumerate(STEPS):
         what, path = f"step {place + 1} of a switch fails", f"{world.folder}/switched{place}"
         with nightly(world, copied(source, path), limit=renames_fail(place)) as server:
-            ended, lines = server.status(), warned_of(server)
+            if told:
+                ended, lines = server.status(), warned_of(server)
+                logged = of_store(path + of, OF_SYSTEM).rstrip()
+            else:
+                wait_until(lambda: warned_of(server) or server.process.poll() is not None)
+                # (a server that answers then has removed the new file)
+                frames = [request(10 * FEW, today()), wire.usage(b"u1", today() - 5)]
+                served = copy.deepcopy(books)
+                checks.equal(
+                    f"{what}: the former ledger is served on",
+                    asked(server, frames),
+                    [served.serve(it) for it in frames],
+                )
+                ended, lines = server.process.poll(), warned_of(server)
+                logged = (
+                    f"[WARN  mq_program::switching] {path}: {OF_SYSTEM}; the former ledger stays"
+                    " until the next night"
+                )
+            files = names(path)
+            if not told:
+                server.process.kill()
+                server.status()
         checks.equal(
             f"{what}: the end, what is logged, and files",
-            (ended, lines, names(path)),
-            (1, [of_store(path + of, OF_SYSTEM).rstrip()], left),
+            (ended, lines, files),
+            (1 if told else None, [logged], left),
         )
         line = f"[INFO  mq_program::switching] {path}: an interrupted switch to a new file is"
         # (as a switch is undone, the former ledger gets its name back)
@@ -228,7 +251,7 @@ def a_switch_and_its_repair(world, checks):
             (good, [it for it in lines if it in wanted or it.startswith("[WARN")], names(path)),
             (True, wanted, NOTED if is_due else SWITCHED),
         )
-        same_rows(checks, what, path, books.remembered(day))
+        same_rows(checks, what, path, (books if told else served).remembered(day))
 
 
 # ---- commands
@@ -272,7 +295,7 @@ def a_backup_again(world, checks):
     slow, settings = world.new_file(""), {"default": 3, "offset": 0}
     with Server(world, words=["--create"], store=path, **settings) as server:
         server.ask(wire.reserve(1) + wire.settle(2))
-        copies = 'cp -p "$1" "$2/ledger"'
+        copies = 'cp -p "$1" "$3/ledger"'
         changes = [(copies, f"if [ -e {slow} ]; then sleep 60; fi; {copies}"), LATE]
         its = {"listen": server.address, "store": path, **settings}
         backup = Backup(world, server, path, its, changes)
@@ -336,7 +359,7 @@ class Moving(Listening):
     def serve(self):
         while peer := self.next_peer():
             with peer:
-                heard = read_all(peer)
+                heard = read_request(peer)
                 if not self.server:
                     continue
                 reply = self.server.ask(heard)

@@ -5,6 +5,7 @@ import stat
 import subprocess
 import time
 
+from cases.permits import not_taken, untaken
 from ends import (
     DRIP,
     IS_THERE,
@@ -96,12 +97,12 @@ def refuses(run, before=b""):
 
 
 # a host is asked about by the last number and transaction of a run, that of the next full ten
-# minutes
+# minutes, and at its moment
 LAST, STEP = 2**32 - 1, 600_000
 
 
 def asked_of_host(run, host=b"mx1"):
-    return release(LAST, txn=LAST, login=b"-", host=host, run=run)
+    return release(LAST, txn=LAST, login=b"-", at=max(run // 1_000, 86_400), host=host, run=run)
 
 
 def run_of(heard):
@@ -389,7 +390,7 @@ def statuses_by_script(world, checks):
         (
             "no memory for it",
             RETRY,
-            lambda address: unavailable(address, "it can't take the request now"),
+            not_taken,
         ),
         (
             "a request that is taken for none",
@@ -652,20 +653,22 @@ def hosts(world, checks):
         [(b"b", step, LAST), (b"mx1", step, LAST)],
     )
     nothing = [row for row in rows["trans"] if row[2] == LAST]
-    wanted = [(host, step, LAST, b"-", 86_400, 1, 0, 0, 1) for host in (b"b", b"mx1")]
+    moment = step // 1_000
+    day = moment // 86_400
+    wanted = [(host, step, LAST, b"-", moment, day, 0, 0, 1) for host in (b"b", b"mx1")]
     checks.equal("a transaction for each, which holds nothing", nothing, wanted)
     checks.equal(
         "no use of a login, and no limit",
         (rows["usage"], rows["ceiling"]),
         ([(b"u", 1, 0, 2)], [(b"u", 1, 9)]),
     )
-    today = int(time.time()) // 86_400
-    config = ledger_settings(world, path)
-    came = world.run("forget", "--config", config, "--before", str(today), "--into", f"{path}.new")
+    words = ["--before", str(int(time.time()) // 86_400), "--into", f"{path}.new"]
+    came = world.run("forget", "--config", ledger_settings(world, path), *words)
+    kept = [row[1:4] for row in rows_in(f"{path}.new")["answer"] if row[3] == LAST]
     checks.equal(
-        "forget leaves none of them",
-        (came, [row for row in rows_in(f"{path}.new")["answer"] if row[3] == LAST]),
-        ((0, b"kept answers=3 of 7, limits=1\n", ""), []),
+        "forget leaves those, which are of today",
+        (came, sorted(kept)),
+        ((0, b"kept answers=5 of 7, limits=1\n", ""), sorted(asked)),
     )
 
 
@@ -693,7 +696,7 @@ def hosts_by_script(world, checks):
         ("settled", by(b"\x83", number(1)), None),
         ("retired", by(b"\x8f"), None),
         ("what is used", ANSWER, None),
-        ("no memory for it", RETRY, "it can't take the request now"),
+        ("no memory for it", RETRY, untaken),
         ("a request that is taken for none", BAD, "it takes the request for none"),
         ("closed at once", b"", "closed before its reply was whole"),
         ("a reset", RESET, "Connection reset by peer (os error 104)"),
@@ -712,6 +715,7 @@ def hosts_by_script(world, checks):
             told = {
                 takes: takes(address, before),
                 refuses: refuses(run, before),
+                untaken: untaken(address, before),
                 None: fault("quota service unavailable", before),
             }.get(wanted) or unavailable(address, wanted, before)
             checks.equal(
@@ -879,84 +883,30 @@ def devices_that_are_full(world, checks):
 
 
 def monitoring(world, checks):
-    """The line that OPERATING has for Nagios and the script for Prometheus, as they stand there but
-    for the paths and the address."""
+    """The line that OPERATING has for a server and Nagios, as it stands there but for the path and
+    the address."""
     section = section_of("OPERATING.md", "Monitoring")
-    [nagios] = re.findall(r"^    command\[mailquota\]=(.*)$", section, re.MULTILINE)
-    script = section.partition("#!/bin/sh\n")[2].partition("\n\n")[0]
+    [line] = re.findall(r"^    command\[mailquota-server\]=(.*)$", section, re.MULTILINE)
 
-    def of(line, address):
-        for old, new in (
-            ("/usr/sbin/mailquota", world.program),
-            ("192.0.2.7:7025", address),
-            ("/var/lib/prometheus/node-exporter", world.folder),
-        ):
-            line = line.replace(old, new)
-        return subprocess.run(
-            ["sh", "-c", line], stdin=subprocess.DEVNULL, capture_output=True, text=True
+    def nagios(address):
+        words = line.replace("/usr/sbin/mailquota", world.program)
+        came = subprocess.run(
+            ["sh", "-c", words.replace("192.0.2.7:7025", address)],
+            stdin=subprocess.DEVNULL,
+            capture_output=True,
+            text=True,
         )
-
-    def counted(address):
-        came = of(script, address)
-        try:
-            with open(f"{world.folder}/mailquota.prom", encoding="ascii") as file:
-                written = file.read()
-        except FileNotFoundError:
-            written = None
-        return came.returncode, came.stdout, came.stderr, written
+        return came.returncode, came.stdout
 
     with Server(world) as server:
-        came = of(nagios, server.address)
         checks.equal(
             "the page's line for Nagios",
-            (came.returncode, came.stdout),
-            (0, takes(server.address, host="mx1.example.org")[1].decode()),
+            nagios(server.address),
+            (0, answers(server.address)[1].decode()),
         )
-        checks.equal(
-            "the page's line for Prometheus",
-            counted(server.address),
-            (0, "", "", "mailquota_up 1\n"),
-        )
-        ahead = clock() + 50 * 60_000
-        server.ask(retire(1, host=b"mx1.example.org", run=ahead))
-        came = of(nagios, server.address)
-        checks.holds(
-            "the page's line for Nagios, a host that is retired",
-            came.returncode == 2 and "is retired: correct its clock" in came.stdout,
-            2,
-            came,
-        )
-        checks.equal(
-            "the page's line for Prometheus, a host that is retired",
-            counted(server.address),
-            (0, "", "", "mailquota_up 0\n"),
-        )
-    here = f"{world.folder}/here"
-    os.mkdir(here)
-    run = subprocess.run(
-        [
-            "sh",
-            "-c",
-            script.replace("/var/lib/prometheus/node-exporter", f"{world.folder}/nowhere"),
-        ],
-        cwd=here,
-        stdin=subprocess.DEVNULL,
-        capture_output=True,
-    )
-    checks.equal(
-        "the page's line for Prometheus, without its folder: whether it fails, and what it writes",
-        (run.returncode != 0, os.listdir(here)),
-        (True, []),
-    )
     with nobody_there() as address:
-        came = of(nagios, address)
         checks.equal(
             "the page's line for Nagios, nobody there",
-            (came.returncode, came.stdout),
+            nagios(address),
             (2, unavailable(address)[2]),
-        )
-        checks.equal(
-            "the page's line for Prometheus, nobody there",
-            counted(address),
-            (0, "", "", "mailquota_up 0\n"),
         )

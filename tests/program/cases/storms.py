@@ -8,6 +8,7 @@ import time
 import clocks
 import wire
 from cases.watching import ERROR, WARN, Watched
+from cases.permits import not_taken
 from ends import but_of_requests, read_all, send_no_more, unavailable, wait_past_midnight
 
 DAY = 86_400
@@ -125,14 +126,14 @@ def retires_ahead(world, checks):
 
 
 def retires_by_command(world, checks):
-    """The command is told that there was no answer; a clock that is right has it done."""
+    """The command is told that the server didn't take it; a clock that is right has it done."""
     with Storm(world) as it:
         words = ["retire", "--server", it.server.address, "--host", "mx2"]
         came = world.run(*words, "--run", str(clock() + 2 * DAY * 1_000))
         checks.equal(
             "retire, two days ahead",
             came,
-            unavailable(it.server.address, "it can't take the request now"),
+            not_taken(it.server.address),
         )
         lines = it.new_lines()
         checks.holds(

@@ -21,9 +21,9 @@ loop-night-preserved g c =
     let s = c.loop-night.serving in
     let old = state g.N.Store s.connection in
     let e = c.in-Ok.ensures in (
-      λ kept _. c.loop-night.invariant.0 (e.closed kept) (e.kept kept tt),
+      λ kept k. c.loop-night.invariant.0 (e.closed kept) (e.kept kept k),
       λ kept fresh sound k.
-          let (zone_is, default_is, (is, nights)) = c.loop-night.invariant.1 (e.closed kept) fresh sound (e.kept kept tt) in
+          let (zone_is, default_is, (is, nights)) = c.loop-night.invariant.1 (e.closed kept) fresh sound (e.kept kept k) in
           let (z, d, has) = e.dawn kept fresh (subst₂ (λ z d. IsSound z d old) (sym zone_is) (sym default_is) is) k in (
             z ∙ zone_is,
             d ∙ default_is,

@@ -1,16 +1,16 @@
-use Rattle.std.proofs.Common.{sym, subst}
+use Rattle.std.proofs.Common.{◌≡◌, sym, subst}
 use Rattle.sqlite.specs.Held.{state}
 use Rattle.mq_store.specs.Soundness.{book_in, HasKept}
-use Rattle.mq_program.specs.Nights.{HasPassed}
-use Rattle.mq_program.proofs.NightSteps.{dawn_of, kept_before, one_night, passed_at_once, passed_still}
+use Rattle.mq_program.specs.Nights.{AreKept, HasDawned, HasPassed}
+use Rattle.mq_program.proofs.NightSteps.{dawn_of, kept_before, one_night, passed_at_once, passed_still, stayed}
 use Rattle.mq_program.proofs.nights.serve_to_dawn.Goals as goal
 
 -- the former ledger was closed last
 pub returns-in-Ok-clause-closed : goal.returns-in-Ok-clause-closed
-returns-in-Ok-clause-closed g c = λ kept. (kept_before _ _ _ _ c.take_place.ensures kept).0
+returns-in-Ok-clause-closed g c = λ kept. subst (AreKept (λ x. HasKept (state g.N.Store x))) c.begin.ensures (kept_before _ _ _ _ c.take_place.ensures kept).0
 
 pub returns-in-Err-take_place-clause-closed : goal.returns-in-Err-take_place-clause-closed
-returns-in-Err-take_place-clause-closed g c = λ kept. (kept_before _ _ _ _ c.take_place.ensures kept).0
+returns-in-Err-take_place-clause-closed g c = λ kept. subst (AreKept (λ x. HasKept (state g.N.Store x))) c.begin.ensures (kept_before _ _ _ _ c.take_place.ensures kept).0
 
 -- it had kept its premise to the end, and so at first
 pub returns-in-Ok-clause-kept : goal.returns-in-Ok-clause-kept
@@ -38,6 +38,21 @@ returns-in-Ok-clause-dawn g c = λ kept fresh sound k.
         one_night old.zone former.zone old.default former.default e.lent.0 e.lent.1 (book_in old.zone old.default (state g.N.Store old.connection).now) dawn.day
             (state g.N.Store former.connection).now (state g.N.Store dawn.serving.connection) (e.serves served sound) has,
       ),
+    )
+
+-- the switch wasn't begun, and the former ledger is served on
+pub returns-then-is_err-clause-dawn : goal.returns-then-is_err-clause-dawn
+returns-then-is_err-clause-dawn g c = λ _ _ sound k.
+    let old = c.args.serving in
+    let former = c.pass-ledger.result.ledger in
+    let e = c.pass-ledger.ensures in
+    let same = c.stay_with-dawn.ensures in
+    let start = book_in old.zone old.default (state g.N.Store old.connection).now in
+    let served = subst (λ x. HasKept (state g.N.Store x.connection)) same k in
+    subst (λ x. (x.zone ≡ old.zone) × (x.default ≡ old.default) × HasDawned old.zone old.default start (state g.N.Store x.connection)) (sym same) (
+      e.lent.0,
+      e.lent.1,
+      stayed old.zone former.zone old.default former.default e.lent.0 e.lent.1 start (state g.N.Store former.connection) (e.sound served sound) (e.serves served sound),
     )
 
 -- the switch failed, and nothing was served since
