@@ -95,7 +95,7 @@ install:
 	@test -x $(PROGRAM) || { echo "run 'make build' first" >&2; exit 1; }
 	install -d $(DESTDIR)$(SBINDIR) $(DESTDIR)$(DOCDIR) $(DESTDIR)$(CONFDIR)
 	install -m 755 $(PROGRAM) $(DESTDIR)$(SBINDIR)/mailquota
-	$(call texts,contrib/mailquota-backup,755,$(SBINDIR))
+	$(call texts,contrib/mailquota-backup contrib/mailquota-limits contrib/mailquota-recipients,755,$(SBINDIR))
 	$(call texts,contrib/await-server contrib/keepalived-check contrib/mail-host-check,755,$(LIBEXECDIR)/mailquota)
 	$(call texts,contrib/filter-mailquota contrib/filter-one-spelling,755,$(LIBEXECDIR)/opensmtpd)
 	$(call texts,$(wildcard contrib/*.service),644,$(UNITDIR))
