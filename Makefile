@@ -11,6 +11,9 @@ LIBEXECDIR = $(PREFIX)/libexec
 UNITDIR = $(PREFIX)/lib/systemd/system
 MANDIR = $(PREFIX)/share/man
 DOCDIR = $(PREFIX)/share/doc/mailquota
+BASHDIR = $(PREFIX)/share/bash-completion/completions
+# where zsh looks: a package of Debian's has a place of its own
+ZSHDIR = $(PREFIX)/share/zsh/$(if $(filter /usr,$(PREFIX)),vendor-completions,site-functions)
 CONFDIR = /etc/mailquota
 
 .PHONY: all build demo check everything commands edits bodies test refusals smtpd takeover deb dist package-tests install clean
@@ -102,6 +105,9 @@ install:
 	$(call texts,$(wildcard contrib/*.toml contrib/*.conf),644,$(DOCDIR)/examples)
 	$(call texts,$(wildcard man/*.5),644,$(MANDIR)/man5)
 	$(call texts,$(wildcard man/*.8),644,$(MANDIR)/man8)
+	install -d $(DESTDIR)$(BASHDIR) $(DESTDIR)$(ZSHDIR)
+	install -m 644 contrib/mailquota.bash $(DESTDIR)$(BASHDIR)/mailquota
+	install -m 644 contrib/_mailquota $(DESTDIR)$(ZSHDIR)
 	install -m 644 LICENSE NOTICE CHANGELOG SECURITY.md docs/INSTALL.md docs/OPERATING.md $(DESTDIR)$(DOCDIR)
 
 clean:

@@ -10,18 +10,24 @@
 - What docs/PROOFS.md names under a crate stands in that crate, and the clauses in brackets after a
   function stand in a contract of such a function.
 - Each crate that has a contract with clauses is one of docs/PROOFS.md's.
+- Each command of CONTRIBUTING.md and docs/GATE.md is one that commands.py, beside this, runs, or
+  leaves out with a reason.
 - The lines of prose of the pages below have at most 100 columns.
 - Each command of the program stands in the synopsis of one manual page, with its options and no
   others, and that page says what each of them does. man/mailquota.8 lists the commands, and the
-  pages have at most 7,000 words. Each diagnostic of the commands stands in one page, once.
+  pages have at most 7,200 words. Each diagnostic of the commands stands in one page, once.
 - Names of code that were given up stand in no source, definition or proof.
 - No lemma or definition of two lines or more stands twice.
 - The program's version is that of CHANGELOG's first release, and of the package.
+- The completion of shells is what scripts/completion.py makes of the program's commands.
 - NOTICE lists the kit's libraries in the program.
 - The figures of the pages are those of the program, as tests/prose/figures.txt lists both.
 - Each line of the log that the manual shows, and each that it says is printed, is one that the
   program has a text for, and so is each that docs/OPERATING.md tells an administrator to look for,
   at that level where its text has one.
+- README.md has about as many wrong bodies as the gate has the prover refuse.
+- Each wrong body can be tried: the text that it changes stands once in its file, in a function.
+- tests/last_runs.txt has a line for each command that is in it, as scripts/last_runs.py writes it.
 
 A test of these checks comes first: over small trees with one thing wrong, each has to find it. The
 last line is 'N passed, M failed', and the status 1 where anything failed.
@@ -29,6 +35,7 @@ last line is 'N passed, M failed', and the status 1 where anything failed.
 import argparse
 import collections
 import glob
+import itertools
 import os
 import re
 import sys
@@ -36,10 +43,16 @@ import tempfile
 
 sys.dont_write_bytecode = True
 
-import drawing
-import lemmas
-
 TOP = os.path.dirname(os.path.dirname(os.path.dirname(os.path.realpath(__file__))))
+sys.path += [f"{TOP}/scripts", f"{TOP}/gate"]
+
+import commands
+import completion
+import drawing
+import edit
+import last_runs
+import lemmas
+from results import status_of
 
 SOURCES = ["crates/*/src/**/*.rt"]
 DEFINITIONS = ["crates/*/specs/**/*.antt", "crates/*/proofs/**/*.antt"]
@@ -89,22 +102,24 @@ COLUMNS = 100
 SUBCOMMANDS = "crates/mq_words/src/subcommands.rt"
 OF_CLAP = {"help", "version"}
 # The crates whose errors end a command, and those of their texts that stand behind another alone,
-# as why an address is bad.
+# as why an address is bad, or that are said with more.
 OF_COMMANDS = ["mq_settings", "mq_command", "mq_process", "mq_remote", "mq_program"]
 BEHIND = {
     "no port",
     "port above 65535",
     "no numeric address before the port; an IPv6 address stands in brackets",
+    "quota server didn't take this: its log says why",
 }
 VERSION = "crates/mailquota/src/version.rt"
-WORDS = 7_000
+WORDS = 7_200
 # The page that says for which lines of the log to look, and what the pages show for a value: of a
 # number, a name, an address, a path, a session, and what the system and the store say.
 WATCHED = "docs/OPERATING.md"
 VALUE = re.compile(
     r"""-?\d[\d,]* | alice | mx\d(?:\.example\.org)? | [0-9a-f]{16}
-    | (?:192\.0\.2\.\d|localhost|\[2001:db8::7\])(?::\d+)? | (?:/var/lib/mailquota/)?ledger
+    | (?:192\.0\.2\.\d|localhost|\[2001:db8::7\])(?::\d+)? | (?:/var/lib/mailquota/)?ledger(?:\.ballast)?
     | Connection\ refused\ \(os\ error\ 111\) | Too\ many\ open\ files\ \(os\ error\ 24\)
+    | No\ space\ left\ on\ device(?:\ \(os\ error\ 28\))?
     | No\ such\ file\ or\ directory | no\ such\ table | unable\ to\ open\ database\ file
     | database\ (?:or\ disk\ is\ full|disk\ image\ is\ malformed)
     | file\ is\ not\ a\ database\ that\ obeys\ its\ schema""",
@@ -414,6 +429,13 @@ def manual(tree):
     )
 
 
+def completed(tree):
+    """Yields of each shell's completion whether it is of the table of commands."""
+    for file, text in completion.made(read(tree, SUBCOMMANDS)).items():
+        is_right = read(tree, file) == text
+        yield file, [] if is_right else ["run scripts/completion.py"]
+
+
 def diagnostics_in(page):
     """The diagnostics that a manual page lists: a word in capitals stands for what differs, and
     '..' for how it goes on."""
@@ -423,7 +445,7 @@ def diagnostics_in(page):
 def items_of(section):
     """The literal items of a section of a page of the manual, of which a line may have several."""
     lines = re.findall(r"^\.It Li (.*)$", section, re.MULTILINE)
-    return [it for line in lines for it in line.split(" , ")]
+    return [it.replace("\\&", "") for line in lines for it in line.split(" , ")]
 
 
 def errors_of(tree):
@@ -507,7 +529,8 @@ def versions(tree):
     """Yields whether the program, CHANGELOG and the package have one version."""
     places = {
         VERSION: r'VERSION: &str = "(.*)"',
-        "CHANGELOG": r"\A([^,\n]*),",
+        # (above the first release may stand what comes with the next one)
+        "CHANGELOG": r"\A(?:Not released yet\n(?:\n|[^0-9\n].*\n)*)?([^,\n]*),",
         "debian/changelog": r"\Amailquota \((.*?)\)",
     }
     found = {
@@ -688,6 +711,53 @@ def logged(tree):
     yield f"the lines of the log in {WATCHED}", wrong
 
 
+def refused(tree):
+    """Yields whether README.md says how many wrong bodies the prover has to refuse, within a
+    tenth."""
+    count = len(files(tree, ["crates/*/must-fail/*.edit"]))
+    said = re.search(r"about\s+([\d,]+)\s+wrong\s+bodies", read(tree, "README.md"))
+    is_right = said and abs(int(said[1].replace(",", "")) - count) * 10 <= count
+    yield "the wrong bodies in README.md", [] if is_right else [f"the gate has {count}"]
+
+
+def applied(tree):
+    """Yields of each crate which of its wrong bodies can't be tried, and why."""
+    wrong = {it: [] for it in rows_of(tree)}
+    for file in files(
+        tree,
+        ["crates/*/must-fail/*.edit", "crates/*/further/*.edit", "tests/bodies/*/*.edit"],
+    ):
+        parts = file.split("/")
+        crate = parts[2] if parts[0] == "tests" else parts[1]
+        # (others are of scripts and pages)
+        if crate in wrong:
+            try:
+                edit.Edit(f"{tree}/{file}", f"{tree}/crates/{crate}")
+            except (edit.BadEdit, OSError, UnicodeDecodeError) as why:
+                wrong[crate].append(f"{file}: {why}")
+    for crate, its in wrong.items():
+        yield f"the wrong bodies of {crate}", its
+
+
+def noted(tree):
+    """Yields of each line of the last runs whether it is as it is written, with as many names as it
+    says, and whether its command is one of the Makefile."""
+    wrong, commands = [], []
+    for line in read(tree, last_runs.FILE).splitlines():
+        found = last_runs.LINE.fullmatch(line)
+        if found:
+            commands.append(found["command"])
+            names = found["names"].split(", ") if found["names"] else []
+            if len(names) != int(found["failed"] or 0) or len(names) > int(found["tried"]):
+                wrong.append(f"{line[:60]!r} counts {found['failed'] or 0} and names {len(names)}")
+        elif not line.startswith("# "):
+            wrong.append(f"{line[:60]!r} is no line of a run")
+    targets = re.findall(r"^([a-z-]+):", read(tree, "Makefile"), re.M)
+    wrong += [f"the Makefile has no {it}" for it in commands if it not in targets]
+    wrong += [f"{it} stands twice" for it in {*commands} if commands.count(it) > 1]
+    yield last_runs.FILE, wrong
+
+
 CHECKS = [
     pages,
     listed,
@@ -695,8 +765,10 @@ CHECKS = [
     drawn,
     sent_to,
     carriers,
+    commands.known,
     columns,
     manual,
+    completed,
     diagnostics,
     names,
     standing_twice,
@@ -704,17 +776,27 @@ CHECKS = [
     noticed,
     figures,
     logged,
+    refused,
+    applied,
+    noted,
 ]
 
 # A tree with nothing wrong, and what each of these changes makes of it: the file, the text there,
 # what takes its place, and the checks that find it.
 TREE = {
+    "README.md": "The prover refuses about\n1 wrong bodies.\n",
+    "Makefile": "all: build\nedits:\n\tfirst: one\n",
+    last_runs.FILE: (
+        "# When.\nmake edits: 2026-05-01, commit 0123456789ab: 3 tried, 2 failed: mq_low/a, b\n"
+    ),
+    "crates/mq_low/must-fail/low.edit": 'file: src/lib.rt\nold:     "after"\nnew: b\n',
+    "tests/bodies/mq_low/bar.edit": "file: src/lib.rt\nold: let bar\nnew: let foo\n",
     "crates.txt": "# crates\nmq_lemmas:\nmq_low: mq_lemmas thiserror\nmq_high: mq_low\n",
     "docs/GATE.md": (
-        f"A gate.\n\n    {'code ' * 30}\n\n```\n{'code ' * 30}\n```\n\n| {'row ' * 30}|\n"
+        f"A gate.\n\n    make check  # {'code ' * 30}\n\n```\n{'code ' * 30}\n```\n\n| {'row ' * 30}|\n"
     ),
     VERSION: '//! The version.\npub const VERSION: &str = "1.2.3";\n',
-    "CHANGELOG": "1.2.3, 1 May 2026\n",
+    "CHANGELOG": "Not released yet\n\n- More.\n\n1.2.3, 1 May 2026\n",
     "debian/changelog": "mailquota (1.2.3) trixie; urgency=medium\n",
     "NOTICE": "thiserror  MIT\n",
     "docs/crates.svg": drawing.drawn(
@@ -805,7 +887,19 @@ TREE = {
         "use Rattle.mq_low.proofs.low.Goals as goal\n\nreturns : goal.returns\nreturns c = refl\n"
     ),
 }
+TREE.update(completion.made(TREE[SUBCOMMANDS]))
 WRONG = [
+    ("docs/GATE.md", "make check", "make nothing", commands.known),
+    ("CONTRIBUTING.md", "| a call |", "| `make nothing` |", commands.known),
+    ("README.md", "1 wrong", "2 wrong", refused),
+    ("README.md", "about", "over", refused),
+    ("crates/mq_low/must-fail/low.edit", '"after"', '"before"', applied),
+    ("crates/mq_low/must-fail/low.edit", 'old:     "after"', "old: Low.", applied),
+    ("tests/bodies/mq_low/bar.edit", "lib.rt", "low.rt", applied),
+    (last_runs.FILE, ", b", "", noted),
+    (last_runs.FILE, ", 2 failed: mq_low/a, b", ", one failed", noted),
+    (last_runs.FILE, "make edits", "make wrong", noted),
+    (last_runs.FILE, "3 tried", "1 tried", noted),
     ("crates/mq_low/src/lib.rt", "//!     low(1)", "//!     low(2)", pages),
     ("crates/mq_low/src/lib.rt", "on no crate of ours", "on `mq_high`", pages),
     ("crates/mq_high/src/lib.rt", "on `mq_low`", "on no crate of ours", pages),
@@ -850,8 +944,10 @@ WRONG = [
         manual,
     ),
     ("man/mailquota.8", ".It Cm stay\n", "", manual),
-    ("man/mailquota.8", ".It Cm go", "word " * 7_000 + "\n.It Cm go", manual),
-    (SUBCOMMANDS, 'name: "far-off"', 'name: "farther"', manual),
+    ("man/mailquota.8", ".It Cm go", "word " * 7_200 + "\n.It Cm go", manual),
+    (SUBCOMMANDS, 'name: "far-off"', 'name: "farther"', manual, completed),
+    (completion.BASH, "--far-off", "--farther", completed),
+    (completion.ZSH, "go:", "gone:", completed),
     ("man/mailquota.8", "too far , ", "", diagnostics),
     ("man/mailquota.8", "used N", "is used", diagnostics),
     ("man/mailquota.8", "too far , ", "too far , too far , ", diagnostics),
@@ -859,6 +955,7 @@ WRONG = [
     ("crates/mq_command/src/fault.rt", "no day; copy", "no day; take", diagnostics),
     (VERSION, "1.2.3", "1.2.4", versions),
     ("CHANGELOG", "1.2.3", "1.2.4", versions),
+    ("CHANGELOG", "Not released yet\n", "1.2.4, 2 May 2026\n", versions),
     ("debian/changelog", "1.2.3", "1.2.4", versions),
     ("NOTICE", "thiserror", "another", noticed),
     ("man/mailquota-go.8", "1,000", "1,001", figures),
@@ -952,14 +1049,7 @@ def main():
         help="by default the one that this file is in",
     )
     tree = parser.parse_args().tree
-    passed = failed = 0
-    for results in [own_test(), *(it(tree) for it in CHECKS)]:
-        for name, wrong in results:
-            passed, failed = passed + (not wrong), failed + bool(wrong)
-            for it in wrong:
-                print(f"NOT {name}: {it}")
-    print(f"{passed} passed, {failed} failed")
-    return 1 if failed or not passed else 0
+    return status_of(itertools.chain(own_test(), *(it(tree) for it in CHECKS)))
 
 
 if __name__ == "__main__":
