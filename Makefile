@@ -99,7 +99,7 @@ install:
 	install -d $(DESTDIR)$(SBINDIR) $(DESTDIR)$(DOCDIR) $(DESTDIR)$(CONFDIR)
 	install -m 755 $(PROGRAM) $(DESTDIR)$(SBINDIR)/mailquota
 	$(call texts,contrib/mailquota-backup contrib/mailquota-limits contrib/mailquota-recipients,755,$(SBINDIR))
-	$(call texts,contrib/await-server contrib/keepalived-check contrib/mail-host-check,755,$(LIBEXECDIR)/mailquota)
+	$(call texts,contrib/await-server contrib/keepalived-check contrib/limit-mails contrib/mail-host-check,755,$(LIBEXECDIR)/mailquota)
 	$(call texts,contrib/filter-mailquota contrib/filter-one-spelling,755,$(LIBEXECDIR)/opensmtpd)
 	$(call texts,$(wildcard contrib/*.service),644,$(UNITDIR))
 	$(call texts,$(wildcard contrib/*.toml contrib/*.conf),644,$(DOCDIR)/examples)

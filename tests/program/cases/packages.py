@@ -3,11 +3,14 @@
 The scripts run in folders of their own, and what stands for systemd's programs notes how it is
 called. That the package can be installed at all only tests/package sees.
 """
+import glob
 import os
 import re
+import shutil
 import stat
 
 from cases.contrib import Machine, text_of
+from cases.examples import INSTALLED
 from ends import TOP, Server, toml, wait_past_midnight
 from pages import blocks_of
 from smtpd import Smtpd, clock
@@ -40,6 +43,8 @@ def run(world, checks):
     a_purge(world, checks)
     other_steps(world, checks)
     units_of_the_package(checks)
+    fields_of_the_package(checks)
+    what_is_packaged(world, checks)
     quick_start(world, checks)
     by_install(world, checks)
 
@@ -188,7 +193,7 @@ def a_removal(world, checks):
             if smtpd is not None:
                 machine.write("etc/smtpd.conf", smtpd)
             before = machine.left()
-            stops = ["deb-systemd-invoke stop mailquota.service"] * boots
+            stops = ["deb-systemd-invoke stop mailquota.service mailquota-mail.service"] * boots
             came = machine.script("prerm", "remove"), machine.script("postrm", "remove")
             checks.equal(
                 f"the package is removed, {name}{'' if boots else ', on one that has not booted'}",
@@ -211,8 +216,11 @@ def a_purge(world, checks):
         machine.write("etc/smtpd.conf", "kept")
         folder = f"lib/{'private/' * is_link}mailquota"
         os.makedirs(f"{machine.folder}/{folder}")
+        # (and what the unit of mails kept)
+        machine.write(f"{folder}-mail/hour", "1 1\n")
         if is_link:
-            os.symlink("private/mailquota", f"{machine.folder}/lib/mailquota")
+            for it in ("mailquota", "mailquota-mail"):
+                os.symlink(f"private/{it}", f"{machine.folder}/lib/{it}")
         if ledger:
             machine.write(f"{folder}/ledger", "kept")
         place = os.path.realpath(f"{machine.folder}/{folder}")
@@ -267,6 +275,163 @@ def units_of_the_package(checks):
     )
 
 
+FIELDS = [
+    {
+        "Source": "mailquota",
+        "Section": "mail",
+        "Priority": "optional",
+        "Build-Depends": "debhelper-compat (= 13), python3",
+        "Rules-Requires-Root": "no",
+        "Standards-Version": "4.7.2",
+    },
+    {
+        "Package": "mailquota",
+        "Architecture": "amd64",
+        "Depends": "${misc:Depends}, ${shlibs:Depends}",
+        "Suggests": "iproute2, keepalived, nftables, opensmtpd (>= 7), wireguard-tools",
+        "Enhances": "opensmtpd",
+    },
+]
+
+
+def fields_of_the_package(checks):
+    """Those of debian/control that a machine goes by. The program calls nothing but what each
+    Debian has; what the manual's commands and contrib want besides is suggested."""
+    with open(f"{TOP}/debian/control", encoding="utf-8") as file:
+        paragraphs = file.read().split("\n\n")
+    # (what follows a field in lines of its own is for people)
+    found = [dict(re.findall(r"^([\w-]+): (.*)$", it, re.MULTILINE)) for it in paragraphs]
+    for it in found:
+        for field in ("Maintainer", "Description"):
+            it.pop(field, None)
+    checks.equal("debian/control: its fields", found, FIELDS)
+
+
+# The steps of debhelper that debian/rules leaves out, for another program than the proved one, and
+# those that it has in its own way, in the order in which they come.
+LEFT_OUT = ["auto_clean", "auto_build", "auto_test"]
+STEPS = [
+    "auto_install",
+    "installdocs",
+    "installsystemd",
+    "compress",
+    "strip",
+    "gencontrol",
+    "builddeb",
+]
+# What debhelper's programs are called with, of a package with another program than the proved one.
+CALLS = [
+    "dh_installdocs ",
+    "dh_installsystemd --no-enable --no-start --restart-after-upgrade",
+    "dh_compress -X.md -X.svg -XNEWS",
+    "dh_strip --no-automatic-dbgsym",
+    "dh_gencontrol -- -v{version}~unproved",
+    "dh_builddeb --destdir={dist}",
+]
+# Where they find the units, as debhelper knew before.
+SEES = "find debian/mailquota/lib -type f | sort >>{folder}/units"
+OUR_UNITS = ["mailquota-mail.service", "mailquota.service"]
+DOCS = "mkdir -p debian/mailquota/{doc} && cp $(cat debian/mailquota.docs) debian/mailquota/{doc}/"
+
+
+# The scripts of which mailquota(8) tells.
+OF_THE_FIRST_PAGE = ["mailquota-backup", "mailquota-limits", "mailquota-recipients"]
+
+
+def what_is_packaged(world, checks):
+    """debian/rules, step by step, over a tree of its own, with what notes its calls in place of
+    debhelper's programs."""
+    doc = "usr/share/doc/mailquota"
+    does = dict.fromkeys(["dh_compress", "dh_strip", "dh_gencontrol", "dh_builddeb"], "")
+    folder = f"{world.folder}/packaged"
+    does["dh_installdocs"] = DOCS.format(doc=doc)
+    does["dh_installsystemd"] = SEES.format(folder=folder)
+    machine = Machine(world, "packaged", **does)
+    tree, dist = f"{folder}/tree", f"{folder}/dist"
+    os.mkdir(tree)
+    for it in PACKAGED:
+        copy = shutil.copytree if os.path.isdir(f"{TOP}/{it}") else shutil.copy
+        copy(f"{TOP}/{it}", f"{tree}/{it}")
+    program = world.new_file("#!/bin/sh\n")
+    os.chmod(program, 0o755)
+    with open(f"{TOP}/debian/changelog", encoding="utf-8") as file:
+        version = re.search(r"\((.*?)\)", file.readline())[1]
+    for step in STEPS:
+        words = ["make", "-C", tree, "-f", "debian/rules", f"override_dh_{step}"]
+        # (`make check` may run this)
+        came = machine.started(
+            ["env", "-u", "MAKEFLAGS", "-u", "MFLAGS", "-u", "MAKELEVEL", *words]
+            + [f"PROGRAM={program}", f"DIST={dist}"]
+        )
+        checks.equal(f"debian/rules, {step}: status, and what it says", (came[0], came[2]), (0, ""))
+    checks.equal(
+        "debian/rules: the steps that it has in its own way",
+        sorted(re.findall(r"^override_dh_(\w+):", read_at(f"{TOP}/debian/rules"), re.MULTILINE)),
+        sorted([*STEPS, *LEFT_OUT]),
+    )
+    checks.equal(
+        "debian/rules: what debhelper is called with",
+        machine.read("calls").splitlines(),
+        [it.format(version=version, dist=dist) for it in CALLS],
+    )
+    checks.equal(
+        "debian/rules: the units that debhelper finds",
+        machine.read("units").splitlines(),
+        [f"debian/mailquota/lib/systemd/system/{it}" for it in OUR_UNITS],
+    )
+    whole = f"{tree}/debian/mailquota"
+    found = sorted(
+        os.path.relpath(f"{at}/{it}", whole)
+        for at, folders, names in os.walk(whole)
+        for it in [*names, *(it for it in folders if not os.listdir(f"{at}/{it}"))]
+    )
+    pages = [
+        os.path.basename(it)
+        for it in glob.glob(f"{TOP}/docs/*.md") + glob.glob(f"{TOP}/docs/*.svg")
+    ]
+    wanted = [
+        "etc/mailquota",
+        *(f"usr/lib/systemd/system/{it}" for it in OUR_UNITS),
+        *(f"usr/share/man/man8/{it}.8" for it in OF_THE_FIRST_PAGE),
+        f"{doc}/NEWS",
+        *(f"{doc}/{it}" for it in [*pages, "README.md", "CONTRIBUTING.md"]),
+        # (what `make install` puts there, by the cases of examples)
+        *(
+            f"usr/{it.replace('site-functions', 'vendor-completions')}"
+            for it in INSTALLED
+            if not it.endswith(("LICENSE", "CHANGELOG"))
+        ),
+    ]
+    checks.equal("the package: what is in it", found, sorted(set(wanted)))
+    for it in OF_THE_FIRST_PAGE:
+        checks.equal(
+            f"the package: the page of {it}",
+            os.readlink(f"{whole}/usr/share/man/man8/{it}.8"),
+            "mailquota.8",
+        )
+    folder_of_pages = f"{whole}/{doc}"
+    leads_nowhere = [
+        (page, to)
+        for page in os.listdir(folder_of_pages)
+        if page.endswith(".md")
+        for to in re.findall(r"\]\(([^):#]+)[#)]", read_at(f"{folder_of_pages}/{page}"))
+        if not os.path.exists(f"{folder_of_pages}/{to}")
+    ]
+    checks.equal("the package: links of its pages that lead nowhere", leads_nowhere, [])
+
+
+# What a package is made of.
+PACKAGED = [
+    *("CHANGELOG", "CONTRIBUTING.md", "LICENSE", "Makefile", "NOTICE", "README.md", "SECURITY.md"),
+    *("contrib", "debian", "docs", "man"),
+]
+
+
+def read_at(path):
+    with open(path, encoding="utf-8") as file:
+        return file.read()
+
+
 class Sided(Machine):
     """A machine beside a server that answers: its commands have the settings that are copied to it,
     and these programs do nothing."""
@@ -305,7 +470,7 @@ def quick_start(world, checks):
     are the examples, and they print what README shows."""
     on_server, on_host, limits = blocks_of("../README.md", "From nothing to the first 550")
     with Server(world, default=1_000) as server:
-        machine = Sided(world, "quick", server, "apt", "systemctl", "vi", "scp")
+        machine = Sided(world, "quick", server, "apt", "systemctl", "vi")
         commands, printed = parted(on_server)
         checks.equal(
             "README's server: status, what it prints and says",
@@ -329,10 +494,6 @@ def quick_start(world, checks):
             [it for it in calls if not it.startswith("apt ")],
             [
                 "systemctl enable --now mailquota",
-                (
-                    f"scp 192.0.2.7:{machine.folder}/etc/mailquota/server.toml"
-                    f" {machine.folder}/etc/mailquota/"
-                ),
                 f"vi {machine.folder}/etc/smtpd.conf",
                 "systemctl restart opensmtpd",
             ],
@@ -373,7 +534,7 @@ def the_first_550(world, checks, machine, server, block):
 
 def parted(block):
     """The commands of a block, and what they print by the page."""
-    is_command = re.compile(r"(apt|cd|cp|mkdir|mailquota|systemctl|scp|smtpd|vi) ")
+    is_command = re.compile(r"(apt|cd|cp|mkdir|mailquota|sed|systemctl|smtpd|vi) ")
     commands = [it for it in block if is_command.match(it)]
     return commands, [it for it in block if it not in commands]
 
@@ -381,11 +542,11 @@ def parted(block):
 def by_install(world, checks):
     """INSTALL's commands for the quota server and for a mail host: they copy the examples, as they
     are, to where systemd and the program look for them, and print what the page shows."""
-    copies, adds, makes, starts, *_ = blocks_of("INSTALL.md", "The quota server")
+    copies, adds, permits, makes, starts, *_ = blocks_of("INSTALL.md", "The quota server")
     of_filter, checked, _, restarts, retires = blocks_of("INSTALL.md", "Each mail host")
     with Server(world, default=1_000) as server:
         machine = Sided(world, "by-install", server, "systemctl", "smtpd")
-        copied = machine.run([*copies, *adds, *of_filter, *retires])
+        copied = machine.run([*copies, *adds, *permits, *of_filter, *retires])
         found = {
             os.path.relpath(f"{at}/{it}", f"{machine.folder}/etc"): machine.read(
                 os.path.relpath(f"{at}/{it}", machine.folder)
@@ -396,12 +557,13 @@ def by_install(world, checks):
         wanted = {
             f"{folder}/{it}": text_of(it)
             for folder, it in (
-                ("mailquota", "server.toml"),
+                ("mailquota", "permits.toml"),
                 ("mailquota", "filter.toml"),
                 ("systemd/system/mailquota.service.d", "addresses.conf"),
                 ("systemd/system/opensmtpd.service.d", "smtpd-restart.conf"),
             )
         }
+        wanted["mailquota/server.toml"] = text_of("server.toml").replace("\n# permits", "\npermits")
         checks.equal(
             "INSTALL's copies: status, what they print and say, and what is there",
             (copied, found),

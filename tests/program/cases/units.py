@@ -4,10 +4,13 @@ import os
 import re
 import shutil
 import subprocess
+import time
 
 from cases.contrib import text_of
+from cases.filters import PROCEED
 from cases.rules import CENTRAL_EUROPE
-from ends import TOP, Server
+from ends import TOP, Server, soon
+from smtpd import TOKEN, Smtpd, result
 
 # The values of a key, in their order: a later one would count in place of an earlier one, or in
 # addition.
@@ -74,7 +77,7 @@ SERVER = {
 RESTARTS = {
     "Unit": {
         "Wants": ["network-online.target"],
-        "After": ["network-online.target"],
+        "After": ["network-online.target wg-quick@quota.service"],
         "StartLimitIntervalSec": ["0"],
     },
     "Service": {
@@ -83,8 +86,61 @@ RESTARTS = {
         "RestartSec": ["1"],
     },
 }
+# What mails logins near their limits is as shut off as the server, but that it reads the log, and
+# that sendmail speaks to smtpd.
+MAILS = {
+    "Unit": {
+        # (a start without an address fails, and says so)
+        "AssertFileNotEmpty": ["/etc/mailquota/mail-to"],
+        "StartLimitIntervalSec": ["0"],
+    },
+    "Service": {
+        **{
+            key: values
+            for key, values in SERVER["Service"].items()
+            if key not in ("ExecStartPost", "TimeoutStartSec", "ProcSubset")
+        },
+        "ExecStart": ["/usr/libexec/mailquota/limit-mails /etc/mailquota/mail-to"],
+        "RestartSec": ["10"],
+        "RestartPreventExitStatus": ["2"],
+        "IgnoreSIGPIPE": ["no"],
+        "User": ["mailquota-mail"],
+        "Group": ["opensmtpq"],
+        "SupplementaryGroups": ["systemd-journal"],
+        "StateDirectory": ["mailquota-mail"],
+        "MemoryMax": ["200M"],
+        "TasksMax": ["24"],
+        "RestrictAddressFamilies": ["AF_UNIX AF_INET AF_INET6"],
+        # (OpenSMTPD's sendmail gives up its group)
+        "SystemCallFilter": ["@system-service", "~@privileged @resources", "@setuid"],
+    },
+    "Install": {"WantedBy": ["multi-user.target"]},
+}
+# what gives the address to the server that answers: root's, but for WireGuard's settings without a
+# right
+TAKEOVER = {
+    "Unit": {
+        "Wants": ["wg-quick@quota.service"],
+        "After": ["wg-quick@quota.service"],
+        "StartLimitIntervalSec": ["0"],
+    },
+    "Service": {
+        "ExecStart": [
+            "/usr/libexec/mailquota/wireguard-takeover quota 10.70.25.7 10.70.25.5 10.70.25.6"
+        ],
+        "Restart": ["always"],
+        "RestartSec": ["1"],
+        "CapabilityBoundingSet": ["CAP_NET_ADMIN"],
+        "NoNewPrivileges": ["yes"],
+        "ProtectHome": ["yes"],
+        "ProtectSystem": ["strict"],
+    },
+    "Install": {"WantedBy": ["multi-user.target"]},
+}
 UNITS = {
     "mailquota.service": SERVER,
+    "mailquota-mail.service": MAILS,
+    "wireguard-takeover.service": TAKEOVER,
     "addresses.conf": {"Service": {"IPAddressAllow": ["192.0.2.0/24"]}},
     "smtpd-restart.conf": RESTARTS,
 }
@@ -101,7 +157,7 @@ OF_KEEPALIVED = [
     "virtual_router_id 70",
     "advert_int 1",
     "garp_master_refresh 1",
-    "192.0.2.7/24",
+    "192.0.2.7/32",
     "answers",
 ]
 LINES = {
@@ -142,15 +198,48 @@ DESCRIBED = {"Description", "Documentation"}
 RULES = [
     "type filter hook input priority filter; policy accept;",
     'iif "lo" accept',
+    "# uncomment this with a tunnel, whose addresses are those above then",
+    '#tcp dport 7025 iifname != "quota" drop',
     "tcp dport 7025 ip saddr @servers accept",
     "tcp dport 7025 ip saddr != @mailhosts drop",
     "ip protocol 112 ip saddr != @servers drop",
     "tcp dport 7025 meta nfproto ipv6 drop",
 ]
+RULES_OF_A_MAIL_HOST = {
+    "output": [
+        "type filter hook output priority filter; policy accept;",
+        "# uncomment this with a tunnel: while that is down, all would go out beside it",
+        '#tcp dport 7025 oifname != "quota" reject with tcp reset',
+        "tcp dport 7025 meta skuid != { root, opensmtpd } reject with tcp reset",
+    ],
+    "forward": ["type filter hook forward priority filter; policy accept;", "tcp dport 7025 drop"],
+}
 SETS = {"mailhosts": "192.0.2.1, 192.0.2.2, 192.0.2.9", "servers": "192.0.2.5, 192.0.2.6"}
+# The settings of a tunnel: an interface, and its peers, each with its addresses outside and inside.
+INTERFACE = ["PrivateKey = PRIVATE-KEY-OF-THIS-MACHINE", "ListenPort = 51820"]
+TUNNEL = {
+    "wireguard-server.conf": (
+        "10.70.25.5/32, 10.70.25.7/32",
+        {
+            "MX1": ("192.0.2.1", "10.70.25.1/32"),
+            "MX2": ("192.0.2.2", "10.70.25.2/32"),
+            "THE-ADMINISTRATORS-HOST": ("192.0.2.9", "10.70.25.9/32"),
+            "THE-OTHER-SERVER": ("192.0.2.6", "10.70.25.6/32"),
+        },
+    ),
+    "wireguard-mailhost.conf": (
+        "10.70.25.1/32",
+        {
+            "THE-FIRST-SERVER": ("192.0.2.5", "10.70.25.5/32, 10.70.25.7/32"),
+            "THE-SECOND-SERVER": ("192.0.2.6", "10.70.25.6/32"),
+        },
+    ),
+}
 # How far the server's service may be open by systemd, in tenths: it is 1.3 by systemd 252, and
 # other versions may weigh otherwise.
 MOST_EXPOSED = 20
+# For how many seconds a retire of 600,000 answers may hold up a server, as it was measured.
+RETIRES = 4.8
 SMTPD = (
     "[Unit]\nDescription=OpenSMTPD SMTP"
     " server\n[Service]\nType=forking\nExecStart=/bin/true\n[Install]\nWantedBy=multi-user.target\n"
@@ -162,9 +251,11 @@ def run(world, checks):
     nothing_else(checks)
     both_retires(checks)
     settings_of_others(checks)
+    settings_of_a_tunnel(checks)
     settings_of_smtpd(checks)
     settings_of_both(checks)
     settings_of_a_filter(world, checks)
+    a_long_retire(world, checks)
     verified(world, checks)
     exposed(world, checks)
 
@@ -248,20 +339,51 @@ def settings_of_others(checks):
         {"priority", "preempt_delay", "unicast_src_ip", "192.0.2.5", "192.0.2.6"},
     )
     rules = text_of("nftables.conf")
-    chain = re.search(r"chain input \{\n(.*?)\n\t\}", rules, re.DOTALL)[1]
     checks.equal(
-        "the packet filter: its rules, in their order",
-        [line.strip() for line in chain.splitlines()],
-        RULES,
+        "the packet filter: its rules, in their order", chains_of(rules), {"input": RULES}
     )
     sets = dict(re.findall(r"set (\w+) \{\n\s*type ipv4_addr\n\s*elements = \{ (.*) \}", rules))
     checks.equal("the packet filter: its addresses", sets, SETS)
-    loads = [line for line in rules.splitlines() if line and line[0] not in "#\t}"]
+    its = text_of("nftables-mailhost.conf")
     checks.equal(
-        "the packet filter: what a repeated load does first",
-        loads,
-        ["table inet mailquota", "delete table inet mailquota", "table inet mailquota {"],
+        "a mail host's packet filter: its rules, in their order",
+        chains_of(its),
+        RULES_OF_A_MAIL_HOST,
     )
+    # (a machine may have both)
+    for what, text, table in (
+        ("the packet filter", rules, "mailquota"),
+        ("a mail host's packet filter", its, "mailquota_mailhost"),
+    ):
+        loads = [line for line in text.splitlines() if line and line[0] not in "#\t}"]
+        checks.equal(
+            f"{what}: what a repeated load does first",
+            loads,
+            [f"table inet {table}", f"delete table inet {table}", f"table inet {table} {{"],
+        )
+
+
+def chains_of(rules):
+    """The lines of each chain of a packet filter."""
+    found = re.findall(r"chain (\w+) \{\n(.*?)\n\t\}", rules, re.DOTALL)
+    return {name: [line.strip() for line in lines.splitlines()] for name, lines in found}
+
+
+def settings_of_a_tunnel(checks):
+    """Each machine sends from its own addresses alone, and of the two that a mail host may ask at
+    the address that filters ask, the first has it."""
+    for name, (own, peers) in TUNNEL.items():
+        wanted = ["[Interface]", *INTERFACE, f"Address = {own}"]
+        for peer, (endpoint, allowed) in peers.items():
+            wanted += [
+                "[Peer]",
+                f"PublicKey = PUBLIC-KEY-OF-{peer}",
+                f"Endpoint = {endpoint}:51820",
+                f"AllowedIPs = {allowed}",
+                "PersistentKeepalive = 25",
+            ]
+        lines = [line for line in text_of(name).splitlines() if line and line[0] != "#"]
+        checks.equal(f"contrib/{name}: its lines, in their order", lines, wanted)
 
 
 def settings_of_smtpd(checks):
@@ -296,7 +418,7 @@ def settings_of_smtpd(checks):
 
 
 def settings_of_both(checks):
-    """OPERATING counts with these: a recipient waits for three seconds at most, and a peer of the
+    """OPERATING counts with these: a recipient waits for six seconds at most, and a peer of the
     server for a third of one."""
     for name, wanted in (
         (
@@ -305,9 +427,10 @@ def settings_of_both(checks):
                 'host = "mx1.example.org"',
                 'server = "192.0.2.7:7025"',
                 "tries = 3",
-                "timeout = 1000",
+                "timeout = 2000",
                 "pause = 10",
                 "hold = 5",
+                "keep_connection = true",
                 'log = "warn"',
             ],
         ),
@@ -347,6 +470,39 @@ def settings_of_a_filter(world, checks):
     )
     checks.equal(
         "contrib/filter.toml: what filter --check says of it", came, (0, wanted.encode(), "")
+    )
+
+
+def a_long_retire(world, checks):
+    """While a server answers nobody for so long, a recipient waits by the example, and gets no 451;
+    and no pause begins."""
+    its = {
+        name: {key: int(value) for key, value in re.findall(r"^(\w+) = (\d+)$", text_of(name), re.M)}
+        for name in ("filter.toml", "server.toml")
+    }
+
+    def asked():
+        with Server(world, timeout=its["server.toml"]["timeout"]) as server:
+            filter_ = Smtpd(
+                world, "mx1", server.address, **its["filter.toml"], keep_connection=True
+            )
+            at = int(time.time())
+            filter_.login(at, b"s1", b"alice")
+            filter_.begin(at, b"s1", b"m1")
+            came = [filter_.recipient(at, b"s1")]
+            line = b"filter|0.7|%d.000002|smtp-in|rcpt-to|s1|%s|b@example.org\n" % (at, TOKEN)
+            with server.stopped():
+                filter_.say(line)
+                time.sleep(RETIRES)
+            came.append(filter_.process.stdout.readline())
+            filter_.log.seek(0)
+            return came, filter_.log.read(), filter_.end()[:2]
+
+    came, _ = soon(asked, RETIRES + 1)
+    checks.equal(
+        "a server that stands still, by the examples: what recipients get, and the filter's log",
+        came,
+        ([result(PROCEED, b"s1")] * 2, b"", (0, b"")),
     )
 
 
@@ -400,7 +556,13 @@ def verified(world, checks):
         folder, lambda name, text: text.replace("[Service]\n", "[Service]\nRestrat=no\n")
     )
     told = " ".join(said_of(folder, units))
-    names = ["mailquota.service", "opensmtpd.service", "smtpd-restart.conf", "addresses.conf"]
+    names = [
+        "mailquota.service",
+        "mailquota-mail.service",
+        "opensmtpd.service",
+        "smtpd-restart.conf",
+        "addresses.conf",
+    ]
     checks.equal(
         "units with a fault each: those of which it says nothing",
         [it for it in names if f"/{it}:" not in told],
@@ -409,24 +571,25 @@ def verified(world, checks):
 
 
 def exposed(world, checks):
-    what = "the server's unit by systemd-analyze security"
-    if not of_systemd(checks, what):
-        return
-    path = f"{world.folder}/mailquota.service"
-    with open(path, "w", encoding="ascii") as file:
-        file.write(text_of("mailquota.service"))
-    run = subprocess.run(
-        ["systemd-analyze", "security", "--offline=yes", f"--threshold={MOST_EXPOSED}", path],
-        capture_output=True,
-        text=True,
-    )
-    if "unrecognized option" in run.stderr:
-        checks.skip(what, "this systemd takes no unit's file")
-        return
-    told = re.search(r"exposure level for mailquota\.service: (\d+\.\d+)", run.stdout)
-    checks.holds(
-        what,
-        run.returncode == 0 and told is not None,
-        f"at most {MOST_EXPOSED / 10}",
-        told and told[1] or run.stderr,
-    )
+    for name in ("mailquota", "mailquota-mail"):
+        what = f"{name}.service by systemd-analyze security"
+        if not of_systemd(checks, what):
+            return
+        path = f"{world.folder}/{name}.service"
+        with open(path, "w", encoding="ascii") as file:
+            file.write(text_of(f"{name}.service"))
+        run = subprocess.run(
+            ["systemd-analyze", "security", "--offline=yes", f"--threshold={MOST_EXPOSED}", path],
+            capture_output=True,
+            text=True,
+        )
+        if "unrecognized option" in run.stderr:
+            checks.skip(what, "this systemd takes no unit's file")
+            return
+        told = re.search(rf"exposure level for {name}\.service: (\d+\.\d+)", run.stdout)
+        checks.holds(
+            what,
+            run.returncode == 0 and told is not None,
+            f"at most {MOST_EXPOSED / 10}",
+            told and told[1] or run.stderr,
+        )
