@@ -65,7 +65,8 @@ smtpd:
 	@test -x $(PROGRAM) || { echo "run 'make build' first" >&2; exit 1; }
 	@bash tests/smtpd/run.sh $(PROGRAM)
 
-# Two quota servers and two mail hosts in namespaces, with real smtpds and keepalived: wants what smtpd wants; ROUNDS=N of each event.
+# Two quota servers and two mail hosts in namespaces, with real smtpds and keepalived, and once over WireGuard: wants what smtpd wants, and /dev/net/tun where
+# the kernel has no WireGuard; ROUNDS=N of each event.
 takeover:
 	@test -x $(PROGRAM) || { echo "run 'make build' first" >&2; exit 1; }
 	@bash tests/takeover/run.sh $(PROGRAM) $(ROUNDS)
@@ -99,10 +100,10 @@ install:
 	install -d $(DESTDIR)$(SBINDIR) $(DESTDIR)$(DOCDIR) $(DESTDIR)$(CONFDIR)
 	install -m 755 $(PROGRAM) $(DESTDIR)$(SBINDIR)/mailquota
 	$(call texts,contrib/mailquota-backup contrib/mailquota-limits contrib/mailquota-recipients,755,$(SBINDIR))
-	$(call texts,contrib/await-server contrib/keepalived-check contrib/limit-mails contrib/mail-host-check,755,$(LIBEXECDIR)/mailquota)
+	$(call texts,contrib/await-server contrib/keepalived-check contrib/limit-mails contrib/mail-host-check contrib/wireguard-takeover,755,$(LIBEXECDIR)/mailquota)
 	$(call texts,contrib/filter-mailquota contrib/filter-one-spelling,755,$(LIBEXECDIR)/opensmtpd)
-	$(call texts,$(wildcard contrib/*.service),644,$(UNITDIR))
-	$(call texts,$(wildcard contrib/*.toml contrib/*.conf),644,$(DOCDIR)/examples)
+	$(call texts,$(wildcard contrib/mailquota*.service),644,$(UNITDIR))
+	$(call texts,$(wildcard contrib/*.toml contrib/*.conf) contrib/wireguard-takeover.service,644,$(DOCDIR)/examples)
 	$(call texts,$(wildcard man/*.5),644,$(MANDIR)/man5)
 	$(call texts,$(wildcard man/*.8),644,$(MANDIR)/man8)
 	install -d $(DESTDIR)$(BASHDIR) $(DESTDIR)$(ZSHDIR)

@@ -15,13 +15,13 @@ make_root() {
         echo 'smtpd wants root' >&2
         exit 1
     fi
-    if [ ! -x "$root/usr/sbin/smtpd" ] || [ ! -x "$root/usr/sbin/keepalived" ]; then
+    if [ ! -x "$root/usr/sbin/smtpd" ] || [ ! -x "$root/usr/sbin/keepalived" ] || [ ! -x "$root/usr/bin/wg" ]; then
         if [ -z "$mirror" ]; then
             echo "the machine's package list names no mirror of Debian, so there is no smtpd to fetch" >&2
             exit 1
         fi
         rm -rf "$root"
-        timeout 30m debootstrap --variant=minbase --include=opensmtpd,ca-certificates,keepalived,iproute2,nftables trixie "$root" "$mirror" >&2
+        timeout 30m debootstrap --variant=minbase --include=opensmtpd,ca-certificates,keepalived,iproute2,nftables,wireguard-tools,wireguard-go,tcpdump trixie "$root" "$mirror" >&2
     fi
     mkdir -p "$etc"
     printf '#!/bin/sh\nexit 101\n' >"$root/usr/sbin/policy-rc.d"

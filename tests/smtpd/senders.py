@@ -18,7 +18,8 @@ class Sender(threading.Thread):
     def __init__(self, address, login, seed, pace=PACE):
         super().__init__(daemon=True)
         self.address, self.login, self.dice, self.pace = address, login, random.Random(seed), pace
-        self.is_over = False
+        # whether it sends nothing for a while, without a session
+        self.is_over = self.rests = False
         # when a recipient was sent and answered, and the answer's code
         self.answers = []
         # recipients of messages that were sent
@@ -29,6 +30,9 @@ class Sender(threading.Thread):
         smtp = None
         while not self.is_over:
             try:
+                if self.rests:
+                    smtp = self.rest(smtp)
+                    continue
                 if smtp is None:
                     smtp = session_at(587, self.login, self.address)
                 smtp = self.message(smtp)
@@ -38,6 +42,12 @@ class Sender(threading.Thread):
                 time.sleep(1)
         if smtp:
             smtp.quit()
+
+    @staticmethod
+    def rest(smtp):
+        if smtp:
+            smtp.quit()
+        time.sleep(PACE)
 
     def message(self, smtp):
         """Sends a message; gives the session, if it goes on."""
@@ -87,6 +97,18 @@ def outages(senders):
     if first is not None:
         found.append((first, float("inf")))
     return found
+
+
+def refused(senders, start, end):
+    """For how many seconds of this time recipients were answered 451, from the first to the rest
+    after the last."""
+    found = [
+        at
+        for sender in senders
+        for _, at, code in sender.answers
+        if code == 451 and start <= at < end
+    ]
+    return max(found) + AFTER_451 - min(found) if found else 0
 
 
 def longest_wait(senders):

@@ -1,5 +1,6 @@
-"""Machines on one switch, each with a folder and an address of its own, for tests/takeover and
-tests/package."""
+"""Machines on one switch, each with a folder and an address of its own, for tests/takeover,
+tests/package and tests/upgrade."""
+import socket
 import subprocess
 import time
 
@@ -37,6 +38,14 @@ def wait_until(holds, seconds=SECONDS):
             return False
         time.sleep(0.05)
     return True
+
+
+def exchange(address, frame):
+    """What the quota server at this address answers a frame."""
+    with socket.create_connection((address, 7025), timeout=20) as peer:
+        peer.sendall(frame)
+        peer.shutdown(socket.SHUT_WR)
+        return b"".join(iter(lambda: peer.recv(4_096), b""))
 
 
 class OnSwitch:

@@ -1,7 +1,8 @@
 """Quota servers and mail hosts on one switch, each with a folder of its own over the one with
 smtpd."""
+import contextlib
 import os
-import socket
+import re
 import subprocess
 import sys
 from pathlib import Path
@@ -10,7 +11,7 @@ HERE = Path(__file__).resolve().parent
 sys.path += [str(HERE.parent / "smtpd"), str(HERE.parent / "program")]
 
 from host import PROGRAM, ROOT
-from switch import OnSwitch, call
+from switch import OnSwitch, call, exchange
 from wire import reserve
 
 WORK = Path(os.environ["WORK"])
@@ -65,19 +66,21 @@ def contrib(name, *changes):
 
 
 class QuotaServer(Machine):
-    """A quota server with keepalived, by contrib's files."""
+    """A quota server, by contrib's files, with keepalived where its settings are given."""
 
-    def __init__(self, name, address, default, keepalived):
+    def __init__(self, name, address, default, keepalived=None, example=contrib):
         super().__init__(name, address)
         listen = ('\nlisten = "192.0.2.7:7025"', '\nlisten = "0.0.0.0:7025"')
         self.write(
             "/etc/mailquota/server.toml",
-            contrib("server.toml", listen, ("\ndefault = 1000\n", f"\ndefault = {default}\n")),
+            example("server.toml", listen, ("\ndefault = 1000\n", f"\ndefault = {default}\n")),
         )
-        self.write("/etc/keepalived/keepalived.conf", keepalived)
-        self.write("/etc/nftables-mailquota.conf", contrib("nftables.conf"))
+        self.write("/etc/nftables-mailquota.conf", example("nftables.conf"))
         self.write("/usr/local/sbin/supervisor", SUPERVISOR, 0o755)
-        (self.root / "var/lib/mailquota").mkdir(parents=True, exist_ok=True)
+        self.store = self.root / "var/lib/mailquota"
+        self.store.mkdir(parents=True, exist_ok=True)
+        # (a disk of its own, which may fill)
+        call("mount", "-t", "tmpfs", "-o", "size=64m", "tmpfs", self.store)
         for words in (
             ["nft", "-f", "/etc/nftables-mailquota.conf"],
             [PROGRAM, "init", "--config", "/etc/mailquota/server.toml"],
@@ -86,6 +89,11 @@ class QuotaServer(Machine):
             assert status == 0, said
         self.want()
         self.start("supervisor", "/usr/local/sbin/supervisor")
+        if keepalived:
+            self.keep_alive(keepalived)
+
+    def keep_alive(self, settings):
+        self.write("/etc/keepalived/keepalived.conf", settings)
         self.start(
             "keepalived",
             "keepalived",
@@ -105,6 +113,28 @@ class QuotaServer(Machine):
         (self.root / "run/wanted").unlink()
         os.kill(self.pid(), signal)
 
+    def fill(self):
+        """Takes all room of its disk, also what is given up meanwhile."""
+        with open(self.store / "filler", "ab", buffering=0) as filler:
+            for size in (1 << 20, 4_096):
+                with contextlib.suppress(OSError):
+                    while filler.write(b"x" * size) == size:
+                        pass
+
+    def said(self):
+        """The last line of its server."""
+        return self.log().splitlines()[-1:]
+
+    def opened_in(self):
+        """How many seconds its last start took over the ledger."""
+        return int(re.findall(r", opened in (\d+) ms$", self.log(), re.MULTILINE)[-1]) / 1_000
+
+    def log(self):
+        return (self.root / "var/log/mailquota-server.log").read_text()
+
+    def clear(self):
+        (self.store / "filler").unlink()
+
     def pid(self):
         return int((self.root / "run/mailquota.pid").read_text())
 
@@ -113,11 +143,7 @@ class QuotaServer(Machine):
 
     def use(self, day):
         """A login of another host uses one recipient of this day."""
-        with socket.create_connection((self.address, 7025), timeout=20) as peer:
-            peer.sendall(reserve(1, login=b"past", at=86_400 * day, host=b"past"))
-            peer.shutdown(socket.SHUT_WR)
-            while peer.recv(4_096):
-                pass
+        exchange(self.address, reserve(1, login=b"past", at=86_400 * day, host=b"past"))
 
     def ask(self, command, *words):
         run = call(
@@ -139,12 +165,12 @@ class QuotaServer(Machine):
 class MailHost(Machine):
     """A mail host with smtpd, by contrib's files, but that its mail goes nowhere."""
 
-    def __init__(self, name, address, host, *changes):
+    def __init__(self, name, address, host, *changes, example=contrib):
         super().__init__(name, address)
         self.host = host
         self.write(
             "/etc/mailquota/filter.toml",
-            contrib("filter.toml", ("mx1.example.org", host), *changes),
+            example("filter.toml", ("mx1.example.org", host), *changes),
         )
         sink = 'action "outbound" mda "true" virtual { "@" = nobody }'
         self.write(

@@ -1,5 +1,5 @@
 """What mail sees while the first of two quota servers is killed, cut off, restarted, also with a
-day to forget, and comes back, in a random order.
+day to forget, has a full disk, and comes back, in a random order.
 
 Logins send all the while. Then each request of smtpd has an answer, recipients were answered 451
 for as long as is said below at most, and for each login accepted recipients are at most the sum of
@@ -15,14 +15,25 @@ import sys
 import time
 
 from machines import CONTRIB, PROGRAM, ROOT, MailHost, QuotaServer, contrib
-from senders import Sender, end_all, longest_wait, outages
+from senders import PACE, Sender, end_all, longest_wait, outages, refused
 from switch import call, make_switch, wait_until
 
 # How long the first server answers before the address goes back to it: a minute in contrib.
 DELAY = 5
 # For how many seconds recipients may be answered 451, without `pause` in the filter's settings and
 # with contrib's.
-LONGEST = {"kill": (5, 5), "cut": (5, 15), "forget": (5, 5), "restart": (5, 5), "return": (2, 2)}
+LONGEST = {
+    "kill": (5, 5),
+    "cut": (5, 5),
+    "forget": (5, 5),
+    "restart": (5, 5),
+    "full": (5, 5),
+    "full at a recipient a second": (5, 5),
+    "return": (2, 2),
+}
+# A server is started again a second after its end, by its unit: how much later it may answer than
+# that and what its start takes, on a machine that has much else to do.
+LATE = 2
 FIRST_DEFAULT, SECOND_DEFAULT, OWN_LIMIT, WIDE = 1_000, 100, 300, 1_000_000
 # Logins with room, at both servers; with the defaults; and with a limit of its own at the first
 # server alone.
@@ -46,25 +57,22 @@ class Checks:
 class Scene:
     """The machines, and what happens to the first server."""
 
+    example = staticmethod(contrib)
+
     def __init__(self, checks, seed):
         self.checks, self.dice = checks, random.Random(seed)
         make_switch()
         # (of the folder in which the administrator's commands run)
         call("mount", "--bind", "/proc", ROOT / "proc")
-        delay = ("preempt_delay 60", f"preempt_delay {DELAY}")
-        self.first = QuotaServer(
-            "first", "192.0.2.5", FIRST_DEFAULT, contrib("keepalived-first.conf", delay)
-        )
-        self.second = QuotaServer(
-            "second", "192.0.2.6", SECOND_DEFAULT, contrib("keepalived-second.conf")
-        )
-        self.servers = [self.first, self.second]
+        self.servers = self.first, self.second = self.make_servers()
         self.wait("the first server has the address", self.is_at_first)
         # (one filter has contrib's settings, and the other those without `pause`)
         paused = re.findall(r"\npause = .*\n", (CONTRIB / "filter.toml").read_text())
         self.hosts = [
-            MailHost("mx1", "192.0.2.1", "mx1.example.org"),
-            MailHost("mx2", "192.0.2.2", "mx2.example.org", *((line, "\n") for line in paused)),
+            self.make_host("mx1", "192.0.2.1", "mx1.example.org"),
+            self.make_host(
+                "mx2", "192.0.2.2", "mx2.example.org", *((line, "\n") for line in paused)
+            ),
         ]
         for login in [*WITH_ROOM, *WITH_OWN]:
             for server in self.servers if login in WITH_ROOM else [self.first]:
@@ -91,6 +99,17 @@ class Scene:
         # (what happened, when, and until when)
         self.events = []
 
+    def make_servers(self):
+        delay = ("preempt_delay 60", f"preempt_delay {DELAY}")
+        first, second = contrib("keepalived-first.conf", delay), contrib("keepalived-second.conf")
+        return [
+            QuotaServer("first", "192.0.2.5", FIRST_DEFAULT, first),
+            QuotaServer("second", "192.0.2.6", SECOND_DEFAULT, second),
+        ]
+
+    def make_host(self, *words):
+        return MailHost(*words)
+
     def wait(self, what, holds, seconds=60):
         if not wait_until(holds, seconds):
             self.checks.holds(f"within {seconds} s {what}", False, "it didn't happen")
@@ -102,7 +121,9 @@ class Scene:
         return self.second.has_address() and self.second.answers()
 
     def play(self, rounds):
-        order = [self.kill, self.cut, self.forget, self.restart] * rounds
+        order = [self.kill, self.cut, self.forget, self.restart, self.full] * rounds
+        # (which takes minutes: an answer is small, and the log has room)
+        order.append(self.full_slowly)
         self.dice.shuffle(order)
         for sender in self.all_senders():
             sender.start()
@@ -170,6 +191,49 @@ class Scene:
             f"{before} used before, {used()} after",
         )
 
+    def full_slowly(self):
+        """The same where one login alone sends at each host, and each second one of them."""
+        for sender in self.all_senders():
+            sender.rests, sender.pace = sender.login != WITH_ROOM[0], len(self.hosts)
+        time.sleep(5)
+        self.full("full at a recipient a second")
+        for sender in self.all_senders():
+            sender.rests, sender.pace = False, PACE
+
+    def full(self, what="full"):
+        """Its disk fills, and stays full: the address moves once, and comes back with the room."""
+        # (a start gives up the former ledger on a full disk, and so would have room)
+        (self.first.store / "ledger.old").unlink(missing_ok=True)
+        start, elsewhere = time.monotonic(), []
+
+        def has_moved():
+            self.first.fill()
+            return self.is_at_second()
+
+        self.wait("a full disk moves the address", has_moved, seconds=400)
+        # (a server that comes up for a moment has it back after so long)
+        for _ in range(4 * DELAY):
+            elsewhere.append(self.first.answers() or not self.is_at_second())
+            time.sleep(0.5)
+        self.checks.holds(
+            "a full disk moves the address once, and no server comes up on it",
+            not any(elsewhere),
+            f"{sum(elsewhere)} of {len(elsewhere)} looks; {self.first.said()}",
+        )
+        self.note(what, start)
+        self.back(self.clear)
+
+    def clear(self):
+        start = time.monotonic()
+        self.first.clear()
+        self.wait("the first server answers", self.first.answers)
+        took, own = time.monotonic() - start, self.first.opened_in()
+        self.checks.holds(
+            "a disk that has room again: its server answers within a second and its start's time",
+            took <= 1 + own + LATE,
+            f"{took:.1f} s, {own:.1f} s of them its start",
+        )
+
     def restart(self, what="restart"):
         """Its unit starts it again after a second: three checks in a row don't fail, unless the
         start itself takes long."""
@@ -204,17 +268,24 @@ def tell_outages(scene):
     for place, (host, settings) in enumerate(
         zip(scene.hosts, ("contrib's settings", "the same without `pause`"))
     ):
-        found = outages([sender for sender in scene.senders[host] if sender.login in WITH_ROOM])
+        senders = [sender for sender in scene.senders[host] if sender.login in WITH_ROOM]
+        found = outages(senders)
         for what, longest in LONGEST.items():
             windows = [(start, end) for it, start, end in scene.events if it == what]
+            # (of a disk that fills, all 451s are of one outage)
             lasted = [
-                max([took for first, took in found if start <= first < end], default=0)
+                (
+                    refused(senders, start, end)
+                    if what.startswith("full")
+                    else max([took for first, took in found if start <= first < end], default=0)
+                )
                 for start, end in windows
             ]
             if lasted:
+                without = sum(took == 0 for took in lasted)
                 came = (
                     f"{max(lasted):.1f} s at most, {statistics.median(lasted):.1f} s in the middle,"
-                    f" of {len(lasted)}"
+                    f" of {len(lasted)}, {without} of them without any"
                 )
                 has_pause = place == 0 and "\npause" in (CONTRIB / "filter.toml").read_text()
                 scene.checks.holds(
@@ -248,7 +319,7 @@ def retire(scene):
     away."""
     lines = [
         line
-        for line in (CONTRIB / "smtpd-restart.conf").read_text().splitlines()
+        for line in scene.example("smtpd-restart.conf").splitlines()
         if line.startswith("#ExecStartPre=-")
     ]
     commands = [line.removeprefix("#ExecStartPre=-").split() for line in lines]
@@ -290,6 +361,22 @@ def audits(scene):
         )
 
 
+def tell_unanswered(scene):
+    unanswered = [it for sender in scene.all_senders() for it in sender.unanswered]
+    asked = sum(len(sender.answers) for sender in scene.all_senders())
+    scene.checks.holds(
+        f"requests of smtpd without an answer, of {asked} recipients", not unanswered, unanswered
+    )
+
+
+def ended(checks, began):
+    """Tells whether it still is the day on which this began, and what came of it all; returns the
+    status."""
+    checks.holds("it was one day", day() == began, began)
+    print(f"{checks.passed} passed, {checks.failed} failed")
+    return 1 if checks.failed else 0
+
+
 def main():
     parser = argparse.ArgumentParser(
         description=__doc__, formatter_class=argparse.RawDescriptionHelpFormatter
@@ -314,19 +401,13 @@ def main():
     scene = Scene(checks, asked.seed)
     began = day()
     scene.play(asked.rounds)
-    unanswered = [it for sender in scene.all_senders() for it in sender.unanswered]
-    asked = sum(len(sender.answers) for sender in scene.all_senders())
-    checks.holds(
-        f"requests of smtpd without an answer, of {asked} recipients", not unanswered, unanswered
-    )
+    tell_unanswered(scene)
     tell_outages(scene)
     tell_sums(scene)
     retire(scene)
     tell_sums(scene)
     audits(scene)
-    checks.holds("it was one day", day() == began, began)
-    print(f"{checks.passed} passed, {checks.failed} failed")
-    return 1 if checks.failed else 0
+    return ended(checks, began)
 
 
 if __name__ == "__main__":

@@ -16,11 +16,13 @@ import time
 import wire
 from books import Books
 from cases.as_used import quiet_port
-from cases.filters import PROCEED
+from cases.filters import PROCEED, SERVICE
 from ends import (
+    LONG,
     SECONDS,
     TOP,
     Server,
+    files_in,
     nobody_there,
     soon,
     state_of,
@@ -41,17 +43,21 @@ ANSWERS = {"answers": "SELECT n, host, run, seq, request, reply FROM answer ORDE
 def run(world, checks):
     awaited(world, checks)
     checked(world, checks)
+    taken_over(world, checks)
+    a_tunnel(world, checks)
     hands_on_its_words(world, checks)
     a_backup(world, checks)
     a_backup_by_its_recipe(world, checks)
     backups_by_other_spellings(world, checks)
     a_backup_to_a_name_with_a_slash(world, checks)
+    backups_into_odd_folders(world, checks)
+    a_backup_of_removed_files(world, checks)
     backups_that_fail(world, checks)
     how_long_the_server_stands(world, checks)
     a_group_that_is_killed(world, checks)
     rules_beside_others(world, checks)
-    more_ports(world, checks)
     a_server_without_systemd(world, checks)
+    a_mail_host(world, checks)
     limits_of_a_new_ledger(world, checks)
     a_long_retire(world, checks)
     a_forgetting_by_hand(world, checks)
@@ -189,6 +195,140 @@ def checked(world, checks):
     checks.equal("keepalived-check: what it prints and says in both", said, [b"", b""])
 
 
+FIRST, SECOND, MOVES = "10.70.25.5", "10.70.25.6", "10.70.25.7"
+# What a mail host with two servers in a tunnel meets, second by second, of the first and of the
+# second: it answers (1), refuses (0), or lets a second pass (t); and which has the address after
+# that second. At first the first has it.
+TAKEN_OVER = {
+    "a restart of two seconds moves nothing": ("1001001", "1111111", "1111111"),
+    "the first is gone": ("100000", "111111", "111222"),
+    "the first's machine is gone": ("1ttttt", "111111", "111122"),
+    "both are gone, and the second comes": ("1000000", "1000011", "1111122"),
+    "both are gone, and the first comes": ("100001", "100000", "111111"),
+    "the first is back for a minute": ("000" + "1" * 61, "1" * 64, "11" + "2" * 60 + "11"),
+    "the first comes and goes": (
+        "000" + "1" * 59 + "0" + "1" * 59,
+        "1" * 122,
+        "11" + "2" * 120,
+    ),
+    "the first is back, and the second goes": ("00011111", "11111000", "11222111"),
+    "the second goes as the first comes": ("0001111", "1110000", "1122111"),
+}
+
+
+class InATunnel:
+    """A mail host whose WireGuard is a file of peers with what each is allowed, and time one of
+    seconds."""
+
+    def __init__(self, world, name, first, second, peers=None):
+        self.machine = Machine(world, name)
+        folder = self.folder = self.machine.folder
+        peers = peers or f"of1=\t{FIRST}/32 {MOVES}/32\nof2=\t{SECOND}/32\n"
+        for it, text in (("peers", peers), ("n", "1\n"), (FIRST, first), (SECOND, second)):
+            self.machine.write(it, text)
+        programs = {
+            "wg": (
+                f"cd {folder}\n[ \"$2\" = quota ] && [ -e peers ] || exit 1\n"
+                '[ "$1 $3" != "show allowed-ips" ] || exec cat peers\n'
+                '[ "$1 $3 $5" = "set peer allowed-ips" ] && grep -q "^$4" peers || exit 1\n'
+                'its=$(echo $6 | tr , " ")\n'
+                'for it in $its; do sed -i "s| *$it||" peers; done\n'
+                'sed -i "s|^$4.*|$4\\t$its|" peers\n'
+            ),
+            # (a second passes)
+            "sleep": (
+                f"cd {folder}\nread n <n\necho $((n + 1)) >n\n"
+                f"sed -n 's|^of\\(.\\)=.*{MOVES}/32.*|\\1|p' peers >>had\n"
+                f"[ $n -lt {len(first)} ] || kill $(cat process)\n"
+            ),
+            "asked": (
+                f'cd {folder}\n[ "$1 $2 $4" = "status --server --host" ] || exit 0\n'
+                f'[ "$5" = mx1.example.org ] || exit 0\nread n <n\n'
+                f'case $(cut -c $n "${{3%:7025}}") in 1) exit 0 ;; 0) exit 1 ;; esac\n'
+                f"[ $3 != {FIRST}:7025 ] || sleep 1\nexit 124\n"
+            ),
+        }
+        for program, text in programs.items():
+            self.machine.write(f"bin/{program}", f"#!/bin/sh\n{text}")
+            os.chmod(f"{folder}/bin/{program}", 0o755)
+
+    def run(self):
+        """How the script ends, what it prints, and who had the address after each second."""
+        script = self.machine.world.new_file(
+            text_of("wireguard-takeover").replace("/usr/sbin/mailquota", f"{self.folder}/bin/asked")
+        )
+        settings = self.machine.world.new_file(text_of("filter.toml"))
+        words = (
+            f"echo $$ >{self.folder}/process; exec sh {script} quota {MOVES} {FIRST} {SECOND}"
+            f" {settings}"
+        )
+        came = self.machine.started(["sh", "-c", words])
+        had = self.machine.read("had") if os.path.exists(f"{self.folder}/had") else ""
+        return (*came, had.replace("\n", ""))
+
+
+def taken_over(world, checks):
+    """The address that filters ask is at the server that answers, and goes back in a minute."""
+    for number, (what, (first, second, wanted)) in enumerate(TAKEN_OVER.items()):
+        host = InATunnel(world, f"tunnel-{number}", first, second)
+        moves = [
+            f"{MOVES} is at {FIRST if now == '1' else SECOND}\n"
+            for before, now in zip("1" + wanted, wanted)
+            if now != before
+        ]
+        checks.equal(
+            f"wireguard-takeover, {what}: how it ends, what it says, who has the address",
+            host.run(),
+            (-signal.SIGTERM, "".join(moves), "", wanted),
+        )
+    peers = f"of1=\t{FIRST}/32\nof2=\t{SECOND}/32\n"
+    host = InATunnel(world, "tunnel-of-none", "11", "11", peers)
+    checks.equal(
+        "wireguard-takeover, nobody has the address: how it ends, what it says, who has it",
+        host.run(),
+        (-signal.SIGTERM, f"{MOVES} is at {FIRST}\n", "", "11"),
+    )
+    host = InATunnel(world, "tunnel-that-is-down", "00", "00")
+    os.remove(f"{host.folder}/peers")
+    checks.equal(
+        "wireguard-takeover, there is no tunnel: it ends, for systemd to start it again",
+        host.run(),
+        (1, "", "", ""),
+    )
+
+
+def a_tunnel(world, checks):
+    """The lines of OPERATING for a mail host: nobody else reads its key, and what moves the address
+    runs."""
+    machine = Machine(world, "tunnel", vi="", systemctl="")
+    for it in ("wireguard", "systemd/system"):
+        os.makedirs(f"{machine.folder}/etc/{it}")
+    checks.equal(
+        "a tunnel by OPERATING: status, what it prints and says",
+        [machine.run(block) for block in blocks_of("OPERATING.md", "A tunnel")],
+        [(0, "", "")] * 2,
+    )
+    settings, unit = "etc/wireguard/quota.conf", "wireguard-takeover.service"
+    checks.equal(
+        "a tunnel by OPERATING: its files, and who may read the key",
+        (
+            machine.read(settings) == text_of("wireguard-mailhost.conf"),
+            stat.S_IMODE(os.stat(f"{machine.folder}/{settings}").st_mode),
+            machine.read(f"etc/systemd/system/{unit}") == text_of(unit),
+        ),
+        (True, 0o600, True),
+    )
+    checks.equal(
+        "a tunnel by OPERATING: what is called",
+        machine.read("calls").splitlines(),
+        [
+            f"vi {machine.folder}/{settings}",
+            "systemctl enable --now wg-quick@quota",
+            "systemctl enable --now wireguard-takeover",
+        ],
+    )
+
+
 def hands_on_its_words(world, checks):
     """The script that smtpd calls has the program filter, by the words that stand behind it in
     smtpd.conf: so a second smtpd has settings of its own."""
@@ -227,6 +367,10 @@ def with_programs(folder):
     return {**os.environ, "PATH": f"{folder}/bin{os.pathsep}{os.environ['PATH']}"}
 
 
+REMOVED = (
+    "mailquota-backup: {name} was removed: the copy is of what the server has open still, which is"
+    " gone once the server ends\n"
+)
 # A script of a backup is changed so where others of the same server follow: what continues that,
 # should the script be killed, does so once they are over.
 LATE = ("$((seconds + 5))", "60")
@@ -291,7 +435,7 @@ class Backup:
         return subprocess.Popen([*self.words, str(seconds)], env=self.environment, **quiet, **more)
 
     def left(self):
-        return sorted(it for it in os.listdir(self.folder) if it != "bin")
+        return [it for it in files_in(self.folder) if it != "bin"]
 
 
 class Load(threading.Thread):
@@ -479,7 +623,7 @@ def a_backup_by_its_recipe(world, checks):
         )
         checks.equal(
             "a backup put back by its recipe: the files",
-            sorted(os.listdir(f"{folder}/lib")),
+            files_in(f"{folder}/lib"),
             ["ledger", "ledger-wal"],
         )
         found = {
@@ -538,6 +682,81 @@ def a_backup_to_a_name_with_a_slash(world, checks):
         shutil.rmtree(backup.folder)
 
 
+def backups_into_odd_folders(world, checks):
+    """Whatever the folder's name has in it that means something to a shell, to sed or in
+    settings."""
+    path, settings = f"{world.folder}/odd", {"default": 3, "offset": 0}
+    with Server(world, words=["--create"], store=path, **settings) as server:
+        server.ask(wire.reserve(1))
+        its = {"listen": server.address, "store": path, **settings}
+        for name in ("a & b", "#1", "it's", 'a "copy"', "back\\slash", "$HOME", "%s", "*", "-p"):
+            backup = Backup(world, server, path, its, [LATE])
+            backup.words[2] = f"{backup.folder}/{name}"
+            # (what it lists is the folder of other cases)
+            os.remove(f"{backup.folder}/bin/sync")
+            status, output, errors = backup.run()
+            checks.equal(
+                f"a backup into {name}: status, and what it says", (status, errors), (0, "")
+            )
+            checks.holds(
+                f"a backup into {name}: it names the copy",
+                f"\nledger {backup.folder}/{name}.part/ledger: version 3, " in output,
+                "so",
+                output,
+            )
+            checks.equal(
+                f"a backup into {name}: what is there",
+                (
+                    backup.left(),
+                    sorted(os.listdir(backup.words[2]) if backup.left() == [name] else []),
+                ),
+                ([name], ["ledger", "ledger-wal", "server.toml"]),
+            )
+            shutil.rmtree(backup.folder)
+        backup = Backup(world, server, path, its, [LATE])
+        backup.words[2] += "\n2"
+        checks.equal(
+            "a backup into a folder whose name has a line's end: it says so, and nothing is left",
+            (backup.run(), backup.left()),
+            ((1, "", "mailquota-backup: the folder's name has a control character\n"), []),
+        )
+        shutil.rmtree(backup.folder)
+
+
+def a_backup_of_removed_files(world, checks):
+    """Files of the ledger whose names are gone are copied as the server has them open, and the
+    script says which these are. Another file under the name isn't copied in their place."""
+    frames = list(of_some_days(100))
+    for gone in (["ledger", "ledger-wal"], ["ledger"], ["ledger-wal"]):
+        for is_replaced in (False, True):
+            what = f"a backup without {' and '.join(gone)}{', replaced' if is_replaced else ''}"
+            folder, settings = f"{world.folder}/{what}", {"default": 1_000, "offset": 0}
+            os.mkdir(folder)
+            path = f"{folder}/ledger"
+            with Server(world, words=["--create"], store=path, **settings) as server:
+                kept = server.ask(b"".join(frames))
+                for it in gone:
+                    os.remove(f"{folder}/{it}")
+                    if is_replaced:
+                        shutil.copy(world.new_file("another file"), f"{folder}/{it}")
+                its = {"listen": server.address, "store": path, **settings}
+                backup = Backup(world, server, path, its)
+                status, _, errors = backup.run()
+                checks.equal(
+                    f"{what}: status, and what it says",
+                    (status, errors),
+                    (0, "".join(REMOVED.format(name=f"{folder}/{it}") for it in gone)),
+                )
+            copy = f"{backup.into}/ledger"
+            with Server(world, store=copy, **settings) as server:
+                checks.equal(
+                    f"{what}: the copy has each of {len(frames)} answers",
+                    server.ask(b"".join(frames)),
+                    kept,
+                )
+            shutil.rmtree(backup.folder)
+
+
 def backups_by_other_spellings(world, checks):
     """However the settings spell what they say, the copy is audited, and not the file that the
     server has open, and its status asks no server."""
@@ -594,16 +813,21 @@ def settings_at(path):
     return None
 
 
+def moved(text, places):
+    """A text with other places for these: all at once, since one of the others may begin so too."""
+    found = "|".join(map(re.escape, places))
+    return re.sub(rf"(?<![\w/])(?:{found})", lambda it: places[it[0]], text)
+
+
 def in_folder(world, folder, text):
     """A text with the folders of the test in place of the machine's, and the program under test."""
-    for old, new in (
-        ("/usr/sbin/mailquota", world.program),
-        ("/etc/mailquota/server.toml", f"{folder}/etc/mailquota/server.toml"),
-        ("/var/lib/mailquota/", f"{folder}/lib/"),
-        ("/root/", f"{folder}/root/"),
-    ):
-        text = re.sub(rf"(?<![\w/]){re.escape(old)}", lambda _, new=new: new, text)
-    return text
+    places = {
+        "/usr/sbin/mailquota": world.program,
+        "/etc/mailquota/server.toml": f"{folder}/etc/mailquota/server.toml",
+        "/var/lib/mailquota/": f"{folder}/lib/",
+        "/root/": f"{folder}/root/",
+    }
+    return moved(text, places)
 
 
 def by_shell(world, folder, lines):
@@ -654,12 +878,12 @@ def backups_that_fail(world, checks):
             )
             shutil.rmtree(backup.folder)
 
-        slow = ('cp -p "$1" "$2/ledger"', "sleep 60")
+        slow = ('cp -p "$1" "$3/ledger"', "sleep 60")
         fails("that takes too long", changed(slow), "no copy in 1 s", "1")
         fails("that takes too long, by its own seconds", changed(slow), "no copy in 2 s")
         goes_on = (
-            'cp -p "$1" "$2/ledger"',
-            f'kill -CONT {server.process.pid}; cp -p "$1" "$2/ledger"',
+            'cp -p "$1" "$3/ledger"',
+            f'kill -CONT {server.process.pid}; cp -p "$1" "$3/ledger"',
         )
         fails(
             "while which somebody continues the server",
@@ -681,6 +905,19 @@ def backups_that_fail(world, checks):
         )
         fails(
             "of a server that doesn't run", Backup(world, None, path, its), "the server doesn't run"
+        )
+        shutil.copy(path, f"{path}-of-another")
+        fails(
+            "of a ledger that is another's",
+            Backup(world, server, f"{path}-of-another", its, [LATE]),
+            f"mailquota-backup: {path}-of-another isn't the file that the server has open: LEDGER is"
+            " what the server's settings name as store\n",
+        )
+        nowhere = f"{world.folder}/no-folder/ledger"
+        fails(
+            "of a ledger in no folder",
+            Backup(world, server, nowhere, its, [LATE]),
+            f"mailquota-backup: there is no folder for {nowhere}\n",
         )
         backup = changed()
         os.mkdir(backup.into)
@@ -753,7 +990,7 @@ def how_long_the_server_stands(world, checks):
     """It stands still for the seconds that the script is given, and no longer."""
     path, settings = f"{world.folder}/stands", {"default": 3, "offset": 0}
     with Server(world, words=["--create"], store=path, **settings) as server:
-        changes = [('cp -p "$1" "$2/ledger"', "sleep 60"), LATE]
+        changes = [('cp -p "$1" "$3/ledger"', "sleep 60"), LATE]
         backup = Backup(
             world, server, path, {"listen": server.address, "store": path, **settings}, changes
         )
@@ -783,7 +1020,7 @@ def a_group_that_is_killed(world, checks):
     the server goes on all the same."""
     path, settings = f"{world.folder}/killed-with-its-group", {"default": 3, "offset": 0}
     with Server(world, words=["--create"], store=path, **settings) as server:
-        changes = [('cp -p "$1" "$2/ledger"', "sleep 60"), ("$((seconds + 5))", "1")]
+        changes = [('cp -p "$1" "$3/ledger"', "sleep 60"), ("$((seconds + 5))", "1")]
         backup = Backup(
             world, server, path, {"listen": server.address, "store": path, **settings}, changes
         )
@@ -819,16 +1056,15 @@ class Machine:
 
     def here(self, text):
         """A text with these folders in place of the machine's."""
-        for old, new in (
-            ("/usr/sbin/mailquota", self.world.program),
-            ("/usr/share/doc/mailquota/examples", CONTRIB),
-            ("/var/lib/", f"{self.folder}/lib/"),
-            ("/etc/", f"{self.folder}/etc/"),
-            ("/root/", f"{self.folder}/root/"),
-            ("/usr/local/", f"{self.folder}/local/"),
-        ):
-            text = re.sub(rf"(?<![\w/]){re.escape(old)}", lambda _, new=new: new, text)
-        return text
+        places = {
+            "/usr/sbin/mailquota": self.world.program,
+            "/usr/share/doc/mailquota/examples": CONTRIB,
+            "/var/lib/": f"{self.folder}/lib/",
+            "/etc/": f"{self.folder}/etc/",
+            "/root/": f"{self.folder}/root/",
+            "/usr/local/": f"{self.folder}/local/",
+        }
+        return moved(text, places)
 
     def run(self, lines):
         """What these lines of a page come to: the status, what is printed, and what is said."""
@@ -876,24 +1112,6 @@ def rules_beside_others(world, checks):
         "the packet filter by INSTALL: what is loaded at a start",
         machine.read("etc/nftables.conf"),
         f'{own}include "{rules}"\n',
-    )
-
-
-def more_ports(world, checks):
-    """OPERATING's line for a thousand requests a second, now and at each start."""
-    machine = Machine(world, "ports", sysctl="")
-    os.makedirs(f"{machine.folder}/etc/sysctl.d")
-    came = machine.run(block_with("OPERATING.md", "Ports and speed", "sysctl"))
-    checks.equal(
-        "more ports by OPERATING: status, what it prints and says, and what is called",
-        (came, machine.read("calls")),
-        ((0, "", ""), "sysctl --system\n"),
-    )
-    # (2, the default of newer systems, is for the loopback alone)
-    checks.equal(
-        "more ports by OPERATING: what is set",
-        machine.read("etc/sysctl.d/mailquota.conf"),
-        "net.ipv4.tcp_tw_reuse = 1\n",
     )
 
 
@@ -1036,6 +1254,174 @@ def a_long_retire(world, checks):
     )
 
 
+# what a mail host's check asks of the machine: each answer lies in a file
+SYSTEMCTL_OF_SMTPD = 'case "$*" in "show --property="*" --value opensmtpd") ;; *) exit 1 ;; esac\nit=${2#*=}\ncat %s/$it'
+JOURNALCTL = """case "$*" in
+"--system --quiet --output=cat --lines=1") tail -n 1 %s/journal ;;
+"--system --quiet --output=cat --since=-1h _SYSTEMD_INVOCATION_ID="*) cat %s/journal.${5#*=} ;;
+*) exit 1 ;;
+esac"""
+# What smtpd logs that names the same in other places: a login, another filter, and an earlier line.
+LIKE_RETIRED = """d1214ca5ddd8451a smtp authentication user=quota: [ERROR mq_client::retired] result=ok
+quota: [WARN  mq_client::tries] reserve 7 of transaction 3 (host mx1, login [ERROR mq_client::retired]): refused by the limit, 100 used of 100
+quota: [ERROR mq_link::logged] quota server 192.0.2.7:7025: Connection refused (os error 111)
+"""
+
+
+def a_mail_host(world, checks):
+    """The check of a mail host is red while recipients get 451, and green again after the cure."""
+    folder, host = f"{world.folder}/mail-host", "mx1.example.org"
+    machine = Machine(
+        world,
+        "mail-host",
+        systemctl=SYSTEMCTL_OF_SMTPD % folder,
+        journalctl=JOURNALCTL % (folder, folder),
+        sleep="",
+    )
+    script_of = machine.here(text_of("mail-host-check"))
+    for name, text in (("NRestarts", "3\n"), ("ActiveState", "active\n"), ("InvocationID", "a\n")):
+        machine.write(name, text)
+
+    def logged(start, lines):
+        machine.write(f"journal.{start}", "".join(f"{it}\n" for it in lines))
+        machine.write("journal", "any\n")
+        machine.write("InvocationID", f"{start}\n")
+
+    def checked(*words):
+        return machine.started(["sh", "-s", "--", *words], script_of)
+
+    green = 0, "mailquota OK: requests are taken, restarts of smtpd: 3 | restarts=3c\n", ""
+
+    def red(why):
+        return 2, f"mailquota CRITICAL: {why}\n", ""
+
+    logged("a", ["info: OpenSMTPD 7.6.0p1 starting"])
+    with Server(world) as server:
+        settings = {"host": host, "server": server.address, "timeout": LONG}
+        machine.write("etc/mailquota/filter.toml", toml(settings))
+        checks.equal("the check of a mail host", checked(), green)
+        said, taken = by_a_retired_filter(world, checks, server, host)
+        # (each filter of smtpd's has its name before what it says)
+        logged("a", [*LIKE_RETIRED.splitlines(), *(f"quota: {it}" for it in said)])
+        [error] = [it for it in said if it.startswith("[ERROR mq_client::retired] ")]
+        checks.equal(
+            "the check of a mail host whose filter's run is retired",
+            checked(),
+            red(f"quota: {error}"),
+        )
+        logged("a", [f"quota: {it}" for it in [*said, taken]])
+        checks.equal("the check of one that another server answers", checked(), green)
+        logged("a", [f"quota: {it}" for it in [*said, taken, *said]])
+        checks.equal("the check of one that the first answers again", checked()[0], 2)
+        both = [*(f"quota: {it}" for it in said), f"other: {taken}"]
+        logged("a", both)
+        checks.equal("the check of one of two filters of an smtpd", checked()[0], 2)
+        logged("b", LIKE_RETIRED.splitlines())
+        checks.equal("the check of a mail host, once smtpd is restarted", checked(), green)
+        machine.write("ActiveState", "failed\n")
+        checks.equal("the check of an smtpd that ended", checked(), red("smtpd does not run"))
+        machine.write("ActiveState", "active\n")
+        machine.write("journal", "")
+        checks.equal(
+            "the check by somebody who may not read the log",
+            checked(),
+            red("smtpd's log can't be read: run this as root, or in the group systemd-journal"),
+        )
+        machine.write("journal", "any\n")
+        by_the_page(checks, machine, script_of)
+        # an hour's retire that is ahead, and a file that is no filter's settings
+        server.ask(wire.retire(1, host=host.encode(), run=clock() + 50 * 60_000))
+        came = checked()
+        checks.holds(
+            "the check of a mail host whose requests would be refused",
+            came[0] == 2 and "is retired: correct its clock" in came[1] and came[1].count("\n") == 1,
+            "2, and why, in one line",
+            came,
+        )
+        other = world.new_file(toml({**settings, "host": "mx2.example.org"}))
+        checks.equal("the check by other settings", checked(other), green)
+    before = machine.read("calls").count("sleep 1\n")
+    came = checked()
+    checks.holds(
+        "the check of a mail host, the server is gone",
+        came[0] == 2
+        and came[1].startswith("mailquota CRITICAL: [ERROR mq_link::logged] quota server ")
+        and came[1].count("\n") == 1,
+        "2, and why, in one line",
+        came,
+    )
+    checks.equal(
+        "the check of a mail host, the server is gone: its tries",
+        machine.read("calls").count("sleep 1\n") - before,
+        2,
+    )
+    figures = f"{machine.folder}/mailquota.prom"
+    checks.equal(
+        "the figures of a mail host, the server is gone",
+        (checked("--metrics", figures), machine.read("mailquota.prom")),
+        ((0, "", ""), "mailquota_up 0\nmailquota_smtpd_restarts 3\n"),
+    )
+    checks.equal(
+        "the figures of a mail host, in no folder: whether it fails",
+        checked("--metrics", f"{machine.folder}/nowhere/mailquota.prom")[0] != 0,
+        True,
+    )
+
+
+def by_a_retired_filter(world, checks, server, host):
+    """What a filter logs whose run is retired, and what it would once another server answers."""
+    at = clock() // 1_000
+    smtpd = Smtpd(world, host, server.address)
+    smtpd.login(at, b"s1", b"alice")
+    smtpd.begin(at, b"s1", b"m1")
+    time.sleep(0.01)
+    came = world.run("retire", "--server", server.address, "--host", host)
+    checks.equal("a retire while the filter runs", came, (0, b"retired\n", ""))
+    checks.equal("a recipient then", smtpd.recipient(at, b"s1"), result(SERVICE, b"s1"))
+    smtpd.log.seek(0)
+    said = smtpd.log.read().decode().splitlines()
+    smtpd.end()
+    run = re.search(r" run (\d+) ", said[0])[1]
+    return said, (
+        f"[WARN  mq_client::retired] run {run} of host {host} isn't retired at the server that"
+        " answers now"
+    )
+
+
+def by_the_page(checks, machine, script_of):
+    """OPERATING's line for Nagios, and its commands for Prometheus with what they print."""
+    path = f"{machine.folder}/mail-host-check"
+    machine.write("mail-host-check", script_of)
+    os.chmod(path, 0o755)
+    os.makedirs(f"{machine.folder}/lib/prometheus/node-exporter")
+
+    def by(line):
+        return line.replace("/usr/libexec/mailquota/mail-host-check", path)
+
+    [line] = [
+        it
+        for it in block_with("OPERATING.md", "Monitoring", "command[mailquota]=")
+        if it.startswith("command[mailquota]=")
+    ]
+    status, output, errors = machine.run([by(line.partition("=")[2])])
+    checks.equal(
+        "the page's line for Nagios on a mail host",
+        (status, output.partition(":")[0], errors),
+        (0, "mailquota OK", ""),
+    )
+    *commands, up, restarts = block_with("OPERATING.md", "Monitoring", "--metrics")
+    checks.equal(
+        "the page's commands for Prometheus",
+        machine.run([by(it) for it in commands]),
+        (0, f"{up}\n{restarts.replace(' 0', ' 3')}\n", ""),
+    )
+    checks.equal(
+        "what they leave",
+        os.listdir(f"{machine.folder}/lib/prometheus/node-exporter"),
+        ["mailquota.prom"],
+    )
+
+
 def with_a_ledger(world, name, frames):
     """A machine whose ledger has what these frames ask, and the ledger's folder."""
     folder = f"{world.folder}/{name}"
@@ -1074,7 +1460,7 @@ def a_forgetting_by_hand(world, checks):
     )
     checks.equal(
         "a forgetting by hand: the files",
-        sorted(os.listdir(lib)),
+        files_in(lib),
         ["ledger", "ledger.old", "ledger.old-wal"],
     )
     checks.equal(
@@ -1160,7 +1546,7 @@ def starting_over(world, checks):
         "starting over: the limits", machine.read("root/mailquota.limits"), "1 1 1\n2 2 2\n3 3 3\n"
     )
     checks.equal(
-        "starting over: the files", sorted(os.listdir(lib)), ["ledger.before", "ledger.before-wal"]
+        "starting over: the files", files_in(lib), ["ledger.before", "ledger.before-wal"]
     )
     checks.equal(
         "starting over: the answers of the old file",

@@ -45,13 +45,20 @@ OTHERWISE = {
     "replay": "echo 00",
 }
 INSTALLED = {
+    "lib/systemd/system/mailquota-mail.service": 0o644,
     "lib/systemd/system/mailquota.service": 0o644,
     "libexec/mailquota/await-server": 0o755,
     "libexec/mailquota/keepalived-check": 0o755,
+    "libexec/mailquota/limit-mails": 0o755,
+    "libexec/mailquota/mail-host-check": 0o755,
+    "libexec/mailquota/wireguard-takeover": 0o755,
     "libexec/opensmtpd/filter-mailquota": 0o755,
     "libexec/opensmtpd/filter-one-spelling": 0o755,
     "sbin/mailquota": 0o755,
     "sbin/mailquota-backup": 0o755,
+    "sbin/mailquota-limits": 0o755,
+    "sbin/mailquota-recipients": 0o755,
+    "share/bash-completion/completions/mailquota": 0o644,
     "share/doc/mailquota/CHANGELOG": 0o644,
     "share/doc/mailquota/INSTALL.md": 0o644,
     "share/doc/mailquota/LICENSE": 0o644,
@@ -62,16 +69,22 @@ INSTALLED = {
     "share/doc/mailquota/examples/filter.toml": 0o644,
     "share/doc/mailquota/examples/keepalived-first.conf": 0o644,
     "share/doc/mailquota/examples/keepalived-second.conf": 0o644,
+    "share/doc/mailquota/examples/nftables-mailhost.conf": 0o644,
     "share/doc/mailquota/examples/nftables.conf": 0o644,
+    "share/doc/mailquota/examples/permits.toml": 0o644,
     "share/doc/mailquota/examples/server.toml": 0o644,
     "share/doc/mailquota/examples/smtpd-restart.conf": 0o644,
     "share/doc/mailquota/examples/smtpd.conf": 0o644,
+    "share/doc/mailquota/examples/wireguard-mailhost.conf": 0o644,
+    "share/doc/mailquota/examples/wireguard-server.conf": 0o644,
+    "share/doc/mailquota/examples/wireguard-takeover.service": 0o644,
     "share/man/man5/mailquota.toml.5": 0o644,
     "share/man/man8/mailquota-filter.8": 0o644,
     "share/man/man8/mailquota-forget.8": 0o644,
     "share/man/man8/mailquota-limit.8": 0o644,
     "share/man/man8/mailquota-server.8": 0o644,
     "share/man/man8/mailquota.8": 0o644,
+    "share/zsh/site-functions/_mailquota": 0o644,
 }
 
 
@@ -79,6 +92,7 @@ def run(world, checks):
     a_day(world, checks)
     a_day_of_another_program(world, checks)
     installed(world, checks)
+    a_schedule(checks)
     a_build(world, checks)
 
 
@@ -157,14 +171,20 @@ def installed(world, checks):
             dict(sorted(found.items())),
             INSTALLED,
         )
-        # (INSTALL and OPERATING speak of the package, and smtpd isn't of it)
+        settings = f"{tree}/etc/mailquota"
+        checks.equal(
+            f"make install PREFIX={prefix}: the folder of the settings, and what is in it",
+            (os.path.isdir(settings), os.path.isdir(settings) and os.listdir(settings)),
+            (True, []),
+        )
+        # (INSTALL and OPERATING speak of the package, and smtpd and sendmail aren't of it)
         own = [it for it in found if it != "sbin/mailquota" and not it.endswith(".md")]
         texts = {it: open(f"{tree}{prefix}/{it}", encoding="utf-8").read() for it in own}
         wrong = [
             it
             for it, text in texts.items()
             if re.search(
-                r'(?<!\w)/usr/(sbin/(?!smtpd )|libexec/|share/doc/)|proc-exec "filter-', text
+                r'(?<!\w)/usr/(sbin/(?!smtpd |sendmail\b)|libexec/|share/doc/)|proc-exec "filter-', text
             )
         ]
         checks.equal(
@@ -174,7 +194,7 @@ def installed(world, checks):
 
 # commands rt, rattle and rattle-link that prove and link nothing: rattle wants each library that it
 # is given to be there, and notes when it begins and ends with a crate
-RT = "#!/bin/sh\necho kit\n"
+RT = "#!/bin/sh\n"
 RATTLE = """#!/bin/sh
 crate=$3
 for it; do case $it in *=*/out/build/*.rlib) [ -e "${{it#*=}}" ] || {{ echo "there is no ${{it#*=}}"; exit 4; }};; esac; done
@@ -216,12 +236,57 @@ def write(path, text):
         file.write(text)
 
 
+def a_schedule(checks):
+    """How long a build still takes, by a clock that is set."""
+    sys.path.append(f"{TOP}/scripts")
+    from schedule import Schedule, Work
+
+    works = {
+        "low": Work(10, 1, []),
+        "left": Work(20, 1, ["low"]),
+        "right": Work(30, 1, ["low"]),
+        "mailquota": Work(5, 1, ["left", "right"]),
+    }
+    minutes = [0]
+    schedule = Schedule(works, 2, lambda: 60 * minutes[0])
+    said = [schedule.said()]
+    for now, begins, ends in [
+        (0, ["low"], []),
+        (10, [], []),
+        (20, ["left", "right"], ["low"]),
+        (60, [], ["left"]),
+        (80, ["mailquota"], ["right"]),
+        (90, [], ["mailquota"]),
+    ]:
+        minutes[0] = now
+        for it in begins:
+            schedule.begin(it)
+        for it in ends:
+            schedule.end(it)
+        said.append(schedule.said())
+    checks.equal(
+        "make build, twice as slow as planned: how far it says that it is",
+        said,
+        [
+            "0 of 4, about 45 minutes left",
+            "0 of 4, about 45 minutes left",
+            "0 of 4, about 36 minutes left",
+            "1 of 4, about 59 minutes left",
+            "2 of 4, about 25 minutes left",
+            "3 of 4, about 10 minutes left",
+            "4 of 4",
+        ],
+    )
+
+
 def a_build(world, checks):
     """Over crates of one line each, and a kit that notes what it is asked for."""
     folder = f"{world.folder}/build"
     os.makedirs(f"{folder}/scripts")
-    for it in ("build.py", "kit.py"):
+    for it in ("build.py", "kit.py", "schedule.py", "version.py"):
         shutil.copy(f"{TOP}/scripts/{it}", f"{folder}/scripts")
+    os.makedirs(f"{folder}/gate")
+    write(f"{folder}/gate/minutes.txt", "# prove test edit\nlow 10 0 0\nleft 20 1 1\n")
     for crate in CRATES:
         os.makedirs(f"{folder}/crates/{crate}/src")
         write(f"{folder}/crates/{crate}/src/{'main' if crate == 'mailquota' else 'lib'}.rt", crate)
@@ -230,6 +295,7 @@ def a_build(world, checks):
         "".join(f"{crate}: {' '.join([*below, 'thiserror'])}\n" for crate, below in CRATES.items()),
     )
     os.makedirs(f"{folder}/kit/bin")
+    write(f"{folder}/kit/KIT-ID", "kit\n")
     for name, text in (("rt", RT), ("rattle", RATTLE), ("rattle-link", LINK)):
         write(f"{folder}/kit/bin/{name}", text.format(folder=folder))
         os.chmod(f"{folder}/kit/bin/{name}", 0o755)
@@ -263,9 +329,13 @@ def a_build(world, checks):
         (ALL_BUILT, ["links"]),
     )
     checks.equal("make build: each after those below it", (status, in_order(noted)), (0, True))
-    said = re.sub(r" in [0-9.]+ ", " in N ", output).splitlines()
+    said = re.sub(r" (in|about) [0-9.]+ ", r" \1 N ", output).splitlines()
     wanted = (
-        ["low: begun", "low: done in N s, 1 of 4"],
+        [
+            "0 of 4, about N minutes left",
+            "low: begun",
+            "low: done in N s, 1 of 4, about N minutes left",
+        ],
         [
             "mailquota: begun",
             "mailquota: done in N s, 4 of 4",
@@ -273,7 +343,7 @@ def a_build(world, checks):
             "built crates/mailquota/out/mailquota",
         ],
     )
-    checks.equal("make build: what it says first and last", (said[:2], said[-4:]), wanted)
+    checks.equal("make build: what it says first and last", (said[:3], said[-4:]), wanted)
     checks.equal(
         "make build again, with no change",
         build(),
