@@ -16,7 +16,7 @@ BASHDIR = $(PREFIX)/share/bash-completion/completions
 ZSHDIR = $(PREFIX)/share/zsh/$(if $(filter /usr,$(PREFIX)),vendor-completions,site-functions)
 CONFDIR = /etc/mailquota
 
-.PHONY: all build demo check everything commands edits bodies test refusals smtpd takeover deb dist package-tests install clean
+.PHONY: all build demo check everything commands edits bodies test refusals smtpd takeover deb dist package-tests upgrade-tests install clean
 
 all: build
 
@@ -82,6 +82,11 @@ dist:
 # The package in Debian 13, on a server and two mail hosts, by INSTALL's words: wants root, debootstrap, iproute2, openssl and systemd-container.
 package-tests: deb
 	@bash tests/package/run.sh
+
+# From the package of an earlier release (scripts/release.py) to this one under load, on two quota servers and two mail hosts, and back: wants what
+# package-tests wants, and a clone with its history.
+upgrade-tests: deb
+	@bash tests/upgrade/run.sh
 
 # The texts name the package's places, those of PREFIX=/usr, where smtpd looks for its filters too.
 PLACES = -e 's|/usr/sbin/mailquota|$(SBINDIR)/mailquota|g' -e 's|/usr/libexec/|$(LIBEXECDIR)/|g' -e 's|/usr/share/doc/mailquota|$(DOCDIR)|g'

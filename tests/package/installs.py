@@ -2,35 +2,31 @@
 what is typed there is run as it stands. run.sh starts it, in namespaces of its own.
 """
 import argparse
-import os
 import re
 import sys
 from pathlib import Path
 
-HERE = Path(__file__).resolve().parent
-os.environ.setdefault("SMTPD_ROOT", "/nowhere")
-sys.path[:0] = [str(HERE), str(HERE.parent / "smtpd"), str(HERE.parent / "program")]
 sys.dont_write_bytecode = True
 
-from host import session_at, wait_for
-from machines import WORK, Machine, NoBoot, PlainMachine
+from acts import (
+    LOGINS,
+    install,
+    kind_of_machine,
+    make_mail_host,
+    note,
+    play,
+    recipients,
+    report,
+    set_up_mail_host,
+    steps,
+    tell_counts,
+    upgrade_filter,
+)
+from machines import WORK
 from pages import block_with, blocks_of
 from senders import Sender, end_all
 from switch import call, make_switch, wait_until
 
-SERVER = "192.0.2.7:7025"
-# What stands at the head of a command; all other lines of a block are what a command prints.
-COMMAND = re.compile(r"(apt|cp|mkdir|mv|rm|mailquota|systemctl|smtpd|nft|echo) ")
-# The smtpd.conf of a mail host before it has a filter: its mail goes nowhere.
-BEFORE = """pki mx1.example.org cert "/etc/ssl/mx1.example.org.crt"
-pki mx1.example.org key "/etc/ssl/private/mx1.example.org.key"
-table credentials file:/etc/mail/credentials
-{listen}
-action "outbound" mda "true" virtual {{ "@" = nobody }}
-match auth from any for any action "outbound"
-"""
-LISTEN = "listen on {address} port 587 tls-require pki mx1.example.org auth <credentials>"
-LOGINS = [f"u{number:02}" for number in range(1, 9)]
 # A server as `make install` of 0.1.0 made one.
 OLD_SETTINGS = (
     'listen = "192.0.2.8:7025"\nstore = "/var/lib/mailquota/ledger"\ndefault = 1000\noffset = 0\n'
@@ -53,51 +49,6 @@ TIMER = {
     "mailquota-forget.service": "[Service]\nType=oneshot\nExecStart=/bin/true\n",
     FORGETS: "[Timer]\nOnCalendar=*-*-* 03:30\n[Install]\nWantedBy=timers.target\n",
 }
-
-failed = 0
-
-
-def note(what, came, wanted):
-    """Prints what came; it has to be what is wanted."""
-    global failed
-    failed += came != wanted
-    print(
-        f"{what}: {came}" if came == wanted else f"NOT {what}: {came}, and not {wanted}", flush=True
-    )
-
-
-def steps(block):
-    """The commands of a block, each with what it prints by the page."""
-    found = []
-    for line in block:
-        if found and found[-1][0].endswith("\\"):
-            found[-1] = (f"{found[-1][0][:-1]}{line.strip()}", [])
-        elif COMMAND.match(line):
-            found.append((line, []))
-        else:
-            found[-1][1].append(line)
-    return found
-
-
-def play(machine, block, changes=()):
-    """Types a block of INSTALL at a machine: each command goes well, and prints what the page
-    shows."""
-    for command, shown in steps(block):
-        for old, new in changes:
-            shown = [line.replace(old, new) for line in shown]
-        status, said = machine.by_shell([command])
-        came = (status, said.splitlines() if shown or status else shown)
-        note(f"{machine.name}: {command.partition('  #')[0].strip()}", came, (0, shown))
-
-
-def install(machine, package):
-    """Types the first command of INSTALL, with this package in place of the one of that name."""
-    [[command]] = [it for it in blocks_of("INSTALL.md", "The package")]
-    name = re.search(r"\./(\S+)", command)[1]
-    (machine.root / "root" / name).write_bytes(package.read_bytes())
-    status, said = machine.by_shell([command])
-    note(f"{machine.name}: {command}", (status, said[-500:] if status else ""), (0, ""))
-    return [line for line in said.splitlines() if line.startswith("mailquota: ")]
 
 
 def installed(machine, version):
@@ -128,12 +79,12 @@ def installed(machine, version):
 
 
 def set_up_server(quota):
-    settings, addresses, makes, starts, filters = [
+    settings, addresses, permits, makes, starts, filters = [
         it
         for it in blocks_of("INSTALL.md", "The quota server")
         if not any("useradd" in line for line in it)
     ]
-    for block in (settings, addresses, makes, starts, filters):
+    for block in (settings, addresses, permits, makes, starts, filters):
         play(quota, block)
     note(
         "quota: whom the packet filter lets through",
@@ -142,73 +93,6 @@ def set_up_server(quota):
         ),
         ["192.0.2.1", "192.0.2.2", "192.0.2.9"],
     )
-
-
-def make_mail_host(machine):
-    """smtpd with a listener that requires a login, as it is before mailquota is installed."""
-    folder = WORK / "certificate"
-    folder.mkdir(exist_ok=True)
-    if not (folder / "key").exists():
-        words = [
-            "-newkey",
-            "rsa:2048",
-            "-nodes",
-            "-days",
-            "30",
-            "-subj",
-            "/CN=mx1.example.org",
-            "-keyout",
-            folder / "key",
-            "-out",
-            folder / "certificate",
-        ]
-        call("openssl", "req", "-x509", *words)
-    secret = call("openssl", "passwd", "-6", "secret").stdout.strip()
-    machine.write("/etc/mail/credentials", "".join(f"{it} {secret}\n" for it in ["alice", *LOGINS]))
-    machine.write("/etc/ssl/mx1.example.org.crt", (folder / "certificate").read_text())
-    machine.write("/etc/ssl/private/mx1.example.org.key", (folder / "key").read_text(), 0o600)
-    machine.write("/etc/smtpd.conf", BEFORE.format(listen=LISTEN.format(address=machine.address)))
-    machine.shown("systemctl", "restart", "opensmtpd")
-
-
-def set_up_mail_host(machine, host):
-    settings, tests, lines, restarts, again = blocks_of("INSTALL.md", "Each mail host")
-    play(machine, settings)
-    if host != "mx1.example.org":
-        machine.edit("/etc/mailquota/filter.toml", "mx1.example.org", host)
-    play(machine, tests, [("mx1.example.org", host)])
-    listen = LISTEN.format(address=machine.address)
-    machine.edit(
-        "/etc/smtpd.conf", listen, "\n".join(lines).replace("192.0.2.1 ", f"{machine.address} ")
-    )
-    play(machine, restarts)
-    return again
-
-
-def recipients(machine, login, count):
-    """What so many recipients of a message are answered."""
-    wait_for(587, machine.address)
-    smtp = session_at(587, login, machine.address)
-    smtp.mail("a@quota.test")
-    answers = [smtp.rcpt(f"r{number}@example.test") for number in range(count)]
-    if any(code == 250 for code, _ in answers):
-        smtp.data(b"Subject: hello\r\n\r\nhello\r\n")
-    smtp.quit()
-    return [f"{code} {text.decode()}" if code != 250 else "250" for code, text in answers]
-
-
-def report(quota):
-    """Of each login what is settled, what is reserved, and its limit."""
-    today = quota.shown("mailquota", "day", "--config", "/etc/mailquota/server.toml").strip()
-    rows = [
-        line.split()
-        for line in quota.shown(
-            "mailquota", "report", "--server", SERVER, "--day", today
-        ).splitlines()
-    ]
-    return {
-        login: (int(settled), int(reserved), int(limit)) for settled, reserved, limit, login in rows
-    }
 
 
 def first_550(quota, hosts):
@@ -224,6 +108,32 @@ def first_550(quota, hosts):
         "mx2: alice to another", recipients(two, "alice", 1), ["550 daily recipient limit reached"]
     )
     note("the report of alice", report(quota).get("alice"), (2, 0, 2))
+
+
+def retired_by_mistake(host):
+    """Somebody retires this host while its filter runs: the check of a mail host is red until
+    smtpd is restarted."""
+    check = "/usr/libexec/mailquota/mail-host-check"
+    note(f"{host.name}: its check", host.run(check)[0], 0)
+    host.shown("mailquota", "retire")
+    note(
+        f"{host.name}, retired by mistake: alice",
+        recipients(host, "alice", 1),
+        ["451 quota service unavailable"],
+    )
+    status, said = host.run(check)
+    note(
+        f"{host.name}, retired by mistake: its check",
+        (status, "is retired, recipients are answered 451" in said),
+        (2, True),
+    )
+    host.shown("systemctl", "restart", "opensmtpd")
+    note(
+        f"{host.name}, smtpd restarted: alice",
+        recipients(host, "alice", 1),
+        ["550 daily recipient limit reached"],
+    )
+    note(f"{host.name}, smtpd restarted: its check", host.run(check)[0], 0)
 
 
 def changed(package, name, version, change=lambda folder: None):
@@ -264,13 +174,6 @@ def run_timer(quota, package):
     )
 
 
-def filter_of(machine):
-    """The process that the filter is."""
-    return machine.shown(
-        "sh", "-c", "grep -lsa ^/usr/sbin/mailquota.filter /proc/[0-9]*/cmdline || :"
-    ).split()
-
-
 def upgrade(quota, hosts, package):
     """Under load the server is restarted, and no smtpd; each recipient is answered, and each that
     was accepted counts."""
@@ -309,19 +212,7 @@ def upgrade(quota, hosts, package):
         True,
     )
     for host in hosts:
-        runs = (host.main_pid("opensmtpd"), filter_of(host))
-        said = " ".join(install(host, package))
-        note(
-            f"{host.name}, upgraded under load: it says when to restart smtpd",
-            "Once the quota server is upgraded too" in said
-            and "systemctl restart opensmtpd" in said,
-            True,
-        )
-        note(
-            f"{host.name}, upgraded: smtpd and its filter run on",
-            (host.main_pid("opensmtpd"), filter_of(host)),
-            runs,
-        )
+        upgrade_filter(host, package)
     end_all(senders)
     codes = [code for it in senders for _, _, code in it.answers]
     note(
@@ -390,9 +281,9 @@ def remove_and_install_again(quota, host, package):
         [False, True],
     )
     install(quota, package)
-    settings, addresses, makes, starts, _, _ = blocks_of("INSTALL.md", "The quota server")
-    play(quota, settings)
-    play(quota, addresses)
+    settings, addresses, permits, makes, starts, *_ = blocks_of("INSTALL.md", "The quota server")
+    for block in (settings, addresses, permits):
+        play(quota, block)
     [(init, _)] = steps(makes)
     status, said = quota.by_shell([init])
     note(
@@ -488,7 +379,7 @@ def from_usr_local(old, package):
     left = old.shown("find", "/usr/local", "-name", "mailquota*").splitlines()
     note("old: what is left below /usr/local", left, [])
     install(old, package)
-    settings, addresses, makes, starts, *_ = blocks_of("INSTALL.md", "The quota server")
+    _, addresses, _, _, starts, *_ = blocks_of("INSTALL.md", "The quota server")
     play(old, addresses)
     play(old, [it.replace("192.0.2.7", "192.0.2.8") for it in starts])
     note(
@@ -506,25 +397,10 @@ def start_over(quota):
         "-c",
         "cd /var/lib/mailquota && mv ledger ledger.before && mv ledger-wal ledger.before-wal",
     )
-    _, _, makes, starts, _, _ = blocks_of("INSTALL.md", "The quota server")
+    _, _, _, makes, starts, *_ = blocks_of("INSTALL.md", "The quota server")
     play(quota, makes)
     play(quota, starts)
     note("quota, started over: the report", report(quota), {})
-
-
-def kind_of_machine():
-    """Machines with systemd, if it boots in a container here."""
-    if os.environ.get("WITHOUT_SYSTEMD"):
-        return PlainMachine
-    try:
-        Machine("tried", "192.0.2.99", "plain").end()
-    except NoBoot as why:
-        print(
-            "systemd doesn't boot in a container here, so maintainer scripts and the units' own"
-            f" commands are tried:\n{why}"
-        )
-        return PlainMachine
-    return Machine
 
 
 def main():
@@ -563,6 +439,8 @@ def main():
                 host.shown("sh", "-c", f"{log} | grep -x retired | sort -u").strip(),
                 "retired",
             )
+        if kind.has_systemd:
+            retired_by_mistake(hosts[0])
         run_timer(quota, changed(package, "former", f"{version}+former", add_timer))
         upgraded = changed(package, "later", f"{version}+later")
         upgrade(quota, hosts, upgraded)
@@ -574,8 +452,7 @@ def main():
     finally:
         for machine in machines:
             machine.end()
-    print("all as it is to be" if not failed else f"{failed} not as they are to be")
-    return 1 if failed else 0
+    return tell_counts()
 
 
 if __name__ == "__main__":

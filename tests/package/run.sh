@@ -5,51 +5,14 @@
 # usage: run.sh [PACKAGE]    by default the one that `make deb` made
 #        WITHOUT_SYSTEMD=1 run.sh ..    without booting: maintainer scripts, and the lines of units that start something; so too where systemd does not boot
 #
-# It wants root, debootstrap, systemd-container, iproute2, openssl and python3, and once the mirror of Debian that the machine's own package list names.
-# The folders are kept in PACKAGE_ROOT (/var/tmp/mailquota-package). All else is in namespaces of its own, and all processes end with it.
+# bases.sh says what it wants. All but the folders there is in namespaces of its own, and all processes end with it.
 set -euo pipefail
 
 here=$(cd "$(dirname "$0")" && pwd)
 version=$(sed -n '1s/.*(\(.*\)).*/\1/p' "$here/../../debian/changelog")
 package=$(realpath "${1:-$here/../../dist/mailquota_${version}_amd64.deb}")
-root=${PACKAGE_ROOT:-/var/tmp/mailquota-package}
-mirror=$(cat /etc/apt/sources.list /etc/apt/sources.list.d/* 2>/dev/null | grep -v '^#' | grep -oE 'https?://[^ ]+/debian/?' | head -n 1 || true)
-if [ "$(id -u)" -ne 0 ]; then
-    echo 'package-tests wants root' >&2
-    exit 1
-fi
+. "$here/bases.sh"
 
-# make_base NAME COMMAND..: the folder of a system, which this command makes in NAME.part
-make_base() {
-    local name=$1
-    shift
-    if [ ! -d "$root/$name" ]; then
-        if [ -z "$mirror" ]; then
-            echo "the machine's package list names no mirror of Debian to fetch a system from" >&2
-            exit 1
-        fi
-        rm -rf "$root/$name.part"
-        "$@" >&2
-        mv "$root/$name.part" "$root/$name"
-    fi
-}
-
-make_plain() {
-    timeout 30m debootstrap --variant=minbase --include=systemd-sysv,dbus,ca-certificates,iproute2,nftables trixie "$root/plain.part" "$mirror"
-}
-
-# with_packages NAME PACKAGES..: the plain system with these
-with_packages() {
-    local part=$root/$1.part
-    shift
-    cp -a "$root/plain" "$part"
-    printf '#!/bin/sh\nexit 101\n' >"$part/usr/sbin/policy-rc.d"
-    chmod +x "$part/usr/sbin/policy-rc.d"
-    timeout 30m chroot "$part" env DEBIAN_FRONTEND=noninteractive apt-get install -y --no-install-recommends "$@"
-    rm "$part/usr/sbin/policy-rc.d"
-}
-
-mkdir -p "$root"
 make_base plain make_plain
 make_base mail with_packages mail opensmtpd
 make_base lint with_packages lint lintian
