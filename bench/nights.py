@@ -9,6 +9,9 @@ host and settled. The server keeps these days, by a clock of the tests.
     retire      the run of that host, six tenths of an answer a login, and that of the other one
     renewal     a night: all kinds of requests while one of the days leaves, and the switch
     retired     the same after a retire of that host's run, which the new file takes over too
+    hosts       200 reserves a second of eight hosts, before a night and in it: how long one takes
+                from the moment at which it was due, over connections that hosts keep, and over new
+                ones
 
 The files lie in a folder of TMPDIR. The machine's load stands first.
 """
@@ -19,6 +22,7 @@ import random
 import statistics
 import sys
 import tempfile
+import threading
 import time
 
 # (by which those of tests/program are found)
@@ -34,6 +38,8 @@ HOST, OTHER = b"mx1.example.org", b"mx2.example.org"
 KINDS = ("reserve", "settle", "usage", "list", "quiet list", "limit", "refused limit")
 # requests of each kind
 EACH = 1_000
+# so many hosts ask so often together, first for so many seconds without a night
+HOSTS, A_SECOND, BEFORE_NIGHT = 8, 200, 20
 # seconds of a day, before a quarter of an hour to 03:00, and after it
 BEFORE, AFTER = 10_000, 10_900
 
@@ -60,6 +66,12 @@ def shown(seconds):
     return f"{1e3 * seconds:.2f}"
 
 
+def shown_times(taken):
+    order = sorted(taken)
+    some = [statistics.median(order), order[len(order) * 99 // 100], *order[:-4:-1]]
+    return f"{len(order)}, median, 99% and the slowest three {' '.join(map(shown, some))} ms"
+
+
 class Times:
     """Seconds of some requests, by the clock and of a processor."""
 
@@ -71,12 +83,10 @@ class Times:
         self.worked.append(worked)
 
     def __str__(self):
-        order = sorted(self.taken)
-        by_clock = [statistics.median(order), order[len(order) * 99 // 100], *order[:-4:-1]]
         worked = [statistics.median(self.worked), max(self.worked)]
         return (
-            f"{len(order)}, median, 99% and the slowest three {' '.join(map(shown, by_clock))}"
-            f" ms; of a processor, median and slowest, {' '.join(map(shown, worked))} ms"
+            f"{shown_times(self.taken)}; of a processor, median and slowest,"
+            f" {' '.join(map(shown, worked))} ms"
         )
 
 
@@ -252,7 +262,67 @@ def renewal(world, source, logins, before=()):
         print(f"  the file, and the former one: {' and '.join(sizes)}; memory {memory} MB")
 
 
-PARTS = {"requests": requests, "retire": retire, "renewal": renewal, "retired": retired}
+class Host(threading.Thread):
+    """A host that reserves so often, by a plan that no reply puts off, until it is told to end."""
+
+    def __init__(self, server, place, begins, keeps, logins):
+        super().__init__()
+        self.begins, self.keeps = begins + place / A_SECOND, keeps
+        self.peer = Peer(server, b"mx%d" % place, [TODAY, TODAY + 1], logins)
+        # each with the moment at which it was due
+        self.taken, self.cut, self.goes_on = [], [], True
+
+    def run(self):
+        for number in itertools.count():
+            due = self.begins + number * HOSTS / A_SECOND
+            time.sleep(max(0, due - time.monotonic()))
+            if not self.goes_on:
+                return
+            closed = self.peer.closed
+            body = self.peer.ask(self.peer.frame("reserve"))
+            assert body[0] == 0x81, "a reserve isn't granted"
+            taken = time.monotonic() - due
+            (self.taken if self.peer.closed == closed else self.cut).append((due, taken))
+            if not self.keeps:
+                self.peer.hang_up()
+
+
+def hosts(world, source, logins):
+    for keeps in (True, False):
+        with Night(world, source) as night:
+            begins = time.monotonic() + 1
+            all_of_them = [Host(night.server, it, begins, keeps, logins) for it in range(HOSTS)]
+            for it in all_of_them:
+                it.start()
+            time.sleep(BEFORE_NIGHT)
+            worked, began = processor_time(night.server.process), time.monotonic()
+            night.clock.pass_to((TODAY + 1) * filled.DAY + AFTER)
+            while not night.forgotten():
+                time.sleep(0.2)
+            ended = time.monotonic()
+            worked = processor_time(night.server.process) - worked
+            time.sleep(2)
+            for it in all_of_them:
+                it.goes_on = False
+            for it in all_of_them:
+                it.join()
+        told = f"  {'kept' if keeps else 'new'} connections"
+        print(f"{told}: a night {ended - began:.0f} s, of a processor {worked:.0f} s")
+        for name, first, last in (("before it", begins, began), ("in it", began, ended)):
+            taken = [s for it in all_of_them for due, s in it.taken if first <= due < last]
+            print(f"  reserves {name}: {shown_times(taken)}")
+        cut = sorted((due - began, s) for it in all_of_them for due, s in it.cut)
+        cut = [f"{shown(s)} ms at {due:.1f} s" for due, s in cut]
+        print(f"  those whose connection was closed: {', '.join(cut)}", flush=True)
+
+
+PARTS = {
+    "requests": requests,
+    "retire": retire,
+    "renewal": renewal,
+    "retired": retired,
+    "hosts": hosts,
+}
 
 
 def main():

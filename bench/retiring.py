@@ -1,5 +1,6 @@
 #!/usr/bin/env python3
-"""Measures what it costs to open a file of version 1 and to retire the run of all its answers."""
+"""Measures what it costs to open a file of version 1 and to retire the run of all its answers; or
+what recipients of another host are answered meanwhile, by these settings of its filter."""
 import argparse
 import os
 import resource
@@ -8,6 +9,7 @@ import sqlite3
 import subprocess
 import sys
 import tempfile
+import threading
 import time
 from pathlib import Path
 
@@ -17,12 +19,19 @@ sys.path[0] = str(TESTS / "program")
 sys.path.append(str(TESTS / "model"))
 
 import wire
+from cases.filters import SERVICE
 from cases.retiring import FIVE_TABLES
-from ends import Server, World, ledger_settings
+from ends import Server, World, copied, ledger_settings, processor_time
+from smtpd import TOKEN, Smtpd
 
 HOST, RUN, DAY = b"mx1.example.org", 1_700_000_000_000, 20_000
 SENDER = {"host": HOST, "run": RUN}
 MESSAGES_OF_A_LOGIN = 10
+# Of the other host: its sessions, each of a login of its own, their recipients a second in all, and
+# for how many seconds before the retire and after it. A transaction has a thousand at most.
+OTHER, SESSIONS, PACE, BEFORE, AFTER = "mx2.example.org", 50, 20, 3, 20
+# What the examples set besides.
+OF_A_SERVER, OF_A_FILTER = {"timeout": 300}, {"hold": 5, "keep_connection": True}
 
 
 def login_of(txn):
@@ -83,6 +92,63 @@ def asked(address, frame):
         return b"".join(iter(lambda: peer.recv(65_536), b""))
 
 
+class Recipients(Smtpd):
+    """The other host: each recipient is asked at its time, however long those before it wait."""
+
+    def __init__(self, world, address, **settings):
+        super().__init__(world, OTHER, address, **settings, **OF_A_FILTER)
+        for it in range(SESSIONS):
+            self.login(int(time.time()), b"%d" % it, b"user%d" % it)
+            self.begin(int(time.time()), b"%d" % it, b"%08x" % it)
+        # when each was asked, how long it waited, and for what
+        self.asked, self.answers, self.is_over = [], [], False
+        self.threads = [threading.Thread(target=it) for it in (self.send, self.read)]
+        for it in self.threads:
+            it.start()
+
+    def send(self):
+        while not self.is_over:
+            self.asked.append(time.monotonic())
+            self.say(
+                b"filter|0.7|%d.000002|smtp-in|rcpt-to|%d|%s|bob@example.org\n"
+                % (time.time(), len(self.asked) % SESSIONS, TOKEN)
+            )
+            time.sleep(1 / PACE)
+        self.process.stdin.close()
+
+    def read(self):
+        while line := self.process.stdout.readline():
+            took = time.monotonic() - self.asked[len(self.answers)]
+            self.answers.append((took, line.rstrip().split(b"|", 3)[3]))
+
+    def end(self):
+        self.is_over = True
+        for it in self.threads:
+            it.join()
+        self.process.wait()
+        self.log.close()
+
+
+def beside(world, path, tries, timeout, pause):
+    """A retire, and what another host's recipients are answered from before it to after it."""
+    with Server(world, store=path, default=1_000, **OF_A_SERVER) as server:
+        host = Recipients(world, server.address, tries=tries, timeout=timeout, pause=pause)
+        time.sleep(BEFORE)
+        begun, worked = time.monotonic(), processor_time(server.process)
+        reply = asked(server.address, wire.retire(1, host=HOST, run=RUN + 1))
+        took, worked = time.monotonic() - begun, processor_time(server.process) - worked
+        time.sleep(AFTER)
+        host.end()
+    waited = max(it for it, _ in host.answers)
+    refused = sum(answer == SERVICE for _, answer in host.answers)
+    print(
+        f"tries = {tries}, timeout = {timeout}, pause = {pause}: {refused} of"
+        f" {len(host.answers)} recipients answered 451, the longest wait {waited:.1f} s; the retire"
+        f" {took:.1f} s, {worked:.1f} s of a processor, {'answered' if reply else 'not answered'}",
+        flush=True,
+    )
+
+
 def main():
     parser = argparse.ArgumentParser(description=__doc__)
     parser.add_argument("program", metavar="PROGRAM", type=os.path.abspath)
@@ -94,10 +160,22 @@ def main():
         default=1_000_000,
         help="by default %(default)s",
     )
+    parser.add_argument(
+        "--beside",
+        metavar="TRIES,TIMEOUT,PAUSE",
+        action="append",
+        type=lambda text: tuple(map(int, text.split(","))),
+        help="a filter's settings beside the retire; each is tried alone",
+    )
     given = parser.parse_args()
     program, transactions = given.program, given.answers // 2
     with tempfile.TemporaryDirectory() as folder:
         world = World(program, folder)
+        if given.beside:
+            write_file(f"{folder}/ledger", transactions)
+            for settings in given.beside:
+                beside(world, copied(f"{folder}/ledger", f"{folder}/copy"), *settings)
+            return
         for name in ("audited", "served"):
             write_file(f"{folder}/{name}", transactions)
         audit = [
