@@ -221,8 +221,10 @@ def is_switched(path):
 
 
 def has_begun(path):
-    """Whether the new file of a renewal is there, with its log, or was."""
-    return os.path.exists(f"{path}.part-wal") or is_switched(path)
+    """Whether the new file of a renewal is open, so that its log has a beginning, or was."""
+    with contextlib.suppress(FileNotFoundError):
+        return os.path.getsize(f"{path}.part-wal") > 0
+    return is_switched(path)
 
 
 def is_through(server):
