@@ -34,7 +34,7 @@ from own_test import RoundsTest
 from prover import RT, Built, Crate, Ended, Running, below, lines_in, proved_in, rows_of, run
 from rounds import Killed, Rounds
 from testing import OwnTest
-from version import add_to_version, word_of
+from version import add_to_version, note_word, word_of
 
 # rt ci has the crates' proofs and tests to go through: so many seconds at most.
 LONGEST_CI = 170 * 60
@@ -416,6 +416,7 @@ def run_cases(tree, place, word, kept, sum_):
     """Runs the cases of tests/program over the program as each compiler built it, one after the
     other, in a place where nothing is but what their results are kept by."""
     copy_for_cases(tree, place)
+    note_word(f"{tree}/crates/{PROGRAM}", word)
     read, counts = sum_of_files(place, os.listdir(place)), set()
     for ending in BUILDS:
         program = f"{tree}/crates/{PROGRAM}/out/{PROGRAM}{ending}"

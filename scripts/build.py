@@ -42,7 +42,7 @@ from kit import (
     words_of,
 )
 from schedule import Schedule, Work, minutes_of
-from version import add_to_version, word_of
+from version import NOTE, add_to_version, note_word, word_of
 
 PROGRAM = "mailquota"
 BINARY = f"{TOP}/crates/{PROGRAM}/out/{PROGRAM}"
@@ -78,12 +78,6 @@ def stamp(name):
     return f"{folder(name)}/out/build/done"
 
 
-def commit_file():
-    """A file with the first twelve digits of the commit of the build that is going on; it is empty
-    where there is none."""
-    return f"{folder(PROGRAM)}/out/build/commit"
-
-
 def source_of(name):
     """The folder from which a crate is proved: its own, or the program's copy."""
     if name != PROGRAM:
@@ -93,7 +87,7 @@ def source_of(name):
     for part in PARTS:
         if os.path.isdir(f"{folder(name)}/{part}"):
             shutil.copytree(f"{folder(name)}/{part}", f"{copy}/{part}")
-    with open(commit_file(), encoding="ascii") as file:
+    with open(f"{folder(PROGRAM)}/{NOTE}", encoding="ascii") as file:
         of = file.read()
     if of:
         add_to_version(copy, of)
@@ -138,9 +132,7 @@ def write_sums(rows, known):
     """Writes the sum of each crate where that changed. Where what was made of it is gone, it isn't
     built."""
     of = word_of(TOP)
-    os.makedirs(os.path.dirname(commit_file()), exist_ok=True)
-    with open(commit_file(), "w", encoding="ascii") as file:
-        file.write(of)
+    note_word(folder(PROGRAM), of)
     for name, total in sums_of(rows, known, of).items():
         os.makedirs(os.path.dirname(sum_file(name)), exist_ok=True)
         if not os.path.exists(made(name)) and os.path.exists(stamp(name)):

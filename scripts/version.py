@@ -8,6 +8,8 @@ FILE = "src/version.rt"
 VERSION = re.compile(r'(?<=: &str = ")([^"]+)(?=")')
 # So many digits of the commit stand behind the version.
 DIGITS = 12
+# The file of the program's crate that says what stands behind the version of the program there.
+NOTE = "out/build/commit"
 
 
 def add_to_version(crate, word):
@@ -18,6 +20,14 @@ def add_to_version(crate, word):
             raise ValueError(f"{FILE} has {count} versions")
         file.seek(0)
         file.write(text)
+
+
+def note_word(crate, word):
+    """Notes what stands behind the version of the program that is built of this crate, or that
+    nothing does: cases over the program look it up."""
+    os.makedirs(os.path.dirname(f"{crate}/{NOTE}"), exist_ok=True)
+    with open(f"{crate}/{NOTE}", "w", encoding="ascii") as file:
+        file.write(word)
 
 
 def commit_of(tree):
