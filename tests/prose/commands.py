@@ -69,7 +69,6 @@ LEFT_OUT = {
     "make check": GATE,
     ".ci/run": GATE,
     "rt ci": "the gate calls it",
-    "run.py look": "it looks at all edits of the gate once more, which takes hours",
     "tests/bodies/texts.py PROGRAM": "it is for who changes scripts, units or pages",
     "rattle check --progress": "the gate calls `rattle check`, with more words",
 }
