@@ -43,7 +43,7 @@ check:
 everything: build
 	@RT=$(RT) python3 scripts/everything.py $(if $(ANEW),--anew)
 
-# Each command of CONTRIBUTING and GATE, in a clone that is thrown away; it says which it leaves out, and why.
+# Each command of CONTRIBUTING and GATE, in a clone that is thrown away; it says which it leaves out, and why. Wants black.
 commands:
 	@RT=$(RT) python3 tests/prose/commands.py
 

@@ -150,6 +150,9 @@ def run(command, place):
     except subprocess.TimeoutExpired:
         return [f"it took longer than {LONGEST // 60} minutes"]
     changed = git(place, "status", "--porcelain")
+    # (the next one has a clone as this one had it)
+    git(place, "reset", "--quiet", "--hard")
+    git(place, "clean", "--quiet", "-d", "--force")
     print(f"-- {words}: status {ran.returncode}, {time.monotonic() - begun:.0f} s", flush=True)
     if ran.returncode or changed:
         print(*ran.stdout.split("\n")[-20:], changed, sep="\n", flush=True)
