@@ -101,7 +101,8 @@ class Kinds:
     def postfwd(self, port, _):
         rule = "id=R1; action=rate(sasl_username/1000000/86400/REJECT)"
         # (without its daemon it counts nothing)
-        return ["postfwd2", "-d", "-i", "127.0.0.1", "-p", str(port), "-u", "root", "-g", "root"] + [
+        return [
+            *("postfwd2", "-d", "-i", "127.0.0.1", "-p", str(port), "-u", "root", "-g", "root"),
             *("--pidfile", f"{self.folder}/postfwd.pid", "-r", rule),
             *("--cache_port", str(free_port())),
         ]

@@ -401,9 +401,7 @@ class Host(Smtpd):
         self.line()
 
     def ask(self, at, phase, session, rest):
-        self.say(
-            b"filter|0.7|%d.000002|smtp-in|%s|%s|%s|%s\n" % (at, phase, session, TOKEN, rest)
-        )
+        self.say(b"filter|0.7|%d.000002|smtp-in|%s|%s|%s|%s\n" % (at, phase, session, TOKEN, rest))
 
     def leave(self):
         """Its input ends, and what waits is sent; gives what `end` does."""

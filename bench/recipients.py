@@ -125,9 +125,7 @@ class Relay(threading.Thread):
             for file in ready:
                 other = self.files[1 - self.files.index(file)]
                 packet = os.read(file, 65_536)
-                heapq.heappush(
-                    left, (time.monotonic() + self.seconds, next(number), other, packet)
-                )
+                heapq.heappush(left, (time.monotonic() + self.seconds, next(number), other, packet))
             while left and left[0][0] <= time.monotonic():
                 _, _, other, packet = heapq.heappop(left)
                 with contextlib.suppress(OSError):

@@ -170,7 +170,13 @@ CHANGES = [
         "peer",
         [*UNPROVED, *PROVED],
     ),
-    ("what refuses", "tests/refusals/run.py", "", "# as it is\n", ["first refused_allocations", "refusals"]),
+    (
+        "what refuses",
+        "tests/refusals/run.py",
+        "",
+        "# as it is\n",
+        ["first refused_allocations", "refusals"],
+    ),
     ("what a case reads", "contrib/smtpd.conf", "listen", "accept", CASES_ALONE),
     (
         "a test near the end",

@@ -228,7 +228,7 @@ class InATunnel:
             self.machine.write(it, text)
         programs = {
             "wg": (
-                f"cd {folder}\n[ \"$2\" = quota ] && [ -e peers ] || exit 1\n"
+                f'cd {folder}\n[ "$2" = quota ] && [ -e peers ] || exit 1\n'
                 '[ "$1 $3" != "show allowed-ips" ] || exec cat peers\n'
                 '[ "$1 $3 $5" = "set peer allowed-ips" ] && grep -q "^$4" peers || exit 1\n'
                 'its=$(echo $6 | tr , " ")\n'
@@ -1334,7 +1334,9 @@ def a_mail_host(world, checks):
         came = checked()
         checks.holds(
             "the check of a mail host whose requests would be refused",
-            came[0] == 2 and "is retired: correct its clock" in came[1] and came[1].count("\n") == 1,
+            came[0] == 2
+            and "is retired: correct its clock" in came[1]
+            and came[1].count("\n") == 1,
             "2, and why, in one line",
             came,
         )
@@ -1545,9 +1547,7 @@ def starting_over(world, checks):
     checks.equal(
         "starting over: the limits", machine.read("root/mailquota.limits"), "1 1 1\n2 2 2\n3 3 3\n"
     )
-    checks.equal(
-        "starting over: the files", files_in(lib), ["ledger.before", "ledger.before-wal"]
-    )
+    checks.equal("starting over: the files", files_in(lib), ["ledger.before", "ledger.before-wal"])
     checks.equal(
         "starting over: the answers of the old file",
         len(answers_of(f"{lib}/ledger.before", ANSWERS)["answers"]),

@@ -184,7 +184,8 @@ def installed(world, checks):
             it
             for it, text in texts.items()
             if re.search(
-                r'(?<!\w)/usr/(sbin/(?!smtpd |sendmail\b)|libexec/|share/doc/)|proc-exec "filter-', text
+                r'(?<!\w)/usr/(sbin/(?!smtpd |sendmail\b)|libexec/|share/doc/)|proc-exec "filter-',
+                text,
             )
         ]
         checks.equal(

@@ -96,7 +96,9 @@ def a_reserve(world, checks):
     with open(f"{path}.ballast", "rb") as file:
         blocks = [file.read(65_536) for _ in range(RESERVE // 65_536)]
     kinds = min(len(set(block)) for block in blocks)
-    checks.holds("a reserve: its bytes, which no file system stores as fewer", kinds == 256, 256, kinds)
+    checks.holds(
+        "a reserve: its bytes, which no file system stores as fewer", kinds == 256, 256, kinds
+    )
     for size in (0, 1, 65_536, 3_000_000, RESERVE - 1, RESERVE, RESERVE + 5, RESERVE + MARGIN):
         os.truncate(f"{path}.ballast", min(size, RESERVE))
         if size > RESERVE:
@@ -104,7 +106,11 @@ def a_reserve(world, checks):
                 file.write(b"x" * (size - RESERVE))
         with Server(world, store=path, default=DEFAULT) as server:
             came = server.ask(wire.reserve(1)), reserve_of(path), os.stat(f"{path}.ballast").st_size
-        checks.equal(f"a reserve of {size:,} bytes: after a start", came, (wire.granted(1, 1), WHOLE, RESERVE))
+        checks.equal(
+            f"a reserve of {size:,} bytes: after a start",
+            came,
+            (wire.granted(1, 1), WHOLE, RESERVE),
+        )
     os.remove(f"{path}.ballast")
     for word in ("audit", "limits"):
         status = world.run(word, "--config", settings)[0]
@@ -177,10 +183,10 @@ def files_that_are_removed(world, checks):
             clock.pass_to(clock.now() + 40)
             server.ask(wire.page())
             good = wait_until(lambda: len(errors(server)) > 1)
-            checks.equal(f"{what}: after a minute", (good, errors(server)), (True, [lost(said)] * 2))
             checks.equal(
-                f"{what}: it answers", server.ask(wire.reserve(2)), wire.granted(2, 2)
+                f"{what}: after a minute", (good, errors(server)), (True, [lost(said)] * 2)
             )
+            checks.equal(f"{what}: it answers", server.ask(wire.reserve(2)), wire.granted(2, 2))
 
 
 def errors(server):
@@ -364,9 +370,7 @@ def a_disk_that_fills(world, checks):
                 if came != wanted:
                     checks.equal(f"{what}: replies", came[-1:], wanted[-1:])
                 number += 500
-            checks.equal(
-                f"{what}: its end", how_it_ended(server), (1, "mailquota: store failed\n")
-            )
+            checks.equal(f"{what}: its end", how_it_ended(server), (1, "mailquota: store failed\n"))
         for go in range(3):
             came = world.run("server", "--config", settings)
             checks.equal(f"{what}: start {go + 1} after it", came, refused(path, FULL))

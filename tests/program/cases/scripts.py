@@ -73,7 +73,7 @@ class Limits:
 
     def __init__(self, world, name, path, settings, pid):
         self.machine = Machine(world, name, systemctl=f"echo {pid}")
-        self.temporary = f"{self.machine.folder}/a \"temporary\" \\ folder's"
+        self.temporary = f'{self.machine.folder}/a "temporary" \\ folder\'s'
         os.mkdir(self.temporary)
         backup = script(world, "mailquota-backup", [LATE])
         shows = script(world, "mailquota-limits", [(f"{world.program}-backup", f"sh {backup}")])

@@ -73,9 +73,7 @@ def not_known(address):
 
 
 def is_awaited(address):
-    return (
-        f"mailquota: note: server {address} is asked again until it answers, for up to an hour\n"
-    )
+    return f"mailquota: note: server {address} is asked again until it answers, for up to an hour\n"
 
 
 def each_is_asked(world, checks):
@@ -216,9 +214,7 @@ def one_that_is_away(world, checks):
                 said = (unavailable(away)[2] + undone(away)) * count
                 if name == "stop":
                     said += not_known(away) * count
-                checks.equal(
-                    f"{name} at {places}, of which - is away", came, (1, printed, said)
-                )
+                checks.equal(f"{name} at {places}, of which - is away", came, (1, printed, said))
         checks.equal(
             "what was set at the one that answers",
             (caps(server, b"u", 1), caps(server, b"w", 1, 2), caps(server, b"x", 1, 2)),

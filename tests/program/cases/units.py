@@ -339,9 +339,7 @@ def settings_of_others(checks):
         {"priority", "preempt_delay", "unicast_src_ip", "192.0.2.5", "192.0.2.6"},
     )
     rules = text_of("nftables.conf")
-    checks.equal(
-        "the packet filter: its rules, in their order", chains_of(rules), {"input": RULES}
-    )
+    checks.equal("the packet filter: its rules, in their order", chains_of(rules), {"input": RULES})
     sets = dict(re.findall(r"set (\w+) \{\n\s*type ipv4_addr\n\s*elements = \{ (.*) \}", rules))
     checks.equal("the packet filter: its addresses", sets, SETS)
     its = text_of("nftables-mailhost.conf")
@@ -477,7 +475,9 @@ def a_long_retire(world, checks):
     """While a server answers nobody for so long, a recipient waits by the example, and gets no 451;
     and no pause begins."""
     its = {
-        name: {key: int(value) for key, value in re.findall(r"^(\w+) = (\d+)$", text_of(name), re.M)}
+        name: {
+            key: int(value) for key, value in re.findall(r"^(\w+) = (\d+)$", text_of(name), re.M)
+        }
         for name in ("filter.toml", "server.toml")
     }
 
