@@ -408,6 +408,17 @@ def restart_smtpd(scene, host, name):
     scene.rest([host], rests=False)
 
 
+def use_up(server, login):
+    """Uses what a login at rest has left of its limit, as its senders give back what they reset."""
+    settled, reserved, may = reports(server)[login]
+    left = may - settled - reserved
+    if left > 0:
+        its = {"login": login.encode(), "at": 86_400 * day(), "host": b"left.example.org"}
+        for frame in (reserve(1, 1, count=left, **its), settle(2, 1, count=left, **its)):
+            exchange(server.address, frame)
+    note(f"{server.name}: {login} is at its limit", sum(reports(server)[login][:2]), may)
+
+
 class Kept:
     """What has to stay from the release on: settings, limits, answers to repeated requests, and of
     each login how many recipients count that weren't accepted."""
@@ -415,6 +426,7 @@ class Kept:
     def __init__(self, scene, frames):
         self.scene, self.frames = scene, frames
         scene.rest(scene.hosts)
+        use_up(scene.first, REACHED)
         kinds = sorted({it[2] for it in self.answers()})
         note("the release: kinds of answers", [f"{it:02x}" for it in kinds], KINDS)
         # (of a run that is retired by then, no answers are kept)
