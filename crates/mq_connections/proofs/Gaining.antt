@@ -7,7 +7,7 @@ use Rattle.mq_lemmas.proofs.Booleans.{both_parts}
 use Rattle.mq_request.specs.declared.message.Id.{Id}
 use Rattle.mq_request.specs.declared.message.Reply.{Reply}
 use Rattle.mq_request.specs.declared.message.Request.{Request}
-use Rattle.mq_ledger.specs.Answer.{history_of, with_arrival, with_arrival_by, appended, known_by}
+use Rattle.mq_ledger.specs.Answer.{history_of, with_arrival_by, appended, known_by}
 use Rattle.mq_ledger.specs.Arrivals.{id_of}
 use Rattle.mq_ledger.specs.Day.{day_of}
 use Rattle.mq_ledger.specs.History.{requests}

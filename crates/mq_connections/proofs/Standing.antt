@@ -167,8 +167,8 @@ begun_served o lives none = record {
 new_offered : (room : ℕ) (wire : Wire) → AreOffered (fresh room) wire
 new_offered room wire = λ some. absurd (some refl)
 
-pub begins : (o : Outside) (held : ℕ → Option State) → ((room : ℕ) → Lives unborn (fresh room)) → AreAnswered o.book [] o.book.history → ((n : ℕ) → held n ≡ None) → GoesOn o o 0 held None
-begins o held lives none empty = record {
+pub begins : (o : Outside) (last : ℕ) (held : ℕ → Option State) → ((room : ℕ) → Lives unborn (fresh room)) → AreAnswered o.book [] o.book.history → ((n : ℕ) → held n ≡ None) → GoesOn o o last held None
+begins o last held lives none empty = record {
   served = begun_served o lives none;
   beyond = λ n above. (refl, refl);
   are_held = λ n c is. absurd (none_some c (sym (empty n) ∙ is));
@@ -443,7 +443,7 @@ ends_so old new now last held still store result none closes g =
 
 pub nothing_served : {A E : Type 0} (o : Outside) (store : E) (result : Result A E) → ((room : ℕ) → Lives unborn (fresh room)) → AreAnswered o.book [] o.book.history → (result ≡ Err store → ⊥) → EndsServing o o store result
 nothing_served o store result lives none not =
-    let g = begins o (λ n. None) lives none (λ n. refl) in record {
+    let g = begins o 0 (λ n. None) lives none (λ n. refl) in record {
       failed = None;
       served = g.served;
       stops = λ some. absurd (false_true some);
@@ -566,6 +566,12 @@ goes_as {A = A} {E = E} old new last held store r q is g = let P : Result A E �
 
 pub not_store : {A : Type 0} (r : Result A RoomFault) (y f : RoomFault) → r ≡ Err y → y ≡ f → f ≡ faults.Accept → r ≡ Err faults.Store → ⊥
 not_store r y f is same accept store = cc
+
+err_is : {A : Type 0} (r : Result A RoomFault) (y f : RoomFault) → r ≡ Err y → y ≡ f → r ≡ Err faults.Store → f ≡ faults.Store
+err_is r y f is same store = cc
+
+pub not_this : {A : Type 0} (r : Result A RoomFault) (y f : RoomFault) → r ≡ Err y → y ≡ f → f ≢ faults.Store → r ≡ Err faults.Store → ⊥
+not_this r y f is same not store = not (err_is r y f is same store)
 
 pub not_memory : {A : Type 0} (r : Result A RoomFault) (y : RoomFault) → r ≡ Err y → y ≡ faults.Memory → r ≡ Err faults.Store → ⊥
 not_memory r y is memory store = cc

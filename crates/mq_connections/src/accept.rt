@@ -80,10 +80,9 @@ impl Connections {
     }
 }
 
-/// A listener, and what it still has to accept.
+/// What a listener still has to accept.
 #[derive(Drop)]
-pub struct Acceptor<'a> {
-    listener: &'a TcpListener,
+pub struct Acceptor {
     /// How many connections are accepted still.
     left: Connections,
     /// Whether a connection may have come.
@@ -94,14 +93,13 @@ pub struct Acceptor<'a> {
     resume: Option<Instant>,
 }
 
-impl<'a> Acceptor<'a> {
-    /// The listener, which doesn't block, accepts so many.
-    pub fn new(listener: &'a TcpListener, connections: Connections) -> Acceptor<'a>
+impl Acceptor {
+    /// So many are accepted.
+    pub fn new(connections: Connections) -> Acceptor
         ensures left { result.left ≡ connections }
         ensures at_once { (result.may_have ≡ true) × (result.resume ≡ None) }
     {
         Acceptor {
-            listener,
             left: connections,
             may_have: true,
             pause: FIRST_PAUSE,
@@ -154,12 +152,13 @@ impl<'a> Acceptor<'a> {
         Ok(wait.is_some_and(|wait| wait.is_zero()))
     }
 
-    /// The next connection, if one is there. An error that passes is logged and waited out, each
+    /// The next connection at this listener, which doesn't block, if one is there. An error that passes is logged and waited out, each
     /// time for longer; any other is logged, and ends the serving.
     pub fn next<C: Clock, G: Log>(
         &mut self,
         clock: &C,
         log: &G,
+        listener: &TcpListener,
     ) -> Result<Option<(TcpStream, SocketAddr)>, RoomFault>
         ensures fault { IfErr result (λ fault. fault ≡ RoomFault.Accept) }
         ensures counts { IfOk result (λ next. MatchOption next (self.new.left ≡ self.old.left)
@@ -174,7 +173,7 @@ impl<'a> Acceptor<'a> {
         if self.is_done() || !self.is_due(clock).unwrap_or(true) {
             return Ok(None);
         }
-        match self.listener.accept() {
+        match listener.accept() {
             Ok(accepted) => {
                 self.left = self.left.one_less();
                 self.pause = FIRST_PAUSE;

@@ -1,10 +1,11 @@
 //! The connections of a server that are open at once, over streams that don't block: each has its
 //! turns, and none waits for another's peer.
 //!
-//! [`serve_connections`] accepts so many connections over sockets and serves each to its end: what
+//! [`serve_connections`] accepts so many connections and serves each to its end: what
 //! came is held, whole frames are answered through a ledger, those that stand next on several
 //! connections together, and the peer takes the replies as it can. Between the rounds it goes on
-//! with a chore, and ends where that is done. [`serve_network`] does so over any [`Network`]. From
+//! with a chore, and ends where that is done. It goes over any [`Port`], of which [`Sockets`] is the
+//! one of a server, and [`serve_network`] over any [`Network`]. From
 //! `mq_program/src/serving.rt`:
 //!
 //!     let _ended = serve_connections(
@@ -30,6 +31,7 @@ mod together;
 
 pub use accept::Connections;
 pub use fault::RoomFault;
-pub use network::Network;
+pub use network::{Network, Port};
 pub use serving::{ServingEnd, serve_connections, serve_network};
+pub use sockets::Sockets;
 pub use stay::{Stay, Times};

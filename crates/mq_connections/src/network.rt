@@ -4,9 +4,11 @@ ghost use Rattle.std.specs.Io.{ReadsAtMost, WritesAtMost};
 ghost use Rattle.std.specs.Io.KnownBytes.{ReadConsumes, WriteAppends};
 ghost use Rattle.mq_connections.specs.Wires.{Leaves, Wire, unknown};
 
+use crate::accept::Connections;
 use crate::fault::RoomFault;
 use mq_permits::Peer;
 use std::io;
+use std::net::SocketAddr;
 use std::time::{Duration, Instant};
 
 /// Connections that come, each under a number, and their streams, whose `read` and `write` mean
@@ -24,6 +26,9 @@ pub trait Network {
     fn accept(&mut self, number: usize) -> Result<Option<Peer>, RoomFault>
         ensures fault { IfErr result (λ fault. fault ≡ RoomFault.Accept) }
         ensures same { (n : ℕ) → wire self.new n ≡ wire self.old n };
+
+    /// The number of the connection that was accepted last, and 0 before the first.
+    fn last(&self) -> usize;
 
     /// Whether no further connection comes.
     fn is_done(&self) -> bool
@@ -65,4 +70,20 @@ pub trait Network {
     fn close(&mut self, number: usize)
         ensures over { is_over self.old → is_over self.new }
         ensures same { (n : ℕ) → wire self.new n ≡ wire self.old n };
+}
+
+/// A network whose connections come at an address, and are accepted by one serving after another.
+pub trait Port: Network {
+    /// Listens at an address.
+    fn listen(&mut self, address: SocketAddr) -> io::Result<()>
+        ensures same { Self.wire self.new ≡ Self.wire self.old };
+
+    /// Begins a serving, which accepts so many connections. What prevents it is logged.
+    fn begin(&mut self, connections: Connections) -> Result<(), RoomFault>
+        ensures fault { IfErr result (λ fault. fault ≢ RoomFault.Store) }
+        ensures same { Self.wire self.new ≡ Self.wire self.old };
+
+    /// How many connections are accepted still.
+    fn left(&self) -> Connections
+        ensures { Self.is_over self.now → result ≡ Connections.Count 0 };
 }

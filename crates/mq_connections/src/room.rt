@@ -33,7 +33,7 @@ const IDLE_PLACES: usize = 600;
 /// The most connections that are accepted before others have their turns.
 const ACCEPTED: usize = 64;
 
-/// The connections that are open, each under its number: they are counted as they come, from 1 on.
+/// The connections that are open, each under its number: they are counted as they come.
 #[derive(Drop)]
 pub struct Room {
     pub(crate) opened: BTreeMap<usize, OpenConnection>,
@@ -43,15 +43,15 @@ pub struct Room {
 }
 
 impl Room {
-    /// None is open yet.
-    pub fn new(alloc: Global) -> Room
-        ensures last { result.last ≡ 0 }
+    /// None is open yet. They are counted on from the last number that a connection had.
+    pub fn new(alloc: Global, last: usize) -> Room
+        ensures last { result.last ≡ last }
         ensures none { (n : ℕ) → held result.opened n ≡ None }
     {
         Room {
             opened: BTreeMap::new(alloc),
             alloc,
-            last: 0,
+            last,
         }
     }
 

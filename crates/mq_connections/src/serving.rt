@@ -7,23 +7,20 @@ ghost use Rattle.mq_server.specs.Delivery.{HasGrown};
 ghost use Rattle.mq_connections.specs.Gained.{Gains, SomebodyMayAsk};
 ghost use Rattle.mq_connections.specs.Sessions.{EndsServing, GoesOn, GoesOnOrStops, Outside, held};
 ghost use Rattle.mq_connections.specs.Waits.{idle_time, shorter};
-ghost use Rattle.mq_connections.specs.Wires.{unknown};
 
 use crate::accept::Connections;
 use crate::fault::RoomFault;
-use crate::network::Network;
+use crate::network::{Network, Port};
 use crate::room::Room;
-use crate::sockets::{EVENTS, Sockets};
+use crate::sockets::EVENTS;
 use crate::stay::Times;
 use log::{Log, error};
-use mio::Events;
 use mq_chore::{Chore, Piece};
 use mq_permits::Permits;
 use mq_server::laws::{a_life_is_served, more_deliveries, more_exchanges};
 use mq_watch::Hear;
 use std::alloc::Global;
 use std::io;
-use std::net::{Net, TcpListener};
 use std::rt::Clock;
 use std::time::{Duration, Instant};
 
@@ -36,10 +33,10 @@ pub enum ServingEnd {
     Chore,
 }
 
-/// Accepts so many connections, and serves whichever has whole frames there, a few at a time; so no
-/// peer holds back the others by what it doesn't send, or doesn't take of its replies. Each end but
-/// that of whole frames is logged with the peer's address. A store that failed stops the serving,
-/// and so does a listener that accepts no more.
+/// Accepts so many connections of a network, and serves whichever has whole frames there, a few at a
+/// time; so no peer holds back the others by what it doesn't send, or doesn't take of its replies.
+/// Each end but that of whole frames is logged with the peer's address. A store that failed stops
+/// the serving, and so does a listener that accepts no more.
 ///
 /// What the permits don't allow a peer isn't put to the ledger. Without permits everybody may ask
 /// everything.
@@ -47,11 +44,11 @@ pub enum ServingEnd {
 /// Between the rounds over all that is open it goes on with the chore, first before anything has
 /// come. Once that is done the connections that are open are closed; those that came meanwhile wait
 /// at the listener, and `connections` says how many are to be accepted still.
-pub fn serve_connections<R: Clock + Net, G: Log, L: Hear, K: Chore<L>>(
-    rt: &R,
+pub fn serve_connections<N: Port, C: Clock, G: Log, L: Hear, K: Chore<L>>(
+    clock: &C,
     log: &G,
     alloc: Global,
-    listener: &TcpListener,
+    network: &mut N,
     times: Times,
     permits: Option<&Permits>,
     ledger: &mut L,
@@ -64,8 +61,8 @@ pub fn serve_connections<R: Clock + Net, G: Log, L: Hear, K: Chore<L>>(
 
     // Of a sound one that has kept its premise.
     ensures serves { L.has_kept ledger.new → L.is_sound ledger.old → EndsServing
-        (record { book = L.book ledger.old; told = L.told ledger.old; wires = unknown })
-        (record { book = L.book ledger.new; told = L.told ledger.new; wires = unknown })
+        (record { book = L.book ledger.old; told = L.told ledger.old; wires = N.wire network.old })
+        (record { book = L.book ledger.new; told = L.told ledger.new; wires = N.wire network.new })
         RoomFault.Store result }
     ensures history { L.has_kept ledger.new → L.is_sound ledger.old →
         HasGrown (L.book ledger.old) (L.book ledger.new) }
@@ -84,13 +81,9 @@ pub fn serve_connections<R: Clock + Net, G: Log, L: Hear, K: Chore<L>>(
 {
     a_life_is_served();
     more_exchanges();
-    let events = Events::with_capacity(alloc, EVENTS)?;
-    let mut sockets = match Sockets::new(rt, log, alloc, events, listener, *connections) {
-        Ok(sockets) => sockets,
-        Err(error) => return Err(no_wait(log, &error)),
-    };
-    let outcome = serve_network(rt, log, alloc, &mut sockets, times, permits, ledger, chore);
-    *connections = sockets.left();
+    network.begin(*connections)?;
+    let outcome = serve_network(clock, log, alloc, network, times, permits, ledger, chore);
+    *connections = network.left();
     outcome
 }
 
@@ -129,7 +122,7 @@ pub fn serve_network<N: Network, C: Clock, G: Log, L: Hear, K: Chore<L>>(
     a_life_is_served();
     more_exchanges();
     let mut ready = Vec::with_capacity(alloc, EVENTS)?;
-    let mut room = Room::new(alloc);
+    let mut room = Room::new(alloc, network.last());
     let ended = serve_rounds(
         clock, log, network, &mut room, &mut ready, times, permits, ledger, chore,
     );
@@ -241,7 +234,7 @@ fn first_of(one: Option<Duration>, other: Option<Duration>) -> Option<Duration>
 }
 
 /// Logs why the system doesn't report connections.
-fn no_wait<G: Log>(log: &G, error: &io::Error) -> RoomFault
+pub(crate) fn no_wait<G: Log>(log: &G, error: &io::Error) -> RoomFault
     ensures { result ≡ RoomFault.Accept }
 {
     error!(log; "waiting for connections: {error}");

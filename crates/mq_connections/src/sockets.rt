@@ -4,7 +4,8 @@ ghost use Rattle.mq_connections.specs.declared.accept.Connections.TheVariants.{C
 
 use crate::accept::{Acceptor, Connections};
 use crate::fault::RoomFault;
-use crate::network::Network;
+use crate::network::{Network, Port};
+use crate::serving::no_wait;
 use log::{Log, warn};
 use mio::unix::SourceFd;
 use mio::{Events, Interest, Poll, Token};
@@ -24,60 +25,80 @@ pub const EVENTS: usize = 1_024;
 /// Under which the system reports the listener; a connection has a number above it.
 const LISTENER: Token = Token(0);
 
-/// A listener, and the sockets of the connections that are open.
+/// What the system reports of the listener and of the connections.
 #[derive(Drop)]
-pub struct Sockets<'a, C, G> {
-    clock: &'a C,
-    log: &'a G,
+struct Reports {
     poll: Poll,
     events: Events,
-    acceptor: Acceptor<'a>,
-    streams: BTreeMap<usize, TcpStream>,
 }
 
-impl<'a, C: Clock + Net, G: Log> Sockets<'a, C, G> {
-    /// None is open yet; so many are accepted.
-    pub fn new(
-        rt: &'a C,
-        log: &'a G,
-        alloc: Global,
-        events: Events,
-        listener: &'a TcpListener,
-        connections: Connections,
-    ) -> io::Result<Sockets<'a, C, G>> {
+/// A listener, and the sockets of the connections that are open.
+#[derive(Drop)]
+pub struct Sockets<'a, R, G> {
+    rt: &'a R,
+    log: &'a G,
+    alloc: Global,
+    /// Where connections come, once it listens.
+    listener: Option<TcpListener>,
+    /// There are some once a serving has begun.
+    reports: Option<Reports>,
+    acceptor: Acceptor,
+    streams: BTreeMap<usize, TcpStream>,
+    /// The number of the connection that was accepted last.
+    last: usize,
+}
+
+impl<'a, R, G> Sockets<'a, R, G> {
+    /// It listens nowhere yet.
+    pub fn new(rt: &'a R, log: &'a G, alloc: Global) -> Sockets<'a, R, G> {
+        Sockets {
+            rt,
+            log,
+            alloc,
+            listener: None,
+            reports: None,
+            acceptor: Acceptor::new(Connections::Count(0)),
+            streams: BTreeMap::new(alloc),
+            last: 0,
+        }
+    }
+}
+
+impl<R: Net, G> Sockets<'_, R, G> {
+    /// Has the system report connections that come.
+    fn watch(&mut self, events: Events) -> io::Result<()>
+        ensures { self.new.acceptor ≡ self.old.acceptor }
+    {
+        let Some(listener) = &self.listener else {
+            return Err(io::Error::from(ErrorKind::NotConnected));
+        };
         listener.set_nonblocking(true)?;
-        let poll = Poll::new(rt)?;
+        let poll = Poll::new(self.rt)?;
         let descriptor = listener.as_raw_fd();
         poll.registry()
             .register(&mut SourceFd(&descriptor), LISTENER, Interest::READABLE)?;
-        Ok(Sockets {
-            clock: rt,
-            log,
-            poll,
-            events,
-            acceptor: Acceptor::new(listener, connections),
-            streams: BTreeMap::new(alloc),
-        })
+        self.reports = Some(Reports { poll, events });
+        Ok(())
     }
 }
 
-impl<C: Clock, G: Log> Sockets<'_, C, G> {
-    /// How many connections are accepted still.
-    pub fn left(&self) -> Connections
-        ensures { result ≡ self.now.acceptor.left }
-    {
-        self.acceptor.left()
-    }
-
+impl<R, G> Sockets<'_, R, G> {
     /// Opens a connection that was accepted, and has the system report it.
     fn register(&mut self, number: usize, stream: TcpStream) -> io::Result<()> {
+        let Some(reports) = &self.reports else {
+            return Err(io::Error::from(ErrorKind::NotConnected));
+        };
         stream.set_nonblocking(true)?;
         let descriptor = stream.as_raw_fd();
-        self.poll
+        reports
+            .poll
             .registry()
             .register(&mut SourceFd(&descriptor), Token(number), both_ways())?;
         match self.streams.insert(number, stream) {
-            Ok(_) => Ok(()),
+            Ok(_) => {
+                self.last = number;
+                Ok(())
+            }
             Err(_) => Err(io::Error::from(ErrorKind::OutOfMemory)),
         }
     }
@@ -93,11 +114,14 @@ fn peer_of(stream: &TcpStream, address: SocketAddr) -> Peer {
     }
 }
 
-impl<C: Clock, G: Log> Network for Sockets<'_, C, G> {
+impl<R: Clock, G: Log> Network for Sockets<'_, R, G> {
     ghost is_over = { λ sockets. sockets.acceptor.left ≡ Count 0 };
 
     fn accept(&mut self, number: usize) -> Result<Option<Peer>, RoomFault> {
-        let Some((stream, address)) = self.acceptor.next(self.clock, self.log)? else {
+        let Some(listener) = &self.listener else {
+            return Ok(None);
+        };
+        let Some((stream, address)) = self.acceptor.next(self.rt, self.log, listener)? else {
             return Ok(None);
         };
         let peer = peer_of(&stream, address);
@@ -110,6 +134,10 @@ impl<C: Clock, G: Log> Network for Sockets<'_, C, G> {
         }
     }
 
+    fn last(&self) -> usize {
+        self.last
+    }
+
     fn is_done(&self) -> bool {
         self.acceptor.is_done()
     }
@@ -119,8 +147,11 @@ impl<C: Clock, G: Log> Network for Sockets<'_, C, G> {
     }
 
     fn wait(&mut self, wait: Option<Duration>, ready: &mut Vec<usize>) -> io::Result<()> {
-        self.poll.poll(&mut self.events, wait)?;
-        for event in self.events.iter() {
+        let Some(reports) = &mut self.reports else {
+            return Err(io::Error::from(ErrorKind::NotConnected));
+        };
+        reports.poll.poll(&mut reports.events, wait)?;
+        for event in reports.events.iter() {
             match event.token() {
                 LISTENER => self.acceptor.arrived(),
                 Token(number) => ready.push(number)?,
@@ -130,11 +161,12 @@ impl<C: Clock, G: Log> Network for Sockets<'_, C, G> {
     }
 
     fn watch_again(&mut self, number: usize) -> io::Result<()> {
-        let Some(stream) = self.streams.get(&number) else {
+        let (Some(reports), Some(stream)) = (&self.reports, self.streams.get(&number)) else {
             return Ok(());
         };
         let descriptor = stream.as_raw_fd();
-        self.poll
+        reports
+            .poll
             .registry()
             .reregister(&mut SourceFd(&descriptor), Token(number), both_ways())
     }
@@ -155,6 +187,32 @@ impl<C: Clock, G: Log> Network for Sockets<'_, C, G> {
 
     fn close(&mut self, number: usize) {
         let _ = self.streams.remove(&number);
+    }
+}
+
+impl<R, G: Log> Port for Sockets<'_, R, G>
+where
+    R: Clock + Net<Listener = TcpListener, Stream = TcpStream>,
+{
+    fn listen(&mut self, address: SocketAddr) -> io::Result<()> {
+        self.listener = Some(TcpListener::bind(self.rt, address)?);
+        Ok(())
+    }
+
+    fn begin(&mut self, connections: Connections) -> Result<(), RoomFault> {
+        self.reports = None;
+        let events = Events::with_capacity(self.alloc, EVENTS)?;
+        match self.watch(events) {
+            Ok(()) => {
+                self.acceptor = Acceptor::new(connections);
+                Ok(())
+            }
+            Err(error) => Err(no_wait(self.log, &error)),
+        }
+    }
+
+    fn left(&self) -> Connections {
+        self.acceptor.left()
     }
 }
 

@@ -8,7 +8,7 @@
 //!         rt,
 //!         log,
 //!         rt.alloc(),
-//!         listener,
+//!         network,
 //!         times,
 //!         nights.permits,
 //!         nights.keep,

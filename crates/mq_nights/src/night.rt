@@ -7,7 +7,6 @@ ghost use Rattle.mq_server.specs.Delivery.{HasGrown};
 ghost use Rattle.mq_store.specs.Forgetting.{IsRemembered};
 ghost use Rattle.mq_store.specs.Soundness.{book_in, HasKept, IsSound};
 ghost use Rattle.mq_connections.specs.Sessions.{EndsServing};
-ghost use Rattle.mq_connections.specs.Wires.{unknown};
 ghost use Rattle.mq_nights.specs.Nights.{EndsNight, WasDue};
 
 use crate::evening::{Evening, RenewedLedger};
@@ -17,7 +16,7 @@ use crate::parts::Parts;
 use crate::tended::TendedEvening;
 use crate::terms::NightTerms;
 use log::Log;
-use mq_connections::{Connections, RoomFault, ServingEnd, Times, serve_connections};
+use mq_connections::{Connections, Port, RoomFault, ServingEnd, Times, serve_connections};
 use mq_permits::Permits;
 use mq_server::laws::more_deliveries;
 use mq_store::SqlLedger;
@@ -25,7 +24,6 @@ use mq_watch::{InnerChore, WatchedLedger};
 use sqlite::Alter;
 use std::alloc::Global;
 use std::marker::Brand;
-use std::net::{Net, TcpListener};
 use std::rt::Clock;
 
 /// A serving with a renewal beside it that has ended.
@@ -37,11 +35,11 @@ struct EndedEvening<N: Alter> {
 }
 
 /// Serves connections over a ledger, and renews it meanwhile. These are the terms of the night.
-fn serve_evening<K: NightTerms, R, G: Log, S: Alter, N: Alter + Drop, P: Parts<N> + Drop>(
+fn serve_evening<K: NightTerms, R, G: Log, W: Port, S: Alter, N: Alter + Drop, P: Parts<N> + Drop>(
     rt: &R,
     log: &G,
     alloc: Global,
-    listener: &TcpListener,
+    network: &mut W,
     times: Times,
     permits: Option<&Permits>,
     evening: Evening<'_, R, G, N, P, K>,
@@ -49,7 +47,7 @@ fn serve_evening<K: NightTerms, R, G: Log, S: Alter, N: Alter + Drop, P: Parts<N
     connections: &mut Connections,
 ) -> EndedEvening<N>
 where
-    R: Clock + Net + Moments,
+    R: Clock + Moments,
     requires nothing { evening.renewal ≡ None }
     requires keep { evening.lookout.keep ≡ K.keep }
     requires begun { K.begun ≡ book_in ledger.old.zone ledger.old.default
@@ -73,13 +71,13 @@ where
           book = book_in ledger.old.zone ledger.old.default
               (state S.Store ledger.old.connection).now;
           told = None;
-          wires = unknown;
+          wires = W.wire network.old;
         })
         (record {
           book = book_in ledger.new.zone ledger.new.default
               (state S.Store ledger.new.connection).now;
           told = None;
-          wires = unknown;
+          wires = W.wire network.new;
         }) RoomFault.Store result.ended }
     ensures done { HasKept (state S.Store ledger.new.connection)
         → IsSound ledger.old.zone ledger.old.default (state S.Store ledger.old.connection)
@@ -96,7 +94,7 @@ where
         rt,
         log,
         alloc,
-        listener,
+        network,
         times,
         permits,
         ledger,
@@ -145,11 +143,11 @@ fn outcome_of<N: Alter + Drop>(
 /// fails, or `parts` finds too little room on the disk, that is logged, and an hour later it is
 /// tried again. Once it has all, the connections that are open are closed; those that came
 /// meanwhile wait at the listener.
-pub fn pass_night<R, G: Log, S: Alter, N: Alter + Drop, P: Parts<N> + Drop>(
+pub fn pass_night<R, G: Log, W: Port, S: Alter, N: Alter + Drop, P: Parts<N> + Drop>(
     rt: &R,
     log: &G,
     alloc: Global,
-    listener: &TcpListener,
+    network: &mut W,
     times: Times,
     permits: Option<&Permits>,
     keep: u32,
@@ -159,14 +157,15 @@ pub fn pass_night<R, G: Log, S: Alter, N: Alter + Drop, P: Parts<N> + Drop>(
     connections: &mut Connections,
 ) -> Result<Option<RenewedLedger<N>>, RoomFault>
 where
-    R: Clock + Net + Moments,
+    R: Clock + Moments,
     // Of any ledger, sound or not.
     ensures lent { (ledger.new.zone ≡ ledger.old.zone) × (ledger.new.default ≡ ledger.old.default) }
     ensures kept { HasKept (state S.Store ledger.new.connection)
         → HasKept (state S.Store ledger.old.connection) }
     ensures over { result ≡ Ok None → connections.new ≡ Connections.Count 0 }
 
-    // Of a sound one that has kept its premise: it gained what was served, and nothing else.
+    // Of a sound one that has kept its premise: it gained what was served over these wires, and
+    // nothing else.
     ensures sound { HasKept (state S.Store ledger.new.connection)
         → IsSound ledger.old.zone ledger.old.default (state S.Store ledger.old.connection)
         → IsSound ledger.new.zone ledger.new.default (state S.Store ledger.new.connection) }
@@ -182,13 +181,13 @@ where
           book = book_in ledger.old.zone ledger.old.default
               (state S.Store ledger.old.connection).now;
           told = None;
-          wires = unknown;
+          wires = W.wire network.old;
         })
         (record {
           book = book_in ledger.new.zone ledger.new.default
               (state S.Store ledger.new.connection).now;
           told = None;
-          wires = unknown;
+          wires = W.wire network.new;
         }) RoomFault.Store result }
 
     // What it forgets was due by then, at a moment that was shown.
@@ -219,11 +218,11 @@ where
         → db ≡ (state N.Store n.ledger.connection).now.trees)) }
 {
     let evening = Evening::new(rt, log, alloc, keep, seen, parts);
-    let EndedEvening { ended, renewed } = serve_evening::<Brand, R, G, S, N, P>(
+    let EndedEvening { ended, renewed } = serve_evening::<Brand, R, G, W, S, N, P>(
         rt,
         log,
         alloc,
-        listener,
+        network,
         times,
         permits,
         evening,

@@ -4,10 +4,10 @@ use Rattle.std.specs.List.{AllByRecursion}
 use Rattle.sqlite.specs.State.{State}
 use Rattle.mq_request.specs.declared.message.Request.{Request}
 use Rattle.mq_ledger.specs.declared.zone.Zone.{Zone}
-use Rattle.mq_ledger.specs.Legal.{Book}
 use Rattle.mq_forget.specs.Remembered.{remembered_book}
+use Rattle.mq_connections.specs.Asking.{out}
 use Rattle.mq_connections.specs.Sessions.{HaveServed, Outside}
-use Rattle.mq_connections.specs.Wires.{unknown}
+use Rattle.mq_connections.specs.Wires.{Wire}
 use Rattle.mq_store.specs.Soundness.{book_in, IsSound}
 
 -- this one was closed last, where it is known which were
@@ -20,32 +20,29 @@ abbrev pub AreKept : {C : Type 0} → (C → Type 0) → Option (List C) → Typ
 AreKept Is (Some closed) = AllByRecursion Is closed
 AreKept Is None = ⊥
 
--- the outside of a ledger that means this book; nothing is known here of its calls and of the wires
-abbrev pub around : Book → Outside
-around b = record { book = b; told = None; wires = unknown }
+-- Connections were served: each is a session over its wire, whose answers are those of a ledger of the first book over what
+-- came to it before on any of them, and nothing else came to it.
+abbrev pub AreServed : Outside → Outside → Type 0
+AreServed old new = (failed : Option Request) × HaveServed old new failed
 
--- Connections were served: each is a session, whose answers are those of a ledger of the first book over what came to it
--- before on any of them, and nothing else came to it.
-abbrev pub AreServed : Book → Book → Type 0
-AreServed old new = (failed : Option Request) × HaveServed (around old) (around new) failed
-
--- From the first book on, night after night: connections were served, and then what isn't remembered from a day on was
--- forgotten, or nothing was, since the new ledger couldn't take the place of the former one.
-pub data AfterNights (start : Book) : Book → Type 0 where
+-- From the first book and its wires on, night after night: connections were served, and then what isn't remembered from a day on
+-- was forgotten, or nothing was, since the new ledger couldn't take the place of the former one.
+pub data AfterNights (start : Outside) : Outside → Type 0 where
   Begun : AfterNights start start
-  Night : (b grown : Book) (day : ℕ) → AfterNights start b → AreServed b grown → AfterNights start (remembered_book day grown)
-  Stayed : (b grown : Book) → AfterNights start b → AreServed b grown → AfterNights start grown
+  Night : (b grown : Outside) (day : ℕ) → AfterNights start b → AreServed b grown
+      → AfterNights start (out (remembered_book day grown.book) grown.wires)
+  Stayed : (b grown : Outside) → AfterNights start b → AreServed b grown → AfterNights start grown
 
 -- the same, and then connections were served
-pub record ServesNights (start now : Book) : Type 0 where
-  pub dawn : Book
+pub record ServesNights (start now : Outside) : Type 0 where
+  pub dawn : Outside
   pub nights : AfterNights start dawn
   pub served : AreServed dawn now
 
--- the sound store means what a ledger of this book means after a night
-abbrev pub HasDawned : Zone → ℕ → Book → State → Type 0
-HasDawned zone default old new = IsSound zone default new × AfterNights old (book_in zone default new.now)
+-- the sound store means what a ledger of this book means after a night, which left these wires
+abbrev pub HasDawned : Zone → ℕ → Outside → State → (ℕ → Wire) → Type 0
+HasDawned zone default old new wires = IsSound zone default new × AfterNights old (out (book_in zone default new.now) wires)
 
--- the sound store means what a ledger of this book means after nights, and what was served since
-abbrev pub HasPassed : Zone → ℕ → Book → State → Type 0
-HasPassed zone default old new = IsSound zone default new × ServesNights old (book_in zone default new.now)
+-- the sound store means what a ledger of this book means after nights, and what was served since, which left these wires
+abbrev pub HasPassed : Zone → ℕ → Outside → State → (ℕ → Wire) → Type 0
+HasPassed zone default old new wires = IsSound zone default new × ServesNights old (out (book_in zone default new.now) wires)

@@ -8,6 +8,8 @@ use Rattle.sqlite.specs.State.{State}
 use Rattle.mq_ledger.specs.declared.zone.Zone.{Zone}
 use Rattle.mq_ledger.specs.Legal.{Book}
 use Rattle.mq_tables.specs.Making.{AreUnnamed}
+use Rattle.mq_connections.specs.Asking.{out}
+use Rattle.mq_connections.specs.Wires.{Wire}
 use Rattle.mq_settings.specs.declared.settings.value.Place.{Place}
 use Rattle.mq_settings.specs.declared.settings.value.Place.TheVariants as place
 use Rattle.mq_rows.specs.declared.audited.Audit.TheVariants.{Sound}
@@ -47,14 +49,14 @@ pub record IsMadeIn (zone : Zone) (default : ℕ) (image : Image) (new : State) 
   pub beside : (db : Database) → IsDatabase db → HoldsDatabase image db.trees → lacks_sequence db.schema ≡ false
       → AreUnnamed db.schema → IsNew zone default new
 
--- A legal history whose rows the files kept is of this zone and default; what was served after it, and nothing else, is what
--- the sound store has gained.
-abbrev pub ServesFrom : {A : Type 0} → Zone → ℕ → Image → State → Result A ProgramFault → Type 0
-ServesFrom zone default image new outcome =
+-- A legal history whose rows the files kept is of this zone and default; what was served after it over these wires, and nothing
+-- else, is what the sound store has gained.
+abbrev pub ServesFrom : {A : Type 0} → Zone → ℕ → Image → (before : ℕ → Wire) → State → (after : ℕ → Wire) → Result A ProgramFault → Type 0
+ServesFrom zone default image before new after outcome =
     (b : Book) → KeepsBook image b
-    → (b.zone ≡ zone) × (b.default ≡ default) × HasServed zone default b new outcome
+    → (b.zone ≡ zone) × (b.default ≡ default) × HasServed zone default (out b before) new after outcome
 
--- where the database file was empty, what was served, and nothing else, is what the sound store means
-abbrev pub ServesFromNothing : {A : Type 0} → Zone → ℕ → Image → State → Result A ProgramFault → Type 0
-ServesFromNothing zone default image new outcome =
-    image.db ≡ [] → HasServed zone default (book_of zone default []) new outcome
+-- where the database file was empty, what was served over these wires, and nothing else, is what the sound store means
+abbrev pub ServesFromNothing : {A : Type 0} → Zone → ℕ → Image → (before : ℕ → Wire) → State → (after : ℕ → Wire) → Result A ProgramFault → Type 0
+ServesFromNothing zone default image before new after outcome =
+    image.db ≡ [] → HasServed zone default (out (book_of zone default []) before) new after outcome

@@ -5,6 +5,7 @@ ghost use Rattle.mq_process.specs.Settings.{AreInRange};
 ghost use Rattle.mq_server.specs.Delivery.{HasGrown};
 ghost use Rattle.mq_store.specs.Forgetting.{IsRemembered};
 ghost use Rattle.mq_store.specs.Soundness.{book_in, HasKept, IsSound};
+ghost use Rattle.mq_connections.specs.Asking.{out};
 ghost use Rattle.mq_program.specs.Nights.{AreKept, AreServed, HasDawned, HasPassed};
 
 use crate::caretaker::Caretaker;
@@ -17,8 +18,8 @@ use crate::serving::{
 use crate::store::{ledger_of_settings, log_cause};
 use crate::switching::{Names, NoSwitch, PartStore, begin_switch, discard_part, make_part, switch};
 use log::{Log, info};
-use mq_connections::Connections;
 use mq_connections::laws::nothing_is_served;
+use mq_connections::{Connections, Port};
 use mq_ledger::{Ledger, LedgerFault, Zone};
 use mq_nights::{Look, NoPart, Parts, RenewedLedger, Seen, pass_night};
 use mq_permits::Permits;
@@ -28,7 +29,6 @@ use mq_store::SqlLedger;
 use mq_watch::{LedgerDays, WatchedLedger};
 use sqlite::{Alter, Connection, Unknown};
 use std::alloc::AllocError;
-use std::net::{Net, TcpListener, TcpStream};
 use std::rt::{Clock, Files};
 use std::time::Instant;
 
@@ -221,22 +221,22 @@ fn end_night<'a, R: Clock, G: Log, S: Alter + Drop, N: Alter + Drop>(
 
 /// Serves a ledger until a renewal of it is through, or the serving is over. It goes over any
 /// stores, since a proof over the file's own takes far longer.
-fn pass<'a, R, G: Log, S: Alter + Drop, N: Alter + Drop, P: Parts<N> + Drop>(
+fn pass<'a, R, G: Log, W: Port, S: Alter + Drop, N: Alter + Drop, P: Parts<N> + Drop>(
     nights: &Nights<'a, R, G>,
-    listener: &TcpListener,
+    network: &mut W,
     seen: Seen,
     parts: P,
     serving: Serving<'a, S, R, G>,
     left: &mut Connections,
 ) -> PassedNight<'a, S, N, R, G>
 where
-    R: Clock + Net + AllocGlobal,
+    R: Clock + AllocGlobal,
     ensures lent { (result.ledger.zone ≡ serving.entry.zone)
         × (result.ledger.default ≡ serving.entry.default) }
     ensures kept { HasKept (state S.Store result.ledger.connection)
         → HasKept (state S.Store serving.entry.connection) }
 
-    // The ledger gained what was served, and nothing else.
+    // The ledger gained what was served over these wires, and nothing else.
     ensures sound { HasKept (state S.Store result.ledger.connection)
         → IsSound serving.entry.zone serving.entry.default (state S.Store serving.entry.connection)
         → IsSound result.ledger.zone result.ledger.default
@@ -249,10 +249,10 @@ where
         (state S.Store result.ledger.connection).now) }
     ensures serves { HasKept (state S.Store result.ledger.connection)
         → IsSound serving.entry.zone serving.entry.default (state S.Store serving.entry.connection)
-        → AreServed (book_in serving.entry.zone serving.entry.default
-        (state S.Store serving.entry.connection).now)
-        (book_in result.ledger.zone result.ledger.default
-        (state S.Store result.ledger.connection).now) }
+        → AreServed (out (book_in serving.entry.zone serving.entry.default
+        (state S.Store serving.entry.connection).now) (W.wire network.old))
+        (out (book_in result.ledger.zone result.ledger.default
+        (state S.Store result.ledger.connection).now) (W.wire network.new)) }
 
     // The next one has exactly what is remembered of it.
     ensures next_lent { HasKept (state S.Store result.ledger.connection)
@@ -274,7 +274,7 @@ where
         rt,
         log,
         rt.alloc(),
-        listener,
+        network,
         times,
         nights.permits,
         nights.keep,
@@ -320,16 +320,16 @@ fn stay_with<'a, R: Clock, G: Log, N: Alter + Drop>(
 
 /// Serves a ledger until a renewal of it is through, and the new one has taken its place, or can't
 /// be given it. Where the server ends before, it gives the ledger that was served last.
-fn serve_to_dawn<'a, R, G: Log, N: Alter + Drop, F>(
+fn serve_to_dawn<'a, R, G: Log, W: Port, N: Alter + Drop, F>(
     nights: &Nights<'a, R, G>,
-    listener: &TcpListener,
+    network: &mut W,
     seen: Seen,
     files: &mut F,
     serving: Serving<'a, N, R, G>,
     left: &mut Connections,
 ) -> Result<Dawn<'a, N, R, G>, EndedServing<N>>
 where
-    R: Clock + Net + AllocGlobal,
+    R: Clock + AllocGlobal,
     F: Parts<N> + Switch<Connection<N>> + Copy + Drop,
     ensures closed { AreKept (λ c. HasKept (state N.Store c)) (F.closed files.new)
         → AreKept (λ c. HasKept (state N.Store c)) (F.closed files.old) }
@@ -342,19 +342,19 @@ where
         → IfOk result (λ d. HasKept (state N.Store d.serving.connection)
         → (d.serving.zone ≡ serving.entry.zone) × (d.serving.default ≡ serving.entry.default)
         × HasDawned serving.entry.zone serving.entry.default
-        (book_in serving.entry.zone serving.entry.default
-        (state N.Store serving.entry.connection).now)
-        (state N.Store d.serving.connection)) }
+        (out (book_in serving.entry.zone serving.entry.default
+        (state N.Store serving.entry.connection).now) (W.wire network.old))
+        (state N.Store d.serving.connection) (W.wire network.new)) }
     ensures end { AreKept (λ c. HasKept (state N.Store c)) (F.closed files.new) → F.is_fresh
         → IsSound serving.entry.zone serving.entry.default (state N.Store serving.entry.connection)
         → IfErr result (λ s. HasKept (state N.Store s.ledger.connection)
         → HasPassed serving.entry.zone serving.entry.default
-        (book_in serving.entry.zone serving.entry.default
-        (state N.Store serving.entry.connection).now)
-        (state N.Store s.ledger.connection)) }
+        (out (book_in serving.entry.zone serving.entry.default
+        (state N.Store serving.entry.connection).now) (W.wire network.old))
+        (state N.Store s.ledger.connection) (W.wire network.new)) }
 {
     nothing_is_served();
-    let PassedNight { ledger, outcome } = pass(nights, listener, seen, *files, serving, left);
+    let PassedNight { ledger, outcome } = pass(nights, network, seen, *files, serving, left);
     match outcome {
         Ok(Some(dawn)) => {
             if files.begin().is_err() {
@@ -383,29 +383,30 @@ where
 }
 
 /// Serves a ledger, and each that a renewal makes of the one before.
-fn pass_nights<R, G: Log, N: Alter + Drop, F>(
+fn pass_nights<R, G: Log, W: Port, N: Alter + Drop, F>(
     nights: &Nights<'_, R, G>,
-    listener: &TcpListener,
+    network: &mut W,
     files: &mut F,
     ledger: SqlLedger<N>,
     days: Option<LedgerDays>,
 ) -> EndedServing<N>
 where
-    R: Clock + Net + AllocGlobal,
+    R: Clock + AllocGlobal,
     F: Parts<N> + Switch<Connection<N>> + Copy + Drop,
     ensures kept { AreKept (λ c. HasKept (state N.Store c)) (F.closed files.new)
         → HasKept (state N.Store result.ledger.connection)
         → HasKept (state N.Store ledger.connection) }
 
     // Where each ledger that was closed had kept its premise, and so has the last one: night after
-    // night connections were served, and what isn't remembered was forgotten, or nothing was, and
-    // nothing else came to what the ledger means.
+    // night connections were served over these wires, and what isn't remembered was forgotten, or
+    // nothing was, and nothing else came to what the ledger means.
     ensures nights { AreKept (λ c. HasKept (state N.Store c)) (F.closed files.new) → F.is_fresh
         → IsSound ledger.zone ledger.default (state N.Store ledger.connection)
         → HasKept (state N.Store result.ledger.connection)
         → HasPassed ledger.zone ledger.default
-        (book_in ledger.zone ledger.default (state N.Store ledger.connection).now)
-        (state N.Store result.ledger.connection) }
+        (out (book_in ledger.zone ledger.default (state N.Store ledger.connection).now)
+        (W.wire network.old))
+        (state N.Store result.ledger.connection) (W.wire network.new) }
 {
     nothing_is_served();
     let rt = nights.rt;
@@ -414,7 +415,7 @@ where
     let mut seen = Seen::nothing();
     // (there are fewer nights than that)
     for _night in 0..u64::MAX {
-        match serve_to_dawn(nights, listener, seen, files, serving, &mut left) {
+        match serve_to_dawn(nights, network, seen, files, serving, &mut left) {
             Ok(dawn) => {
                 seen = dawn.seen;
                 serving = dawn.serving;
@@ -477,14 +478,16 @@ fn log_start<R, G: Log, S: Alter>(
 }
 
 /// Logs the start over a ledger, with what its last night did, and listens at the address of the
-/// settings. It gives the days on which something was reserved, too.
-fn prepare<R, G: Log, S: Alter>(
+/// settings. It gives the days on which something was reserved.
+fn prepare<R, G: Log, W: Port, S: Alter>(
     nights: &Nights<'_, R, G>,
+    network: &mut W,
     ledger: &mut SqlLedger<S>,
     took: Elapsed,
-) -> Result<(TcpListener, Option<LedgerDays>), ProgramFault>
+) -> Result<Option<LedgerDays>, ProgramFault>
 where
-    R: Files + Net<Listener = TcpListener, Stream = TcpStream> + AllocGlobal,
+    R: Files + AllocGlobal,
+    ensures wires { W.wire network.new ≡ W.wire network.old }
     ensures lent { (ledger.new.zone ≡ ledger.old.zone) × (ledger.new.default ≡ ledger.old.default) }
     ensures kept { HasKept (state S.Store ledger.new.connection)
         → HasKept (state S.Store ledger.old.connection) }
@@ -505,37 +508,39 @@ where
     if let Some(night) = last_night(nights.rt, path) {
         info!(log; "ledger {path}: {night}");
     }
-    let listener = bind(nights.rt, log, nights.settings.listen)?;
-    Ok((listener, days))
+    bind(log, network, nights.settings.listen)?;
+    Ok(days)
 }
 
 /// Serves a ledger, and each that a renewal makes of it. The start, the end and what prevents it
 /// are logged. It goes over any store, as all above does: each way out of a function that owns a
 /// ledger over the file's own store takes long to prove.
-fn begin_nights<R, G: Log, N: Alter + Drop, F>(
+fn begin_nights<R, G: Log, W: Port, N: Alter + Drop, F>(
     nights: &Nights<'_, R, G>,
+    network: &mut W,
     files: &mut F,
     ledger: SqlLedger<N>,
     took: Elapsed,
 ) -> EndedServing<N>
 where
-    R: Files + Clock + Net<Listener = TcpListener, Stream = TcpStream> + AllocGlobal,
+    R: Files + Clock + AllocGlobal,
     F: Parts<N> + Switch<Connection<N>> + Copy + Drop,
     ensures { AreKept (λ c. HasKept (state N.Store c)) (F.closed files.new) → F.is_fresh
         → IsSound ledger.zone ledger.default (state N.Store ledger.connection)
         → HasKept (state N.Store result.ledger.connection)
         → HasPassed ledger.zone ledger.default
-        (book_in ledger.zone ledger.default (state N.Store ledger.connection).now)
-        (state N.Store result.ledger.connection) }
+        (out (book_in ledger.zone ledger.default (state N.Store ledger.connection).now)
+        (W.wire network.old))
+        (state N.Store result.ledger.connection) (W.wire network.new) }
 {
     nothing_is_served();
     let mut ledger = ledger;
-    match prepare(nights, &mut ledger, took) {
-        Ok((listener, days)) => {
+    match prepare(nights, network, &mut ledger, took) {
+        Ok(days) => {
             let address = nights.settings.listen;
             let crowd = Crowd(nights.connections);
             info!(nights.log; "listening on {address} for {crowd}");
-            pass_nights(nights, &listener, files, ledger, days)
+            pass_nights(nights, network, files, ledger, days)
         }
         Err(fault) => EndedServing {
             ledger,
@@ -546,9 +551,10 @@ where
 
 /// Serves so many connections over the ledger in the file of the settings, with `create` over a new
 /// one. Meanwhile days leave it, but today and so many before. The permits say who may ask what.
-pub fn listen_by_night<R, G: Log>(
+pub fn listen_by_night<R, G: Log, W: Port>(
     rt: &R,
     log: &G,
+    network: &mut W,
     settings: &ServerSettings,
     permits: Option<&Permits>,
     names: &Names,
@@ -557,7 +563,7 @@ pub fn listen_by_night<R, G: Log>(
     connections: Connections,
 ) -> Result<u8, ProgramFault>
 where
-    R: Databases + Clock + Net<Listener = TcpListener, Stream = TcpStream>,
+    R: Databases + Clock,
     requires { AreInRange settings.now }
 {
     let since = Instant::now(rt).ok();
@@ -579,5 +585,5 @@ where
     // (the files of nights have one type, and of one that a renewal makes nothing is known before)
     let ledger = ledger_of_settings(rt, log, settings, create, Unknown)?;
     let took = Elapsed(elapsed(rt, since));
-    outcome_of(begin_nights(&nights, &mut files, ledger, took))
+    outcome_of(begin_nights(&nights, network, &mut files, ledger, took))
 }

@@ -12,8 +12,8 @@ ghost use Rattle.mq_program.specs.AfterForgetting.{ServesRemembered};
 ghost use Rattle.mq_program.specs.Serving.{connections_of, HasServed, Serves};
 ghost use Rattle.mq_program.specs.Opened.{ServesFrom, ServesFromNothing};
 ghost use Rattle.mq_connections.specs.declared.fault.RoomFault.TheVariants.{Store as store_failed};
+ghost use Rattle.mq_connections.specs.Asking.{out};
 ghost use Rattle.mq_connections.specs.Sessions.{EndsServing};
-ghost use Rattle.mq_connections.specs.Wires.{unknown};
 ghost use Rattle.mq_program.specs.declared.fault.ProgramFault.TheVariants.{Serve};
 ghost use Rattle.mq_process.specs.Settings.{AreInRange};
 
@@ -31,7 +31,7 @@ use log::sink::Console;
 use log::{Log, Logged, error, info, warn};
 use mq_chore::{Chore, NoChore};
 use mq_connections::laws::nothing_is_served;
-use mq_connections::{Connections, Times, serve_connections};
+use mq_connections::{Connections, Port, Sockets, Times, serve_connections};
 use mq_forget::laws::late_requests_touch_no_later_day;
 use mq_ledger::laws::{built_is_legal, one_more_arrival};
 use mq_ledger::{Ledger, LedgerFault};
@@ -101,9 +101,11 @@ where
 {
     let logged = Logged::new(rt, settings.log, Console(rt));
     let permits = permits_of_settings(rt, &logged, settings)?;
+    let mut sockets = Sockets::new(rt, &logged, rt.alloc());
     serve_permitted(
         rt,
         &logged,
+        &mut sockets,
         settings,
         permits.as_ref(),
         create,
@@ -112,10 +114,11 @@ where
     )
 }
 
-/// Serves so many connections by these settings, to whom these permits allow it.
-fn serve_permitted<R, G: Log, S: Start>(
+/// Serves so many connections of a network by these settings, to whom these permits allow it.
+fn serve_permitted<R, G: Log, W: Port, S: Start>(
     rt: &R,
     log: &G,
+    network: &mut W,
     settings: &ServerSettings,
     permits: Option<&Permits>,
     create: bool,
@@ -123,7 +126,7 @@ fn serve_permitted<R, G: Log, S: Start>(
     start: S,
 ) -> Result<u8, ProgramFault>
 where
-    R: Databases + Clock + Net<Listener = TcpListener, Stream = TcpStream>,
+    R: Databases + Clock,
     requires { AreInRange settings.now }
 {
     match &settings.store {
@@ -131,7 +134,7 @@ where
             if settings.keep.is_some() {
                 warn!(log; "a ledger in memory forgets nothing, whatever `keep` says");
             }
-            outcome_of(listen_in_memory(rt, log, settings, permits, connections)?)
+            outcome_of(listen_in_memory(rt, log, network, settings, permits, connections)?)
         }
         Place::File(path) => {
             warn_of_memory(rt, log, path.as_str());
@@ -141,6 +144,7 @@ where
                 return listen_by_night(
                     rt,
                     log,
+                    network,
                     settings,
                     permits,
                     &names,
@@ -152,6 +156,7 @@ where
             let served = listen_over_file(
                 rt,
                 log,
+                network,
                 settings,
                 permits,
                 &names,
@@ -181,21 +186,22 @@ pub fn outcome_of<S: Alter + Drop>(served: EndedServing<S>) -> Result<u8, Progra
 }
 
 /// Serves so many connections over a new ledger in memory.
-fn listen_in_memory<R, G: Log>(
+fn listen_in_memory<R, G: Log, W: Port>(
     rt: &R,
     log: &G,
+    network: &mut W,
     settings: &ServerSettings,
     permits: Option<&Permits>,
     connections: Connections,
 ) -> Result<EndedServing<MemStore>, ProgramFault>
 where
-    R: Clock + Net<Listener = TcpListener, Stream = TcpStream> + AllocGlobal,
+    R: Clock + AllocGlobal,
     requires { AreInRange settings.now }
 
-    // It begins with no history, and gains what is served, and nothing else.
+    // It begins with no history, and gains what is served over these wires, and nothing else.
     ensures { IfOk result (λ served. HasServed settings.now.zone settings.now.default
-        (book_of settings.now.zone settings.now.default [])
-        (state over_memory served.ledger.connection)
+        (out (book_of settings.now.zone settings.now.default []) (W.wire network.old))
+        (state over_memory served.ledger.connection) (W.wire network.new)
         served.outcome) }
 {
     let since = Instant::now(rt).ok();
@@ -204,6 +210,7 @@ where
     Ok(listen_over(
         rt,
         log,
+        network,
         settings,
         permits,
         ledger,
@@ -215,9 +222,10 @@ where
 
 /// Serves so many connections over the ledger in the file of the settings; with `create` over a new
 /// one.
-fn listen_over_file<R, G: Log, S: Start>(
+fn listen_over_file<R, G: Log, W: Port, S: Start>(
     rt: &R,
     log: &G,
+    network: &mut W,
     settings: &ServerSettings,
     permits: Option<&Permits>,
     names: &Names,
@@ -226,19 +234,21 @@ fn listen_over_file<R, G: Log, S: Start>(
     start: S,
 ) -> Result<EndedServing<FileStore<FileFrom<S>>>, ProgramFault>
 where
-    R: Databases + Clock + Net<Listener = TcpListener, Stream = TcpStream>,
+    R: Databases + Clock,
     requires { AreInRange settings.now }
 
-    // A server begins with the history whose rows the files hold, and gains what is served, and
-    // nothing else; so does one that makes its ledger, with no history.
+    // A server begins with the history whose rows the files hold, and gains what is served over
+    // these wires, and nothing else; so does one that makes its ledger, with no history.
     ensures begun { create ≡ false → IfOk result (λ served. HasKept
         (file_state served.ledger.connection)
         → ServesFrom settings.now.zone settings.now.default (image_at S.Start)
-        (file_state served.ledger.connection) served.outcome) }
+        (W.wire network.old) (file_state served.ledger.connection) (W.wire network.new)
+        served.outcome) }
     ensures made { IsTrue create → IfOk result (λ served. HasKept
         (file_state served.ledger.connection)
         → ServesFromNothing settings.now.zone settings.now.default (image_at S.Start)
-        (file_state served.ledger.connection) served.outcome) }
+        (W.wire network.old) (file_state served.ledger.connection) (W.wire network.new)
+        served.outcome) }
 
     // Over what a forgetting left, and what came since, who asks about the kept days under no
     // forgotten number is answered as if nothing had been forgotten, as long as what came is about
@@ -246,7 +256,8 @@ where
     ensures remembered { create ≡ false → IfOk result (λ served. HasKept
         (file_state served.ledger.connection)
         → ServesRemembered settings.now.zone settings.now.default (image_at S.Start)
-        (file_state served.ledger.connection) served.outcome) }
+        (W.wire network.old) (file_state served.ledger.connection) (W.wire network.new)
+        served.outcome) }
 {
     late_requests_touch_no_later_day();
     one_more_arrival();
@@ -258,6 +269,7 @@ where
     Ok(listen_over(
         rt,
         log,
+        network,
         settings,
         permits,
         ledger,
@@ -269,9 +281,10 @@ where
 
 /// Serves so many connections over a ledger, with this chore between the requests. It goes over any
 /// store, since a proof over the file's own takes far longer.
-fn listen_over<R, G: Log, S: Alter + Drop, K: Chore<SqlLedger<S>> + Drop>(
+fn listen_over<R, G: Log, W: Port, S: Alter + Drop, K: Chore<SqlLedger<S>> + Drop>(
     rt: &R,
     log: &G,
+    network: &mut W,
     settings: &ServerSettings,
     permits: Option<&Permits>,
     ledger: SqlLedger<S>,
@@ -280,7 +293,7 @@ fn listen_over<R, G: Log, S: Alter + Drop, K: Chore<SqlLedger<S>> + Drop>(
     connections: Connections,
 ) -> EndedServing<S>
 where
-    R: Clock + Net<Listener = TcpListener, Stream = TcpStream> + AllocGlobal,
+    R: Clock + AllocGlobal,
     ensures same { (result.ledger.zone ≡ ledger.zone) × (result.ledger.default ≡ ledger.default) }
     ensures kept { HasKept (state S.Store result.ledger.connection)
         → HasKept (state S.Store ledger.connection) }
@@ -289,14 +302,25 @@ where
         → IsSound ledger.zone ledger.default (state S.Store result.ledger.connection) }
     ensures serves { HasKept (state S.Store result.ledger.connection)
         → IsSound ledger.zone ledger.default (state S.Store ledger.connection)
-        → Serves (book_in ledger.zone ledger.default (state S.Store ledger.connection).now)
-        (book_in ledger.zone ledger.default (state S.Store result.ledger.connection).now)
-        result.outcome }
+        → Serves (out (book_in ledger.zone ledger.default (state S.Store ledger.connection).now)
+        (W.wire network.old))
+        (out (book_in ledger.zone ledger.default (state S.Store result.ledger.connection).now)
+        (W.wire network.new)) result.outcome }
 {
     nothing_is_served();
     let mut ledger = ledger;
     match days_at_start(log, settings, &mut ledger, took) {
-        Ok(days) => begin(rt, log, settings, permits, ledger, days, chore, connections),
+        Ok(days) => begin(
+            rt,
+            log,
+            network,
+            settings,
+            permits,
+            ledger,
+            days,
+            chore,
+            connections,
+        ),
         Err(fault) => {
             log_cause(log, place_name(&settings.store), &ledger);
             EndedServing {
@@ -351,9 +375,10 @@ pub fn days_of<S: Alter>(ledger: &mut SqlLedger<S>) -> Result<Option<LedgerDays>
 
 /// Serves so many connections over a ledger, and logs what an administrator has to see of their
 /// requests.
-fn begin<R, G: Log, S: Alter + Drop, K: Chore<SqlLedger<S>> + Drop>(
+fn begin<R, G: Log, W: Port, S: Alter + Drop, K: Chore<SqlLedger<S>> + Drop>(
     rt: &R,
     log: &G,
+    network: &mut W,
     settings: &ServerSettings,
     permits: Option<&Permits>,
     ledger: SqlLedger<S>,
@@ -362,7 +387,7 @@ fn begin<R, G: Log, S: Alter + Drop, K: Chore<SqlLedger<S>> + Drop>(
     connections: Connections,
 ) -> EndedServing<S>
 where
-    R: Clock + Net<Listener = TcpListener, Stream = TcpStream> + AllocGlobal,
+    R: Clock + AllocGlobal,
     ensures same { (result.ledger.zone ≡ ledger.zone) × (result.ledger.default ≡ ledger.default) }
     ensures kept { HasKept (state S.Store result.ledger.connection)
         → HasKept (state S.Store ledger.connection) }
@@ -371,9 +396,10 @@ where
         → IsSound ledger.zone ledger.default (state S.Store result.ledger.connection) }
     ensures serves { HasKept (state S.Store result.ledger.connection)
         → IsSound ledger.zone ledger.default (state S.Store ledger.connection)
-        → Serves (book_in ledger.zone ledger.default (state S.Store ledger.connection).now)
-        (book_in ledger.zone ledger.default (state S.Store result.ledger.connection).now)
-        result.outcome }
+        → Serves (out (book_in ledger.zone ledger.default (state S.Store ledger.connection).now)
+        (W.wire network.old))
+        (out (book_in ledger.zone ledger.default (state S.Store result.ledger.connection).now)
+        (W.wire network.new)) result.outcome }
 {
     let mut watched = WatchedLedger::new(rt, log, rt.alloc(), ledger, days);
     let mut chore = InnerChore { chore };
@@ -381,6 +407,7 @@ where
         rt,
         log,
         rt.alloc(),
+        network,
         settings,
         permits,
         &mut watched,
@@ -442,14 +469,17 @@ pub fn log_ledger<G: Log, S: Alter>(
     Ok(())
 }
 
-/// Listens at an address. What prevents it is logged.
-pub fn bind<R, G: Log>(rt: &R, log: &G, address: SocketAddr) -> Result<TcpListener, ProgramFault>
-where
-    R: Net<Listener = TcpListener, Stream = TcpStream>,
-    ensures { IfErr result (λ fault. fault ≡ ProgramFault.Listen) }
+/// Has a network listen at an address. What prevents it is logged.
+pub fn bind<W: Port, G: Log>(
+    log: &G,
+    network: &mut W,
+    address: SocketAddr,
+) -> Result<(), ProgramFault>
+    ensures fault { IfErr result (λ fault. fault ≡ ProgramFault.Listen) }
+    ensures same { W.wire network.new ≡ W.wire network.old }
 {
-    match TcpListener::bind(rt, address) {
-        Ok(listener) => Ok(listener),
+    match network.listen(address) {
+        Ok(()) => Ok(()),
         Err(error) => {
             error!(log; "listening on {address}: {error}");
             Err(ProgramFault::Listen)
@@ -471,18 +501,17 @@ pub fn times_of(settings: &ServerSettings) -> Times
 /// Listens at the address of the settings, and serves so many connections over the ledger, with
 /// this chore between the requests, which is to have no end. The start, the end and what prevents
 /// it are logged.
-pub fn listen<R, G: Log, L: Ledger + Hear, K: Chore<L>>(
+pub fn listen<R: Clock, G: Log, W: Port, L: Ledger + Hear, K: Chore<L>>(
     rt: &R,
     log: &G,
     alloc: Global,
+    network: &mut W,
     settings: &ServerSettings,
     permits: Option<&Permits>,
     ledger: &mut L,
     chore: &mut K,
     connections: Connections,
 ) -> Result<u8, ProgramFault>
-where
-    R: Clock + Net<Listener = TcpListener, Stream = TcpStream>,
     ensures same_zone { (L.book ledger.new).zone ≡ (L.book ledger.old).zone }
     ensures same_default { (L.book ledger.new).default ≡ (L.book ledger.old).default }
     ensures kept { L.has_kept ledger.new → L.has_kept ledger.old }
@@ -490,23 +519,22 @@ where
     ensures history { L.has_kept ledger.new → L.is_sound ledger.old →
         HasGrown (L.book ledger.old) (L.book ledger.new) }
     ensures serves { L.has_kept ledger.new → L.is_sound ledger.old → EndsServing
-        (record { book = L.book ledger.old; told = L.told ledger.old; wires = unknown })
-        (record { book = L.book ledger.new; told = L.told ledger.new; wires = unknown })
+        (record { book = L.book ledger.old; told = L.told ledger.old; wires = W.wire network.old })
+        (record { book = L.book ledger.new; told = L.told ledger.new; wires = W.wire network.new })
         (Serve store_failed) result }
 {
     nothing_is_served();
     let address = settings.listen;
-    let listener = match bind(rt, log, address) {
-        Ok(listener) => listener,
-        Err(fault) => return Err(fault),
-    };
+    if let Err(fault) = bind(log, network, address) {
+        return Err(fault);
+    }
     let crowd = Crowd(connections);
     info!(log; "listening on {address} for {crowd}");
     let times = times_of(settings);
     let mut left = connections;
     // (it is `ServingEnd::Over`: the chore is never done)
     let _ended = serve_connections(
-        rt, log, alloc, &listener, times, permits, ledger, chore, &mut left,
+        rt, log, alloc, network, times, permits, ledger, chore, &mut left,
     )?;
     info!(log; "ending after {crowd}");
     Ok(0)

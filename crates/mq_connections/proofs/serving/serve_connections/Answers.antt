@@ -1,48 +1,41 @@
-use Rattle.std.proofs.Common.{Err, refl}
+use Rattle.std.proofs.Common.{ℕ, subst, sym}
 use Rattle.std.proofs.lemmas.Result.{err_from_is_err_and}
 use Rattle.mq_connections.specs.declared.fault.RoomFault.TheVariants as faults
-use Rattle.mq_connections.specs.Sessions.{Outside}
-use Rattle.mq_connections.specs.Wires.{unknown}
+use Rattle.mq_connections.specs.Sessions.{EndsServing, Outside}
+use Rattle.mq_connections.specs.Wires.{Wire}
 use Rattle.mq_connections.proofs.Gaining.{gains_none}
-use Rattle.mq_connections.proofs.Standing.{has_grown, not_memory, not_store, nothing_grown, nothing_served}
+use Rattle.mq_connections.proofs.Standing.{has_grown, not_this, nothing_grown, nothing_served}
 use Rattle.mq_connections.proofs.serving.serve_connections.Goals as goal
 
--- memory was refused before the first connection
-pub returns-in_err-events-clause-serves : goal.returns-in_err-events-clause-serves
-returns-in_err-events-clause-serves g c = λ k s.
-    let o : Outside = record { book = g.L.Ledger.book c.args.ledger.now; told = g.L.Ledger.told c.args.ledger.now; wires = unknown } in
+-- no serving begins, and the wires are as before
+pub returns-in_err-begin-clause-serves : goal.returns-in_err-begin-clause-serves
+returns-in_err-begin-clause-serves g c = λ k s.
+    let o : Outside = record { book = g.L.Ledger.book c.args.ledger.now; told = g.L.Ledger.told c.args.ledger.now; wires = g.N.Network.wire c.args.network.now } in
     let r = c.from_residual.result in
     let p = err_from_is_err_and r c.from_residual.ensures.1 in
-    nothing_served o faults.Store r c.a_life_is_served.ensures.begins (c.more_exchanges.ensures.none o.book (g.met.L.Ledger.sound_is_legal c.args.ledger.now s)) (not_memory r p.0 p.1 p.2)
+    subst (λ (w : ℕ → Wire). EndsServing o (record { book = o.book; told = o.told; wires = w }) faults.Store r) (sym c.in_err-begin.ensures.same)
+    (nothing_served o faults.Store r c.a_life_is_served.ensures.begins (c.more_exchanges.ensures.none o.book (g.met.L.Ledger.sound_is_legal c.args.ledger.now s)) (not_this r p.0 _ p.1 p.2 c.in_err-begin.ensures.fault))
 
-pub returns-in_err-events-clause-history : goal.returns-in_err-events-clause-history
-returns-in_err-events-clause-history g c = λ k s.
-    let o : Outside = record { book = g.L.Ledger.book c.args.ledger.now; told = g.L.Ledger.told c.args.ledger.now; wires = unknown } in
+pub returns-in_err-begin-clause-history : goal.returns-in_err-begin-clause-history
+returns-in_err-begin-clause-history g c = λ k s.
+    let o : Outside = record { book = g.L.Ledger.book c.args.ledger.now; told = g.L.Ledger.told c.args.ledger.now; wires = g.N.Network.wire c.args.network.now } in
     nothing_grown o (c.more_exchanges.ensures.none o.book (g.met.L.Ledger.sound_is_legal c.args.ledger.now s))
 
--- the system doesn't tell of connections
-pub returns-in-Err-clause-serves : goal.returns-in-Err-clause-serves
-returns-in-Err-clause-serves g c = λ k s.
-    let o : Outside = record { book = g.L.Ledger.book c.args.ledger.now; told = g.L.Ledger.told c.args.ledger.now; wires = unknown } in
-    let fault = c.no_wait.result in
-    nothing_served o faults.Store (Err fault) c.a_life_is_served.ensures.begins (c.more_exchanges.ensures.none o.book (g.met.L.Ledger.sound_is_legal c.args.ledger.now s)) (not_store (Err fault) fault fault refl refl c.no_wait.ensures)
+pub returns-in_err-begin-clause-gains : goal.returns-in_err-begin-clause-gains
+returns-in_err-begin-clause-gains g c = λ k s. gains_none _
 
-pub returns-in-Err-clause-history : goal.returns-in-Err-clause-history
-returns-in-Err-clause-history g c = λ k s.
-    let o : Outside = record { book = g.L.Ledger.book c.args.ledger.now; told = g.L.Ledger.told c.args.ledger.now; wires = unknown } in
-    nothing_grown o (c.more_exchanges.ensures.none o.book (g.met.L.Ledger.sound_is_legal c.args.ledger.now s))
-
+-- the serving began over the wires as they were
 pub returns-clause-serves : goal.returns-clause-serves
-returns-clause-serves g c = c.serve_network-outcome.ensures.serves
+returns-clause-serves g c = λ k s.
+    let old = c.args.ledger.now in
+    let e = c.serve_network-outcome in
+    let after : Outside = record { book = g.L.Ledger.book e.new.ledger; told = g.L.Ledger.told e.new.ledger; wires = g.N.Network.wire e.new.network } in
+    subst (λ (w : ℕ → Wire). EndsServing (record { book = g.L.Ledger.book old; told = g.L.Ledger.told old; wires = w }) after faults.Store e.result) c.in_ok-begin.ensures.same (e.ensures.serves k s)
 
 pub returns-clause-history : goal.returns-clause-history
 returns-clause-history g c = λ k s.
-    let before : Outside = record { book = g.L.Ledger.book c.args.ledger.now; told = g.L.Ledger.told c.args.ledger.now; wires = unknown } in
-    let after : Outside = record { book = g.L.Ledger.book c.serve_network-outcome.new.ledger; told = g.L.Ledger.told c.serve_network-outcome.new.ledger; wires = unknown } in
-    has_grown before after faults.Store c.serve_network-outcome.result (c.serve_network-outcome.ensures.serves k s)
-
-pub returns-in_err-events-clause-gains : goal.returns-in_err-events-clause-gains
-returns-in_err-events-clause-gains g c = λ k s. gains_none _
-
-pub returns-in-Err-clause-gains : goal.returns-in-Err-clause-gains
-returns-in-Err-clause-gains g c = λ k s. gains_none _
+    let old = c.args.ledger.now in
+    let e = c.serve_network-outcome in
+    let before : Outside = record { book = g.L.Ledger.book old; told = g.L.Ledger.told old; wires = g.N.Network.wire c.begin.new.self } in
+    let after : Outside = record { book = g.L.Ledger.book e.new.ledger; told = g.L.Ledger.told e.new.ledger; wires = g.N.Network.wire e.new.network } in
+    has_grown before after faults.Store e.result (e.ensures.serves k s)

@@ -23,8 +23,8 @@ returns-clause-serves g c = λ k s.
     let room = c.new-room.result in
     let one = c.serve_rounds-ended.new.room in
     let still = held c.close_all.new.self.opened in
-    let begun = goes_last start start 0 room.last (held room.opened) None c.new-room.ensures.last
-    (begins start (held room.opened) c.a_life_is_served.ensures.begins (c.more_exchanges.ensures.none start.book (g.met.L.Ledger.sound_is_legal c.args.ledger.now s)) c.new-room.ensures.none) in
+    let begun = goes_last start start c.last.result room.last (held room.opened) None c.new-room.ensures.last
+    (begins start c.last.result (held room.opened) c.a_life_is_served.ensures.begins (c.more_exchanges.ensures.none start.book (g.met.L.Ledger.sound_is_legal c.args.ledger.now s)) c.new-room.ensures.none) in
     ends_so start stopped now one.last (held one.opened) still faults.Store c.serve_rounds-ended.result c.close_all.ensures.none (λ failed goes. c.close_all.ensures.goes start stopped.book stopped.told one.last failed goes) (c.serve_rounds-ended.ensures.goes k s start begun)
 
 pub returns-in_err-ready-clause-gains : goal.returns-in_err-ready-clause-gains

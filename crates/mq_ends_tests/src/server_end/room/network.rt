@@ -13,7 +13,7 @@ ghost use Rattle.mq_ends_tests.specs.Peers.{wires_of};
 use crate::server_end::fixtures::stranger;
 use log::Log;
 use mq_chore::Chore;
-use mq_connections::{Network, RoomFault, ServingEnd, Times, serve_network};
+use mq_connections::{Connections, Network, Port, RoomFault, ServingEnd, Times, serve_connections};
 use mq_permits::{Peer as Asker, Permits};
 use mq_watch::Hear;
 use std::alloc::{AllocError, Global};
@@ -229,6 +229,10 @@ impl Network for Peers {
         Ok(Some(stranger(self.address)))
     }
 
+    fn last(&self) -> usize {
+        self.accepted
+    }
+
     fn is_done(&self) -> bool {
         self.accepted >= self.peers.len()
     }
@@ -277,6 +281,24 @@ impl Network for Peers {
     }
 }
 
+impl Port for Peers {
+    fn listen(&mut self, _address: SocketAddr) -> io::Result<()> {
+        Ok(())
+    }
+
+    fn begin(&mut self, _connections: Connections) -> Result<(), RoomFault> {
+        Ok(())
+    }
+
+    fn left(&self) -> Connections {
+        if self.accepted >= self.peers.len() {
+            Connections::Count(0)
+        } else {
+            Connections::Endless
+        }
+    }
+}
+
 /// Adds the numbers of so many connections.
 fn add_all(ready: &mut Vec<usize>, count: usize) -> Result<(), AllocError> {
     for number in 1..=count {
@@ -317,5 +339,16 @@ pub fn serve_peers<C: Clock, G: Log, L: Hear, K: Chore<L>>(
         → Fitted (K.fits chore.old) (L.book ledger.old) →
         result ≡ Ok ServingEnd.Chore → K.is_done chore.new (L.book ledger.new) }
 {
-    serve_network(clock, log, alloc, network, times, permits, ledger, chore)
+    let mut connections = Connections::Endless;
+    serve_connections(
+        clock,
+        log,
+        alloc,
+        network,
+        times,
+        permits,
+        ledger,
+        chore,
+        &mut connections,
+    )
 }

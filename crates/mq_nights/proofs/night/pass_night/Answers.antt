@@ -3,7 +3,6 @@ use Rattle.sqlite.specs.Held.{state}
 use Rattle.mq_ledger.specs.Legal.{Book}
 use Rattle.mq_store.specs.Soundness.{book_in}
 use Rattle.mq_connections.specs.Sessions.{Outside}
-use Rattle.mq_connections.specs.Wires.{unknown}
 use Rattle.mq_connections.specs.declared.fault.RoomFault.TheVariants.{Store}
 use Rattle.mq_nights.specs.Nights.{WasDue}
 use Rattle.mq_nights.proofs.Comes.{there}
@@ -15,8 +14,9 @@ pub returns-clause-serves : goal.returns-clause-serves
 returns-clause-serves g c = λ k s.
     let l = c.args.ledger.now in
     let m = c.serve_evening-ended.new.ledger in
-    let before : Outside = record { book = book_in l.zone l.default (state g.S.Store l.connection).now; told = None; wires = unknown } in
-    let after : Outside = record { book = book_in m.zone m.default (state g.S.Store m.connection).now; told = None; wires = unknown } in
+    let wire = g.W.Network.wire in
+    let before : Outside = record { book = book_in l.zone l.default (state g.S.Store l.connection).now; told = None; wires = wire c.args.network.now } in
+    let after : Outside = record { book = book_in m.zone m.default (state g.S.Store m.connection).now; told = None; wires = wire c.serve_evening-ended.new.network } in
     ends_as before after Store c.serve_evening-ended.result.ended Store c.outcome_of.result (c.serve_evening-ended.ensures.serves k s) c.outcome_of.ensures.store.1 c.outcome_of.ensures.store.0
 
 pub returns-clause-due : goal.returns-clause-due

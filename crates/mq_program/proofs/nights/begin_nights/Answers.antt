@@ -1,5 +1,7 @@
-use Rattle.std.proofs.Common.{subst, subst₂}
+use Rattle.std.proofs.Common.{ℕ, sym, subst, subst₂}
 use Rattle.sqlite.specs.Held.{state}
+use Rattle.mq_connections.specs.Asking.{out}
+use Rattle.mq_connections.specs.Wires.{Wire}
 use Rattle.mq_store.specs.Soundness.{book_in, IsSound}
 use Rattle.mq_program.specs.Nights.{AfterNights, Begun, HasPassed}
 use Rattle.mq_program.proofs.NightSteps.{passed_still}
@@ -10,12 +12,15 @@ returns-in-Ok g c = λ kept fresh sound k.
     let l = c.args.ledger in
     let m = c.prepare.new.ledger in
     let e = c.prepare.ensures in
+    let wire = g.W.Network.wire in
     let before = state g.N.Store m.connection in
     let after = state g.N.Store c.pass_nights.result.ledger.connection in
+    let wires = wire c.pass_nights.new.network in
     let kept_then = c.pass_nights.ensures.kept kept k in
     let has = c.pass_nights.ensures.nights kept fresh (e.sound kept_then sound) k in
-    subst (λ db. HasPassed l.zone l.default (book_in l.zone l.default db) after) (e.same kept_then)
-    (subst₂ (λ z d. HasPassed z d (book_in z d before.now) after) e.lent.0 e.lent.1 has)
+    subst (λ (w : ℕ → Wire). HasPassed l.zone l.default (out (book_in l.zone l.default (state g.N.Store l.connection).now) w) after wires) e.wires
+    (subst (λ db. HasPassed l.zone l.default (out (book_in l.zone l.default db) (wire c.prepare.new.network)) after wires) (e.same kept_then)
+    (subst₂ (λ z d. HasPassed z d (out (book_in z d before.now) (wire c.prepare.new.network)) after wires) e.lent.0 e.lent.1 has))
 
 -- nothing was served
 pub returns-in-Err : goal.returns-in-Err
@@ -24,8 +29,10 @@ returns-in-Err g c = λ _ _ sound k.
     let m = c.prepare.new.ledger in
     let e = c.prepare.ensures in
     let now = state g.N.Store m.connection in
-    let start = book_in l.zone l.default (state g.N.Store l.connection).now in
-    passed_still l.zone l.default start now c.nothing_is_served.ensures (
+    let wires = g.W.Network.wire c.args.network.now in
+    let start = out (book_in l.zone l.default (state g.N.Store l.connection).now) wires in
+    subst (λ (w : ℕ → Wire). HasPassed l.zone l.default start now w) (sym e.wires)
+    (passed_still l.zone l.default start now wires c.nothing_is_served.ensures (
       subst₂ (λ z d. IsSound z d now) e.lent.0 e.lent.1 (e.sound k sound),
-      subst (λ db. AfterNights (book_in l.zone l.default db) (book_in l.zone l.default now.now)) (e.same k) Begun,
-    )
+      subst (λ db. AfterNights (out (book_in l.zone l.default db) wires) (out (book_in l.zone l.default now.now) wires)) (e.same k) Begun,
+    ))

@@ -1,6 +1,7 @@
 use Rattle.std.proofs.Common.{◌≡◌, ◌∙◌, refl, sym, subst, subst₂}
 use Rattle.sqlite.specs.Held.{state}
 use Rattle.mq_store.specs.Soundness.{book_in, HasKept, IsSound}
+use Rattle.mq_connections.specs.Asking.{out}
 use Rattle.mq_program.specs.Nights.{Begun, HasDawned, HasPassed}
 use Rattle.mq_program.proofs.NightSteps.{dawn_on, end_on, passed_still}
 use Rattle.mq_program.proofs.nights.pass_nights.Goals as goal
@@ -8,9 +9,9 @@ use Rattle.mq_program.proofs.nights.pass_nights.Goals as goal
 pub loop-night-init : goal.loop-night-init
 loop-night-init g c =
     let l = c.args.ledger in
-    let start = book_in l.zone l.default (state g.N.Store l.connection).now in (
+    let start = out (book_in l.zone l.default (state g.N.Store l.connection).now) (g.W.Network.wire c.args.network.now) in (
       λ _. subst (λ x. HasKept (state g.N.Store x.connection) → HasKept (state g.N.Store l.connection)) (sym c.new-serving.ensures) (λ k. k),
-      λ _ _ sound. subst (λ x. HasKept (state g.N.Store x.connection) → (x.zone ≡ l.zone) × (x.default ≡ l.default) × HasDawned l.zone l.default start (state g.N.Store x.connection))
+      λ _ _ sound. subst (λ x. HasKept (state g.N.Store x.connection) → (x.zone ≡ l.zone) × (x.default ≡ l.default) × HasDawned l.zone l.default start (state g.N.Store x.connection) (g.W.Network.wire c.args.network.now))
           (sym c.new-serving.ensures) (λ _. (refl, refl, (sound, Begun))),
     )
 
@@ -27,8 +28,8 @@ loop-night-preserved g c =
           let (z, d, has) = e.dawn kept fresh (subst₂ (λ z d. IsSound z d old) (sym zone_is) (sym default_is) is) k in (
             z ∙ zone_is,
             d ∙ default_is,
-            dawn_on l.zone s.zone l.default s.default zone_is default_is (book_in l.zone l.default (state g.N.Store l.connection).now)
-                old (state g.N.Store c.in-Ok.dawn.serving.connection) nights has,
+            dawn_on l.zone s.zone l.default s.default zone_is default_is (out (book_in l.zone l.default (state g.N.Store l.connection).now) (g.W.Network.wire c.args.network.now))
+                old (g.W.Network.wire c.loop-night.network) (state g.N.Store c.in-Ok.dawn.serving.connection) (g.W.Network.wire c.serve_to_dawn.new.network) nights has,
           ),
     )
 
@@ -44,8 +45,8 @@ returns-in-Err-clause-nights g c = λ kept fresh sound k.
     let old = state g.N.Store s.connection in
     let e = c.in-Err.ensures in
     let (zone_is, default_is, (is, nights)) = c.loop-night.invariant.1 (e.closed kept) fresh sound (e.kept kept k) in
-    end_on l.zone s.zone l.default s.default zone_is default_is (book_in l.zone l.default (state g.N.Store l.connection).now)
-    old (state g.N.Store c.in-Err.served.ledger.connection) nights
+    end_on l.zone s.zone l.default s.default zone_is default_is (out (book_in l.zone l.default (state g.N.Store l.connection).now) (g.W.Network.wire c.args.network.now))
+    old (g.W.Network.wire c.loop-night.network) (state g.N.Store c.in-Err.served.ledger.connection) (g.W.Network.wire c.serve_to_dawn.new.network) nights
     (e.end kept fresh (subst₂ (λ z d. IsSound z d old) (sym zone_is) (sym default_is) is) k)
 
 -- after the last night of all
@@ -57,6 +58,6 @@ pub returns-clause-nights : goal.returns-clause-nights
 returns-clause-nights g c = λ kept fresh sound.
     let l = c.args.ledger in
     let s = c.loop-night.serving in
-    let start = book_in l.zone l.default (state g.N.Store l.connection).now in
-    subst (λ x. HasKept (state g.N.Store x.connection) → HasPassed l.zone l.default start (state g.N.Store x.connection)) (sym c.into_inner.ensures) (λ k.
-    passed_still l.zone l.default start (state g.N.Store s.connection) c.nothing_is_served.ensures (c.loop-night.invariant.1 kept fresh sound k).2)
+    let start = out (book_in l.zone l.default (state g.N.Store l.connection).now) (g.W.Network.wire c.args.network.now) in
+    subst (λ x. HasKept (state g.N.Store x.connection) → HasPassed l.zone l.default start (state g.N.Store x.connection) (g.W.Network.wire c.loop-night.network)) (sym c.into_inner.ensures) (λ k.
+    passed_still l.zone l.default start (state g.N.Store s.connection) (g.W.Network.wire c.loop-night.network) c.nothing_is_served.ensures (c.loop-night.invariant.1 kept fresh sound k).2)

@@ -1,6 +1,7 @@
 use Rattle.std.proofs.Common.{◌≡◌, sym, subst}
 use Rattle.sqlite.specs.Held.{state}
 use Rattle.mq_store.specs.Soundness.{book_in, HasKept}
+use Rattle.mq_connections.specs.Asking.{out}
 use Rattle.mq_program.specs.Nights.{AreKept, HasDawned, HasPassed}
 use Rattle.mq_program.proofs.NightSteps.{dawn_of, kept_before, one_night, passed_at_once, passed_still, stayed}
 use Rattle.mq_program.proofs.nights.serve_to_dawn.Goals as goal
@@ -35,7 +36,7 @@ returns-in-Ok-clause-dawn g c = λ kept fresh sound k.
       lent.1,
       (
         has.sound,
-        one_night old.zone former.zone old.default former.default e.lent.0 e.lent.1 (book_in old.zone old.default (state g.N.Store old.connection).now) dawn.day
+        one_night old.zone former.zone old.default former.default e.lent.0 e.lent.1 (out (book_in old.zone old.default (state g.N.Store old.connection).now) (g.W.Network.wire c.args.network.now)) (g.W.Network.wire c.pass-ledger.new.network) dawn.day
             (state g.N.Store former.connection).now (state g.N.Store dawn.serving.connection) (e.serves served sound) has,
       ),
     )
@@ -47,12 +48,13 @@ returns-then-is_err-clause-dawn g c = λ _ _ sound k.
     let former = c.pass-ledger.result.ledger in
     let e = c.pass-ledger.ensures in
     let same = c.stay_with-dawn.ensures in
-    let start = book_in old.zone old.default (state g.N.Store old.connection).now in
+    let start = out (book_in old.zone old.default (state g.N.Store old.connection).now) (g.W.Network.wire c.args.network.now) in
+    let after = g.W.Network.wire c.pass-ledger.new.network in
     let served = subst (λ x. HasKept (state g.N.Store x.connection)) same k in
-    subst (λ x. (x.zone ≡ old.zone) × (x.default ≡ old.default) × HasDawned old.zone old.default start (state g.N.Store x.connection)) (sym same) (
+    subst (λ x. (x.zone ≡ old.zone) × (x.default ≡ old.default) × HasDawned old.zone old.default start (state g.N.Store x.connection) after) (sym same) (
       e.lent.0,
       e.lent.1,
-      stayed old.zone former.zone old.default former.default e.lent.0 e.lent.1 start (state g.N.Store former.connection) (e.sound served sound) (e.serves served sound),
+      stayed old.zone former.zone old.default former.default e.lent.0 e.lent.1 start after (state g.N.Store former.connection) (e.sound served sound) (e.serves served sound),
     )
 
 -- the switch failed, and nothing was served since
@@ -62,13 +64,14 @@ returns-in-Err-take_place-clause-end g c = λ kept fresh sound.
     let former = c.pass-ledger.result.ledger in
     let e = c.pass-ledger.ensures in
     let dawn = c.in-Ok-Some.dawn in
-    let start = book_in old.zone old.default (state g.N.Store old.connection).now in
+    let start = out (book_in old.zone old.default (state g.N.Store old.connection).now) (g.W.Network.wire c.args.network.now) in
+    let after = g.W.Network.wire c.pass-ledger.new.network in
     let served = subst (λ x. HasKept (state g.N.Store x)) c.into_connection.ensures.same (kept_before _ _ _ _ c.take_place.ensures kept).1 in
-    subst (λ x. HasKept (state g.N.Store x.connection) → HasPassed old.zone old.default start (state g.N.Store x.connection)) (sym c.into_inner.ensures) (λ k.
+    subst (λ x. HasKept (state g.N.Store x.connection) → HasPassed old.zone old.default start (state g.N.Store x.connection) after) (sym c.into_inner.ensures) (λ k.
     let has = dawn_of _ _ dawn _ c.in-Ok-Some.is c.in-Ok-Some.field-0-is (e.remembered served sound) fresh k in
-    passed_still old.zone old.default start (state g.N.Store dawn.serving.connection) c.nothing_is_served.ensures (
+    passed_still old.zone old.default start (state g.N.Store dawn.serving.connection) after c.nothing_is_served.ensures (
       has.sound,
-      one_night old.zone former.zone old.default former.default e.lent.0 e.lent.1 start dawn.day
+      one_night old.zone former.zone old.default former.default e.lent.0 e.lent.1 start after dawn.day
           (state g.N.Store former.connection).now (state g.N.Store dawn.serving.connection) (e.serves served sound) has,
     ))
 
@@ -78,13 +81,13 @@ returns-in-Ok-None-clause-end g c = λ _ _ sound k.
     let old = c.args.serving in
     let last = c.pass-ledger.result.ledger in
     let e = c.pass-ledger.ensures in
-    passed_at_once old.zone last.zone old.default last.default e.lent.0 e.lent.1 (book_in old.zone old.default (state g.N.Store old.connection).now)
-    (state g.N.Store last.connection) (e.sound k sound) (e.serves k sound)
+    passed_at_once old.zone last.zone old.default last.default e.lent.0 e.lent.1 (out (book_in old.zone old.default (state g.N.Store old.connection).now) (g.W.Network.wire c.args.network.now))
+    (g.W.Network.wire c.pass-ledger.new.network) (state g.N.Store last.connection) (e.sound k sound) (e.serves k sound)
 
 pub returns-in-Err-clause-end : goal.returns-in-Err-clause-end
 returns-in-Err-clause-end g c = λ _ _ sound k.
     let old = c.args.serving in
     let last = c.pass-ledger.result.ledger in
     let e = c.pass-ledger.ensures in
-    passed_at_once old.zone last.zone old.default last.default e.lent.0 e.lent.1 (book_in old.zone old.default (state g.N.Store old.connection).now)
-    (state g.N.Store last.connection) (e.sound k sound) (e.serves k sound)
+    passed_at_once old.zone last.zone old.default last.default e.lent.0 e.lent.1 (out (book_in old.zone old.default (state g.N.Store old.connection).now) (g.W.Network.wire c.args.network.now))
+    (g.W.Network.wire c.pass-ledger.new.network) (state g.N.Store last.connection) (e.sound k sound) (e.serves k sound)

@@ -5,6 +5,7 @@ use Rattle.mq_ledger.specs.Day.{day_of}
 use Rattle.mq_forget.specs.Remembered.{remembered}
 use Rattle.mq_store.specs.Soundness.{book_in, IsSound}
 use Rattle.mq_program.specs.AfterForgetting.{grown}
+use Rattle.mq_connections.specs.Asking.{out}
 use Rattle.mq_program.specs.Serving.{Serves}
 use Rattle.mq_program.proofs.AfterForgetting.{answers_as_whole}
 use Rattle.mq_program.proofs.OpenedFiles.{serves_from, serves_from_nothing}
@@ -15,10 +16,12 @@ returns-clause-begun g c opened kept =
     let before = file_state c.in_ok-ledger.ledger.connection in
     let after = file_state c.listen_over.result.ledger.connection in
     let outcome = c.listen_over.result.outcome in
+    let wires = g.W.Network.wire c.args.network.now in
+    let wires_after = g.W.Network.wire c.listen_over.new.network in
     let (zone_is, default_is) = c.in_ok-ledger.ensures.lent in
-    serves_from c.args.settings.now.zone c.args.settings.now.default before after outcome
+    serves_from c.args.settings.now.zone c.args.settings.now.default before wires after wires_after outcome
     (subst₂ (λ z d. IsSound z d before → IsSound z d after) zone_is default_is (c.listen_over.ensures.sound kept))
-    (subst₂ (λ z d. IsSound z d before → Serves (book_in z d before.now) (book_in z d after.now) outcome) zone_is default_is (c.listen_over.ensures.serves kept))
+    (subst₂ (λ z d. IsSound z d before → Serves (out (book_in z d before.now) wires) (out (book_in z d after.now) wires_after) outcome) zone_is default_is (c.listen_over.ensures.serves kept))
     (image_at g.S.Start) (c.in_ok-ledger.ensures.rows opened (c.listen_over.ensures.kept kept))
 
 pub returns-clause-made : goal.returns-clause-made
@@ -26,10 +29,12 @@ returns-clause-made g c create kept =
     let before = file_state c.in_ok-ledger.ledger.connection in
     let after = file_state c.listen_over.result.ledger.connection in
     let outcome = c.listen_over.result.outcome in
+    let wires = g.W.Network.wire c.args.network.now in
+    let wires_after = g.W.Network.wire c.listen_over.new.network in
     let (zone_is, default_is) = c.in_ok-ledger.ensures.lent in
-    serves_from_nothing c.args.settings.now.zone c.args.settings.now.default before after outcome
+    serves_from_nothing c.args.settings.now.zone c.args.settings.now.default before wires after wires_after outcome
     (subst₂ (λ z d. IsSound z d before → IsSound z d after) zone_is default_is (c.listen_over.ensures.sound kept))
-    (subst₂ (λ z d. IsSound z d before → Serves (book_in z d before.now) (book_in z d after.now) outcome) zone_is default_is (c.listen_over.ensures.serves kept))
+    (subst₂ (λ z d. IsSound z d before → Serves (out (book_in z d before.now) wires) (out (book_in z d after.now) wires_after) outcome) zone_is default_is (c.listen_over.ensures.serves kept))
     (image_at g.S.Start) (c.in_ok-ledger.ensures.made create (c.listen_over.ensures.kept kept))
 
 pub returns-clause-remembered : goal.returns-clause-remembered

@@ -5,7 +5,6 @@ use Rattle.mq_lemmas.proofs.Options.{ok_not}
 use Rattle.mq_server.specs.declared.connection.Progress.TheVariants.{Ended}
 use Rattle.mq_server.specs.declared.fault.ServeFault.TheVariants as ends
 use Rattle.mq_connections.specs.declared.fault.RoomFault.TheVariants as faults
-use Rattle.mq_connections.specs.Asking.{peer_of}
 use Rattle.mq_connections.specs.Sessions.{Outside, held}
 use Rattle.mq_connections.proofs.Maps.{held_beside, held_here, held_now, same_map}
 use Rattle.mq_server.specs.Life.{deliveries}
