@@ -5,4 +5,5 @@ pub mod Fronts
 pub mod OrderSteps
 pub mod PageSteps
 pub mod PrintedSteps
+pub mod TotalSteps
 pub mod Words

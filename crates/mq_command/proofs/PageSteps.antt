@@ -1,5 +1,9 @@
 -- One page more of a report.
-use Rattle.mq_command.proofs.Words.{Appends, Appends-trans, AppendsFront, AreFullPages, AsksPage, CollectsAll, Err, IsAfter, IsErrAnd, IsLogin, IsPage, IsPageInRange, List, Ok, Option, OutputFault, PrintsFront, ReportFault, ReportedExchange, ReportsAll, Result, UsageRow, [], ap, arith, flat_map-append, front_later, get_or, inl, inr, last_login, length, no_page, output_fault, page, refl, report_lines, row_line, subst, suc, sym, ℕ, ◌++◌, ◌+◌, ◌-◌, ◌<◌, ◌∙◌, ◌∷◌, ◌≡◌, ◌≤◌}
+use Rattle.mq_command.proofs.Words.{All, All-append, All-nil, Appends, Appends-trans, AppendsFront, AreFullPages, AsksPage, Brings, CollectsAll, Err, IsAfter, IsAscendingAbove, IsErrAnd, IsListing, IsLogin, IsPage, IsPageInRange, IsRow, List, Ok, Option, OutputFault, PrintsFront, Reply, ReportFault, ReportedExchange, ReportsAll, Result, UsageRow, [], ap, arith, flat_map-append, front_later, get_or, inl, inr, last_login, length, no_page, output_fault, page, refl, report_lines, row_line, subst, suc, sym, ℕ, ◌++◌, ◌+◌, ◌-◌, ◌<◌, ◌∙◌, ◌∷◌, ◌≡◌, ◌≤◌}
+use Rattle.mq_request.specs.Range.{IsReply}
+use Rattle.mq_request.specs.declared.message.Reply.TheVariants as says
+use Rattle.mq_link.specs.declared.link.ExchangeOutcome.{ExchangeOutcome}
+use Rattle.mq_link.specs.declared.link.ExchangeOutcome.TheVariants.{Answered, Faulted}
 use Rattle.mq_command.specs.declared.output.OutputFault.TheVariants as outputs
 use Rattle.mq_command.specs.declared.report.ReportFault.TheVariants as fault
 
@@ -41,6 +45,46 @@ held_more day start told told' count after next rows more slice row held accepte
       pages = subst (λ l. AreFullPages day start (count + 1) l told' (rows ++ more)) (sym last) (page count after told told' rows more held.pages accepted full);
       in_range = record { from = omega arith; to = omega (arith, ap length same, login.to) };
     }
+
+-- ---- what a server lists
+
+ascending_more : (after : List ℕ) (rows more : List UsageRow) → IsAscendingAbove after rows → IsAscendingAbove (last_login after rows) more → IsAscendingAbove after (rows ++ more)
+ascending_more after [] more first next = next
+ascending_more after (row ∷ rows) more (above, first) next = (above, ascending_more row.login rows more first next)
+
+last_more : (after : List ℕ) (rows more : List UsageRow) → last_login after (rows ++ more) ≡ last_login (last_login after rows) more
+last_more after [] more = refl
+last_more after (row ∷ rows) more = last_more row.login rows more
+
+-- the rows of full pages ascend, and the last is that after which the next page begins
+ascend : (day : ℕ) (start told : Option (List ReportedExchange)) (count : ℕ) (after : List ℕ) (rows : List UsageRow) → AreFullPages day start count after told rows
+    → IsAscendingAbove [] rows × (last_login [] rows ≡ after)
+ascend day start _ _ _ _ no_page = (tt, refl)
+ascend day start _ _ _ _ (page count after mid new rows more pages accepted full) =
+    let (first, last) = ascend day start mid count after rows pages in
+    (ascending_more [] rows more first (subst (λ l. IsAscendingAbove l more) (sym last) accepted.ascending), last_more [] rows more ∙ ap (λ l. last_login l more) last)
+
+-- a reply that was brought is in range
+brought_in_range : (outcome : ExchangeOutcome) (reply : Reply) → Brings outcome reply → IsReply reply
+brought_in_range (Answered body) reply brought = brought.in_range
+brought_in_range (Faulted fault) reply brought = absurd brought
+
+page_in_range : (day : ℕ) (after : List ℕ) (old new : Option (List ReportedExchange)) (rows : List UsageRow) → IsPage day after old new rows → IsPageInRange rows
+page_in_range day after old new rows accepted = (brought_in_range accepted.answered.last.outcome (says.List day rows) accepted.answered.brought).1
+
+each_in_range : (day : ℕ) (start told : Option (List ReportedExchange)) (count : ℕ) (after : List ℕ) (rows : List UsageRow) → AreFullPages day start count after told rows → All IsRow rows
+each_in_range day start _ _ _ _ no_page = All-nil IsRow
+each_in_range day start _ _ _ _ (page count after mid new rows more pages accepted full) =
+    All-append IsRow rows more (each_in_range day start mid count after rows pages) (page_in_range day after mid new more accepted).each
+
+-- the rows that a server lists are in range, and ascend
+pub listing : (day : ℕ) (old new : Option (List ReportedExchange)) (all : List UsageRow) → CollectsAll day old new (Ok all) → IsListing all
+listing day old new all (count, after, mid, rows, few, pages, (more, accepted, short, is)) =
+    let (first, last) = ascend day old mid count after rows pages in
+    subst IsListing (sym is) (record {
+      in_range = All-append IsRow rows more (each_in_range day old mid count after rows pages) (page_in_range day after mid new more accepted).each;
+      ascending = ascending_more [] rows more first (subst (λ l. IsAscendingAbove l more) (sym last) accepted.ascending);
+    })
 
 -- a page that didn't come
 pub not_collected : (day : ℕ) (start told told' : Option (List ReportedExchange)) (count : ℕ) (after : List ℕ) (rows : List UsageRow) (given : ReportFault)

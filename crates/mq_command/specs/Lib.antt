@@ -1,13 +1,16 @@
 pub mod Allowing
 pub mod Asking
+pub mod Forms
 pub mod Holding
 pub mod Later
 pub mod Orders
 pub mod Printed
 pub mod Probing
 pub mod Report
+pub mod Shares
 pub mod Stopping
 pub mod Top
+pub mod Totals
 pub mod Unchanged
 pub mod Usage
 pub mod Vis

@@ -6,6 +6,8 @@ ghost use Rattle.mq_ledger.specs.History.{held};
 ghost use Rattle.mq_ledger.specs.Legal.{IsLegal};
 ghost use Rattle.mq_command.specs.Probing.{host_question};
 ghost use Rattle.mq_command.specs.Unchanged.{AreAlike, host_transaction};
+ghost use Rattle.mq_command.specs.Shares.{unlimited_login};
+ghost use Rattle.mq_command.specs.Vis.{vis};
 
 use mq_ledger::laws::{
     one_more_floor, one_more_limit, one_more_of_a_transaction, one_more_on_a_day, open_transactions,
@@ -25,3 +27,8 @@ pub fn asking_about_a_host_changes_nothing()
     one_more_floor();
     open_transactions();
 }
+
+/// smtpd reports no login as the one whose limit shows a server's default.
+pub fn no_login_is_reported_as_unlimited()
+    ensures { (login : List ℕ) → vis login ≡ unlimited_login → ⊥ }
+{}

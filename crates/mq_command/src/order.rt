@@ -81,7 +81,7 @@ fn verdict(request: &Request, reply: &Reply) -> Result<(), OrderFault>
 }
 
 /// Sends an order up to three times. `Ok` says that the server carried it out.
-fn order<L: Link>(alloc: Global, link: &mut L, request: &Request) -> Result<(), OrderFault>
+pub fn order<L: Link>(alloc: Global, link: &mut L, request: &Request) -> Result<(), OrderFault>
     requires { IsOrder request.now }
     ensures { Orders request.now (L.told link.old) (L.told link.new) result }
 {

@@ -1,7 +1,7 @@
 //! `report`: prints what logins used on a day.
 ghost use Rattle.std.specs.Prelude.{◌≡◌, ◌++◌, IfOk, IfSome, OnOk, option_map, MatchResult, Ok};
 ghost use Rattle.std.specs.Prelude.{Err, Result as AnyResult};
-ghost use Rattle.mq_request.specs.Range.{IsDay, IsAfter, IsLogin, IsPage as IsPageInRange, IsReply};
+ghost use Rattle.mq_request.specs.Range.{IsDay, IsAfter, IsLogin, IsPage as IsPageInRange, IsReply, IsRow};
 ghost use Rattle.mq_command.specs.Asking.{status_of};
 ghost use Rattle.mq_command.specs.Report.{AnswersList, AnswersUsage, AsksPage, AsksUsage, HasRow};
 ghost use Rattle.mq_command.specs.Report.{output_fault};
@@ -12,8 +12,8 @@ ghost use Rattle.mq_command.specs.declared.report.ReportFault.{ReportFault as An
 ghost use Rattle.mq_command.specs.declared.report.ReportFault.TheVariants.{Memory as NoMemory};
 
 mod page;
-mod row;
-mod top;
+pub mod row;
+pub mod top;
 
 use crate::ask::{NoAnswer, ask};
 use crate::errors::Errors;
@@ -31,6 +31,9 @@ use thiserror::Error;
 
 /// The rows of a full page.
 const PAGE: usize = ROW_LIMIT as usize;
+
+/// The line above the columns of a report.
+pub(crate) const COLUMNS: &str = "settled reserved  limit login\n";
 
 /// The most pages of a report, the last of which may not be full.
 const MOST_PAGES: u32 = 100_000;
@@ -79,7 +82,7 @@ impl From<OutputFault> for ReportFault {
 }
 
 /// Asks for what a login used on that day.
-fn ask_usage<L: Link>(
+pub(crate) fn ask_usage<L: Link>(
     alloc: Global,
     link: &mut L,
     day: u32,
@@ -87,7 +90,8 @@ fn ask_usage<L: Link>(
 ) -> Result<UsageRow, ReportFault>
     requires day { IsDay day }
     requires login { IsLogin login.now }
-    ensures { AsksUsage day login.now (L.told link.old) (L.told link.new) result }
+    ensures usage { AsksUsage day login.now (L.told link.old) (L.told link.new) result }
+    ensures in_range { IfOk result IsRow }
 {
     let request = Request::Usage {
         login: login.clone()?,
@@ -101,8 +105,10 @@ fn ask_usage<L: Link>(
 
 /// The row of a login, as a reply says it.
 fn row_of(reply: Reply) -> UsageRow
-    requires { AnswersUsage reply }
-    ensures { HasRow reply result }
+    requires answers { AnswersUsage reply }
+    requires in_range { IsReply reply }
+    ensures row { HasRow reply result }
+    ensures in_range { IsRow result }
 {
     match reply {
         Reply::Usage {
@@ -282,7 +288,11 @@ fn append(all: &mut Vec<UsageRow>, rows: UsageRows) -> Result<(), AllocError>
 }
 
 /// The rows of all logins of the day, page by page until one isn't full.
-fn all_rows<L: Link>(alloc: Global, link: &mut L, day: u32) -> Result<Vec<UsageRow>, ReportFault>
+pub(crate) fn all_rows<L: Link>(
+    alloc: Global,
+    link: &mut L,
+    day: u32,
+) -> Result<Vec<UsageRow>, ReportFault>
     requires { IsDay day }
     ensures { MatchResult result (λ rows. CollectsAll day (L.told link.old) (L.told link.new)
         (Ok rows.items))
@@ -369,5 +379,5 @@ pub fn print_columns<W: Write, E: Write>(output: &mut W, errors: &mut E) -> u8
         (W.contents output.new) result }
     ensures quiet { result ≡ 0 → errors.new ≡ errors.old }
 {
-    tell_text("settled reserved  limit login\n", output, errors)
+    tell_text(COLUMNS, output, errors)
 }

@@ -45,16 +45,43 @@ pub fn say_not_taken<E: Write, S: fmt::Display>(errors: &mut E, server: &S) -> u
     1
 }
 
+/// Prints bytes, or says on `errors` why they can't be printed. The result is the exit status, 0 or
+/// 1.
+pub fn tell_bytes<W: Write, E: Write>(
+    bytes: Result<Vec<u8>, AllocError>,
+    output: &mut W,
+    errors: &mut E,
+) -> u8
+    ensures prints { MatchResult bytes (λ bytes. PrintsLine bytes.items (W.contents output.old)
+        (W.contents output.new) result) (λ _. (result ≡ 1)
+        × Keeps (W.contents output.old) (W.contents output.new)) }
+    ensures quiet { result ≡ 0 → errors.new ≡ errors.old }
+{
+    match bytes {
+        Ok(bytes) => tell_slice(bytes.as_slice(), output, errors),
+        Err(_) => say(errors, &OutputFault::Memory),
+    }
+}
+
+/// Prints these bytes, or says on `errors` that they can't be printed. The result is the exit
+/// status, 0 or 1.
+fn tell_slice<W: Write, E: Write>(bytes: &[u8], output: &mut W, errors: &mut E) -> u8
+    ensures prints { PrintsLine bytes.now (W.contents output.old) (W.contents output.new) result }
+    ensures quiet { result ≡ 0 → errors.new ≡ errors.old }
+{
+    if write_whole(output, bytes).is_err() || output.flush().is_err() {
+        return say(errors, &OutputFault::Write);
+    }
+    0
+}
+
 /// Prints a text, or says on `errors` that it can't be printed. The result is the exit status, 0 or
 /// 1.
 pub fn tell_text<W: Write, E: Write>(text: &str, output: &mut W, errors: &mut E) -> u8
     ensures prints { PrintsLine text.now (W.contents output.old) (W.contents output.new) result }
     ensures quiet { result ≡ 0 → errors.new ≡ errors.old }
 {
-    if write_whole(output, text.as_bytes()).is_err() || output.flush().is_err() {
-        return say(errors, &OutputFault::Write);
-    }
-    0
+    tell_slice(text.as_bytes(), output, errors)
 }
 
 /// Prints the word of an order that was carried out, or says on `errors` why it wasn't. The result

@@ -34,7 +34,7 @@ fn push_column(alloc: Global, line: &mut String, number: u32) -> Result<(), Allo
 
 /// The line of a login: what is settled and reserved and the limit, each right in 7 places and a
 /// space, and the login's text.
-fn row_text(alloc: Global, row: &UsageRow) -> Result<String, AllocError>
+pub fn row_text(alloc: Global, row: &UsageRow) -> Result<String, AllocError>
     ensures { IfOk result (λ line. string_bytes line ≡ row_line row.now) }
 {
     let mut line = String::new(alloc);
