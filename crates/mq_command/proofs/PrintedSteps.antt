@@ -1,5 +1,5 @@
 -- Which bytes a printed text begins with.
-use Rattle.mq_command.proofs.Words.{All-head, All-tail, ArePrinted, Bool, IsNoText, IsTextOf, List, [], ap, append-nil, append_assoc, arith, byte_text, cond, digit_text, empty, escaped, false, false≢true, flat_map-append, is_plain, length, nat_tests, refl, sym, true, ℕ, ◌%◌, ◌++◌, ◌/◌, ◌<◌, ◌∙◌, ◌∷◌, ◌≡◌}
+use Rattle.mq_command.proofs.Words.{All, All-head, All-tail, ArePrinted, Bool, IsNoText, IsTextOf, List, [], ap, append-nil, append_assoc, arith, byte_text, cond, digit_text, empty, escaped, false, false≢true, flat_map-append, is_plain, length, nat_tests, refl, sym, true, ℕ, ◌%◌, ◌++◌, ◌/◌, ◌<◌, ◌∙◌, ◌∷◌, ◌≡◌}
 
 -- the text of a byte that is printed as it is, and of another
 abbrev text_by : Bool → ℕ → List ℕ
@@ -97,3 +97,14 @@ all_text text bytes rest so_far none = record {
       let (more, printed', is) = so_far.only other printed in
       is ∙ ap (λ l. bytes ++ l) (nothing_more more rest printed' none) ∙ append-nil bytes;
 }
+
+-- two texts that are printed the same are the same
+pub escaped_same : (bytes other : List ℕ) → All (λ byte. byte < 256) bytes → All (λ byte. byte < 256) other → escaped bytes ≡ escaped other → bytes ≡ other
+escaped_same [] [] each each' same = refl
+escaped_same [] (byte ∷ more) each each' same = absurd (omega (arith, shorter byte [] (escaped more) (sym same)))
+escaped_same (byte ∷ more) [] each each' same = absurd (omega (arith, shorter byte [] (escaped more) same))
+escaped_same (byte ∷ more) (first ∷ rest) each each' same =
+    let (one, left) = behind byte first (escaped more) (escaped rest) (All-head (λ byte. byte < 256) byte more each) (All-head (λ byte. byte < 256) first rest each') same in
+    let e : byte ≡ first = one in
+    let f : more ≡ rest = escaped_same more rest (All-tail (λ byte. byte < 256) byte more each) (All-tail (λ byte. byte < 256) first rest each') left in
+    cc

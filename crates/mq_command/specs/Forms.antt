@@ -1,5 +1,5 @@
 -- The forms of what is printed: for a pipe, for a terminal, and JSON, whose keys stay.
-use Rattle.std.specs.Prelude.{◌++◌, ◌∷◌, [], ◌==◌, ◌||◌, ℕ, List, codes, if◌then◌else◌}
+use Rattle.std.specs.Prelude.{◌++◌, ◌∷◌, [], ◌==◌, ◌||◌, ℕ, Bool, true, false, List, codes, if◌then◌else◌}
 use Rattle.std.specs.Fmt.{decimal}
 use Rattle.std.specs.List.{flat_map}
 use Rattle.mq_request.specs.Escaped.{escaped}
@@ -51,3 +51,19 @@ abbrev pub day_text : Form → ℕ → List ℕ → List ℕ
 day_text Plain day date = decimal day ++ 10 ∷ []
 day_text Shown day date = decimal day ++ 32 ∷ date ++ 10 ∷ []
 day_text Json day date = json_day day date ++ codes "}\n"
+
+-- a truth value
+abbrev pub json_truth : Bool → List ℕ
+json_truth true = codes "true"
+json_truth false = codes "false"
+
+-- what is printed of a server, by whether it answers
+abbrev pub json_status : List ℕ → Bool → List ℕ
+json_status server answers =
+    (codes "{\"server\":" ++ json_string server) ++ (codes ",\"answers\":" ++ json_truth answers) ++ codes "}\n"
+
+-- what is printed of a server and a host, by whether it is known that the server takes the host's requests
+abbrev pub json_taken : List ℕ → List ℕ → Bool → List ℕ
+json_taken server host taken =
+    (codes "{\"server\":" ++ json_string server) ++ (codes ",\"host\":" ++ json_login host)
+    ++ (codes ",\"taken\":" ++ json_truth taken) ++ codes "}\n"

@@ -5,7 +5,8 @@ ghost use Rattle.std.specs.Fmt.{decimal};
 ghost use Rattle.mq_command.specs.Report.{report_lines};
 ghost use Rattle.mq_command.specs.Orders.{PrintsLine};
 ghost use Rattle.mq_command.specs.Forms.{day_text, json_byte, json_day, json_login, json_row, json_rows};
-ghost use Rattle.mq_command.specs.Forms.{json_string, next_row, report_text};
+ghost use Rattle.mq_command.specs.Forms.{json_status, json_string, json_taken, json_truth};
+ghost use Rattle.mq_command.specs.Forms.{next_row, report_text};
 
 use crate::printed::login_text;
 use crate::report::COLUMNS;
@@ -251,4 +252,81 @@ pub fn print_day<W: Write, E: Write>(
     ensures quiet { result ≡ 0 → errors.new ≡ errors.old }
 {
     tell_bytes(day_text(alloc, form, day, date), output, errors)
+}
+
+/// Appends a key, with what stands around it, and its truth value.
+fn push_truth(text: &mut Vec<u8>, key: &[u8], is_true: bool) -> Result<(), AllocError>
+    ensures { OnOk result (text.new.items ≡ text.old.items ++ (key.now ++ json_truth is_true)) }
+{
+    text.extend_from_slice(key)?;
+    let word: &[u8] = if is_true { b"true" } else { b"false" };
+    text.extend_from_slice(word)?;
+    Ok(())
+}
+
+/// Appends a key, with what stands around it, and its string.
+fn push_text(text: &mut Vec<u8>, key: &[u8], bytes: &[u8]) -> Result<(), AllocError>
+    ensures { OnOk result (text.new.items ≡ text.old.items ++ (key.now ++ json_string bytes.now)) }
+{
+    text.extend_from_slice(key)?;
+    push_json_string(text, bytes)?;
+    Ok(())
+}
+
+/// What is printed of a server, by whether it answers.
+fn status_text(alloc: Global, server: &str, answers: bool) -> Result<Vec<u8>, AllocError>
+    ensures { IfOk result (λ text. text.items ≡ json_status server.now answers) }
+{
+    let mut text = Vec::new(alloc);
+    push_text(&mut text, b"{\"server\":", server.as_bytes())?;
+    push_truth(&mut text, b",\"answers\":", answers)?;
+    text.extend_from_slice(b"}\n")?;
+    Ok(text)
+}
+
+/// What is printed of a server and a host.
+fn taken_text(alloc: Global, server: &str, host: &[u8], taken: bool) -> Result<Vec<u8>, AllocError>
+    ensures { IfOk result (λ text. text.items ≡ json_taken server.now host.now taken) }
+{
+    let shown = login_text(alloc, host)?;
+    let mut text = Vec::new(alloc);
+    push_text(&mut text, b"{\"server\":", server.as_bytes())?;
+    push_text(&mut text, b",\"host\":", shown.as_bytes())?;
+    push_truth(&mut text, b",\"taken\":", taken)?;
+    text.extend_from_slice(b"}\n")?;
+    Ok(text)
+}
+
+/// Prints the JSON object of a server, by whether it answers, or says on `errors` why it can't be
+/// printed. The result is the exit status, 0 or 1, of the printing alone. `server` is its address.
+pub fn print_status<W: Write, E: Write>(
+    alloc: Global,
+    server: &str,
+    answers: bool,
+    output: &mut W,
+    errors: &mut E,
+) -> u8
+    ensures prints { PrintsLine (json_status server.now answers) (W.contents output.old)
+        (W.contents output.new) result }
+    ensures quiet { result ≡ 0 → errors.new ≡ errors.old }
+{
+    tell_bytes(status_text(alloc, server, answers), output, errors)
+}
+
+/// Prints the JSON object of a server and a host, by whether it is known that the server takes the
+/// host's requests, or says on `errors` why it can't be printed. The result is the exit status, 0 or
+/// 1, of the printing alone. `server` is its address.
+pub fn print_taken<W: Write, E: Write>(
+    alloc: Global,
+    server: &str,
+    host: &[u8],
+    taken: bool,
+    output: &mut W,
+    errors: &mut E,
+) -> u8
+    ensures prints { PrintsLine (json_taken server.now host.now taken) (W.contents output.old)
+        (W.contents output.new) result }
+    ensures quiet { result ≡ 0 → errors.new ≡ errors.old }
+{
+    tell_bytes(taken_text(alloc, server, host, taken), output, errors)
 }

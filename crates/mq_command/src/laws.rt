@@ -1,11 +1,13 @@
 //! Laws of what is asked. The function does nothing: its contract is the law.
-ghost use Rattle.std.specs.Prelude.{◌≡◌, ℕ, List};
+ghost use Rattle.std.specs.Prelude.{◌≡◌, ◌<◌, ℕ, List};
+ghost use Rattle.std.specs.List.{All};
 ghost use Rattle.mq_ledger.specs.declared.entry.Entry.{Entry as AnyEntry};
 ghost use Rattle.mq_ledger.specs.Answer.{with_arrival};
 ghost use Rattle.mq_ledger.specs.History.{held};
 ghost use Rattle.mq_ledger.specs.Legal.{IsLegal};
 ghost use Rattle.mq_command.specs.Probing.{host_question};
 ghost use Rattle.mq_command.specs.Unchanged.{AreAlike, host_transaction};
+ghost use Rattle.mq_command.specs.Forms.{json_login};
 ghost use Rattle.mq_command.specs.Shares.{unlimited_login};
 ghost use Rattle.mq_command.specs.Vis.{vis};
 
@@ -31,4 +33,10 @@ pub fn asking_about_a_host_changes_nothing()
 /// smtpd reports no login as the one whose limit shows a server's default.
 pub fn no_login_is_reported_as_unlimited()
     ensures { (login : List ℕ) → vis login ≡ unlimited_login → ⊥ }
+{}
+
+/// No two logins have one JSON string, so that what is printed of one says which it is.
+pub fn logins_stay_apart_in_json()
+    ensures { (one other : List ℕ) → All (λ byte. byte < 256) one → All (λ byte. byte < 256) other
+        → json_login one ≡ json_login other → one ≡ other }
 {}

@@ -40,7 +40,7 @@ pub use allow::{AllowFault, Setter, run_restore, run_resume};
 pub use ask::{AskFault, NoAnswer, TRIES};
 pub use day::run_day;
 pub use errors::{Errors, ServerErrors};
-pub use form::{Form, print_day};
+pub use form::{Form, print_day, print_status, print_taken};
 pub use heading::{print_heading, say_undone};
 pub use note::note_of;
 pub use order::{NUMBERS, OrderFault, run_fresh, run_limit, run_retire};

@@ -1,5 +1,6 @@
 //! `limit`, `retire`, `stop`, `resume` and `day` over a ledger in memory: what they print, what
-//! they say on errors, and their statuses. And which texts are printed logins.
+//! they say on errors, and their statuses; the same of a report of two. And which texts are printed
+//! logins.
 //!
 //! The helpers have no clauses but the one that its caller needs, so that a test stays cheap to
 //! prove.
@@ -7,8 +8,9 @@ ghost use Rattle.std.specs.Prelude.{IfOk};
 ghost use Rattle.mq_command.specs.Allowing.{IsSetter};
 
 use mq_command::{
-    Setter, StopOrder, is_login_text, login_of_text, login_text, run_day, run_fresh, run_limit,
-    run_restore, run_resume, run_retire, run_stop,
+    Form, ReportOrder, ReportedLogins, Setter, StopOrder, ask_default, is_login_text,
+    login_of_text, login_text, print_day, print_sum, run_day, run_fresh, run_fresh_at, run_limit,
+    run_restore, run_resume, run_retire, run_stop, run_totals, share_of,
 };
 use mq_frame::{decode_request, encode_request};
 use mq_ledger::{PlainLedger, Zone};
@@ -17,6 +19,7 @@ use mq_request::{Host, Login, Request, is_host, is_login, is_moment, is_request}
 use mq_server::serve;
 use mq_stream::{FromRead, WriterSink};
 use std::alloc::Global;
+use std::net::{Ipv4Addr, SocketAddr};
 use std::process::Abort;
 use std::str;
 use std::test::Fail;
@@ -26,11 +29,16 @@ use std::test::Fail;
 struct Near {
     alloc: Global,
     ledger: PlainLedger,
+    /// Whether it can't be reached.
+    is_down: bool,
 }
 
 impl Link for Near {
     fn exchange(&mut self, frame: &[u8], reply: &mut Vec<u8>) -> Result<(), LinkFault> {
         reply.clear();
+        if self.is_down {
+            return Err(LinkFault::Down);
+        }
         let mut input = FromRead::new(frame);
         let mut output = WriterSink::new(Vec::new(self.alloc));
         if serve(self.alloc, &mut input, &mut output, &mut self.ledger).is_err() {
@@ -328,6 +336,7 @@ fn orders(rt: HostRuntime) -> Result<(), Fail> {
     let mut link = Near {
         alloc,
         ledger: PlainLedger::new(alloc, Zone::of_offset(0).expect(&rt, "UTC"), 3),
+        is_down: false,
     };
     for (act, wanted) in ACTS {
         assert_told(&rt, &mut link, act, wanted)?;
@@ -374,5 +383,189 @@ fn printed_logins(rt: HostRuntime) -> Result<(), Fail> {
             _ => return Err("another login".into()),
         }
     }
+    Ok(())
+}
+
+/// Numbers of a first server, a server's default, the first one's, and the share.
+const SHARES: [[u32; 4]; 7] = [
+    [2_000, 100, 1_000, 200],
+    [1, 100, 1_000, 1],
+    [10, 3, 4, 8],
+    [0, 100, 1_000, 0],
+    [5, 0, 1_000, 0],
+    [7, 100, 0, 7],
+    [1_000_000, 1_000_000, 1, 1_000_000],
+];
+
+/// A server whose default is this, at which frames were sent.
+fn server_with(alloc: Global, default: u32, frames: &[&str]) -> Result<Near, Fail> {
+    if default > 1_000_000 {
+        return Err("a default out of range".into());
+    }
+    let Ok(zone) = Zone::of_offset(0) else {
+        return Err("no zone".into());
+    };
+    let mut link = Near {
+        alloc,
+        ledger: PlainLedger::new(alloc, zone, default),
+        is_down: false,
+    };
+    let mut output = Vec::new(alloc);
+    let mut errors = Vec::new(alloc);
+    for digits in frames {
+        sent(alloc, &mut link, digits, &mut output, &mut errors)?;
+    }
+    Ok(link)
+}
+
+/// What is reported of day 1, with a `|` between output, errors and status.
+fn reported(alloc: Global, links: &mut [Near], order: &ReportOrder) -> Result<String, Fail> {
+    let servers = [
+        SocketAddr::new(Ipv4Addr::new(192, 0, 2, 5).into(), 7025),
+        SocketAddr::new(Ipv4Addr::new(192, 0, 2, 6).into(), 7025),
+    ];
+    if links.len() != 2 {
+        return Err("no two links".into());
+    }
+    let mut output = Vec::new(alloc);
+    let mut errors = Vec::new(alloc);
+    let status = run_totals(
+        alloc,
+        links,
+        &servers,
+        order,
+        "1970-01-02",
+        &mut output,
+        &mut errors,
+    );
+    let printed = str::from_utf8(output.as_slice())?;
+    let said = str::from_utf8(errors.as_slice())?;
+    Ok(format!(in alloc; "{printed}|{said}|{status}")?)
+}
+
+/// All logins of day 1 in this form.
+fn all_in(form: Form) -> ReportOrder {
+    ReportOrder {
+        day: 1,
+        logins: ReportedLogins::All,
+        form,
+    }
+}
+
+#[test]
+fn two_servers(rt: HostRuntime) -> Result<(), Fail> {
+    let alloc = rt.alloc();
+    for [number, default, first, wanted] in SHARES {
+        assert_eq!(rt; share_of(number, default, first), wanted);
+    }
+    // Login `u` used 3 at the first server, and `v` used 5 at the second, whose default is a tenth.
+    let mut first = server_with(
+        alloc,
+        1_000,
+        &[
+            "010161000000000000000100000001000000010000000000015180017500000001",
+            "010161000000000000000100000002000000010000000000015180017500000002",
+        ],
+    )?;
+    let mut second = server_with(
+        alloc,
+        100,
+        &["010162000000000000000100000001000000010000000000015180017600000005"],
+    )?;
+    assert_eq!(rt; ask_default(alloc, &mut first, 1), Ok(1_000));
+    assert_eq!(rt; ask_default(alloc, &mut second, 1), Ok(100));
+
+    let mut links = [first, second];
+    let wanted = "      0       3    1100 u\n      0       5    1100 v\n||0";
+    assert_eq!(rt;
+        reported(alloc, &mut links, &all_in(Form::Plain))?.as_str(),
+        wanted
+    );
+    let wanted =
+        "settled reserved  limit login\n      0       3    1100 u\n      0       5    1100 v\n||0";
+    assert_eq!(rt;
+        reported(alloc, &mut links, &all_in(Form::Shown))?.as_str(),
+        wanted
+    );
+    let wanted =
+        "{\"day\":1,\"date\":\"1970-01-02\",\"logins\":[{\"login\":\"u\",\"settled\":0,\"reserved\":3,\"limit\":1100},{\"login\":\"v\",\"settled\":0,\"reserved\":5,\"limit\":1100}]}\n||0";
+    assert_eq!(rt;
+        reported(alloc, &mut links, &all_in(Form::Json))?.as_str(),
+        wanted
+    );
+    let order = ReportOrder {
+        day: 1,
+        logins: ReportedLogins::Top(1),
+        form: Form::Plain,
+    };
+    assert_eq!(rt;
+        reported(alloc, &mut links, &order)?.as_str(),
+        "      0       5    1100 v\n||0"
+    );
+    // One who sent nothing, and whose login is no visible text.
+    let order = ReportOrder {
+        day: 1,
+        logins: ReportedLogins::One(Login::from_slice(alloc, b"\"\\ ")?),
+        form: Form::Json,
+    };
+    let wanted =
+        "{\"day\":1,\"date\":\"1970-01-02\",\"logins\":[{\"login\":\"\\\"\\\\x5c\\\\x20\",\"settled\":0,\"reserved\":0,\"limit\":1100}]}\n||0";
+    assert_eq!(rt; reported(alloc, &mut links, &order)?.as_str(), wanted);
+
+    // The second is away, and then both are.
+    links[1].is_down = true;
+    let wanted =
+        "      0       3    1000 u\n|mailquota: server 192.0.2.6:7025 is left out: quota service unavailable\n|1";
+    assert_eq!(rt;
+        reported(alloc, &mut links, &all_in(Form::Plain))?.as_str(),
+        wanted
+    );
+    links[0].is_down = true;
+    let wanted =
+        "|mailquota: server 192.0.2.5:7025 is left out: quota service unavailable\nmailquota: server 192.0.2.6:7025 is left out: quota service unavailable\n|1";
+    assert_eq!(rt;
+        reported(alloc, &mut links, &all_in(Form::Plain))?.as_str(),
+        wanted
+    );
+    Ok(())
+}
+
+#[test]
+fn forms_of_a_day(rt: HostRuntime) -> Result<(), Fail> {
+    let alloc = rt.alloc();
+    let mut output = Vec::new(alloc);
+    let mut errors = Vec::new(alloc);
+    for form in [Form::Plain, Form::Shown, Form::Json] {
+        assert_eq!(rt;
+            print_day(alloc, form, 20_787, "2026-11-30", &mut output, &mut errors),
+            0
+        );
+    }
+    assert_eq!(rt; print_sum(alloc, 2_200, &mut output, &mut errors), 0);
+    let printed = str::from_utf8(output.as_slice())?;
+    let wanted =
+        "20787\n20787 2026-11-30\n{\"day\":20787,\"date\":\"2026-11-30\"}\nin all at most 2200 a day\n";
+    assert_eq!(rt; printed, wanted);
+    Ok(())
+}
+
+#[test]
+fn set_at_a_server(rt: HostRuntime) -> Result<(), Fail> {
+    let alloc = rt.alloc();
+    let mut link = server_with(alloc, 100, &[])?;
+    let mut output = Vec::new(alloc);
+    let mut errors = Vec::new(alloc);
+    // A limit of 4 from day 1 on.
+    let request = request_of(alloc, "04016200000000000000020000000100000001000000040175")?;
+    if !is_request(&request) || !matches!(&request, Request::Limit { .. }) {
+        return Err("no limit".into());
+    }
+    let server = "192.0.2.6:7025";
+    let status = run_fresh_at(alloc, &mut link, request, server, &mut output, &mut errors);
+    assert_eq!(rt; status, 0);
+    assert_eq!(rt;
+        str::from_utf8(output.as_slice())?,
+        "set 4 at 192.0.2.6:7025\n"
+    );
     Ok(())
 }

@@ -1,4 +1,4 @@
-use Rattle.mq_command.proofs.Words.{Bool, List, [], ap, arith, cond, false, false≢true, is_reported, low_text, refl, sym, true, vis, vis_byte, ℕ, ◌%◌, ◌++◌, ◌+◌, ◌/◌, ◌<◌, ◌==◌, ◌∙◌, ◌∷◌, ◌≡◌}
+use Rattle.mq_command.proofs.Words.{Bool, List, [], ap, arith, cond, false, false≢true, is_reported, low_text, refl, sym, true, vis, ℕ, ◌%◌, ◌++◌, ◌+◌, ◌/◌, ◌==◌, ◌∙◌, ◌∷◌, ◌≡◌}
 use Rattle.std.proofs.Common.{nat_lt}
 use Rattle.mq_command.proofs.laws.no_login_is_reported_as_unlimited.Goals as goal
 
