@@ -13,7 +13,7 @@ returns-in-Err-clause-serves g c = λ k s.
     let q = Err c.in-Err.fault in
     let o : Outside = record { book = g.L.Ledger.book c.args.ledger.now; told = g.L.Ledger.told c.args.ledger.now; wires = g.W.Network.wire c.args.network.now } in
     subst (λ (w : ℕ → Wire). EndsServing o (record { book = o.book; told = o.told; wires = w }) (Serve Store) q) (sym c.bind.ensures.same)
-    (ends_unheard o q (ap Err c.bind.ensures.fault) (c.nothing_is_served.ensures o (g.met.L.Ledger.sound_is_legal c.args.ledger.now s)))
+    (ends_unheard o q (ap Err c.in-Err.ensures.fault) (c.nothing_is_served.ensures o (g.met.L.Ledger.sound_is_legal c.args.ledger.now s)))
 
 -- the serving ended by a fault
 pub returns-in_err-_ended-clause-serves : goal.returns-in_err-_ended-clause-serves
@@ -35,5 +35,5 @@ returns-clause-serves g c = λ k s.
     let wire = g.W.Network.wire in
     let before : Outside = record { book = g.L.Ledger.book ledger; told = g.L.Ledger.told ledger; wires = wire c.bind.new.network } in
     let after : Outside = record { book = g.L.Ledger.book c.serve_connections.new.ledger; told = g.L.Ledger.told c.serve_connections.new.ledger; wires = wire c.serve_connections.new.network } in
-    subst (λ (w : ℕ → Wire). EndsServing (record { book = before.book; told = before.told; wires = w }) after (Serve Store) (Ok 0)) c.bind.ensures.same
+    subst (λ (w : ℕ → Wire). EndsServing {A = ℕ} (record { book = before.book; told = before.told; wires = w }) after (Serve Store) (Ok 0)) c.bind.ensures.same
     (ends_well before after (Ok c.in_ok-_ended._ended) c.in_ok-_ended._ended 0 refl (c.in_ok-_ended.ensures.serves k s))
