@@ -5,9 +5,10 @@
 //!
 //!     ExitCode::from(program::run(&rt, Unknown, Unknown, &mut rt.stderr()))
 //!
-//! It stands on `mq_stream`, `mq_words`, `mq_process`, `mq_remote` and `mq_program`, and knows which
-//! subcommand is whose, its streams, its exit status, and that nothing is known of a file. Begin
-//! with `program.rt`, then `subcommand.rt`; docs/ARCHITECTURE.md shows how the data flows from there.
+//! It stands on `mq_request`, `mq_stream`, `mq_words`, `mq_process`, `mq_remote` and `mq_program`,
+//! and knows which subcommand is whose, its streams, its exit status, and that nothing is known of a
+//! file. Begin with `program.rt`, then `subcommand.rt`; docs/ARCHITECTURE.md shows how the data
+//! flows from there.
 #![tactic(auto)]
 
 mod program;

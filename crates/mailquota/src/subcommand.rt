@@ -1,18 +1,23 @@
 //! Which subcommand is run.
-ghost use Rattle.mq_process.specs.Arguments.{IsArguments};
+ghost use Rattle.std.specs.Prelude.{IfOk};
+ghost use Rattle.mq_request.specs.Range.{IsDay};
+ghost use Rattle.mq_process.specs.Arguments.{IsArguments, IsDayUpTo};
 ghost use Rattle.mailquota.specs.Refusals.{Refuses};
 
-use mq_process::{Arguments, Dialer, day, end_process};
+use mq_process::{
+    Arguments, Dialer, ForgetArguments, ForgetWords, ProcessFault, day, day_named, end_process,
+};
 use mq_program::{
     Databases, Terminals, audit, end_program, forget, init, limits, replay, server, status,
 };
 use mq_remote::{end_filter, filter, limit, probe_servers, report, resume, retire, stop};
+use mq_request::bounds::LAST_DAY;
 use mq_stream::{FromRead, WriterSink};
 use sqlite::Start;
 use std::io;
 use std::io::Write;
 use std::net::{Net, TcpListener, TcpStream};
-use std::rt::Clock;
+use std::rt::{Clock, Files};
 
 /// Runs a subcommand, prints on `errors` why it isn't done, and gives the exit status: 0 done, 1
 /// fault, 2 usage, and 3, of `status` by settings alone, where no server runs.
@@ -55,7 +60,11 @@ where
         Arguments::Stop(given) => end_process(stop(rt, dial, given, errors), errors),
         Arguments::Resume(given) => end_process(resume(rt, dial, given, errors), errors),
         Arguments::Day(given) => {
-            end_process(day(rt, given, &mut io::writer(rt), errors), errors)
+            let has_date = rt.has_output_on_terminal();
+            end_process(
+                day(rt, given, has_date, &mut io::writer(rt), errors),
+                errors,
+            )
         },
         Arguments::Retire(given) => end_process(retire(rt, dial, given, errors), errors),
         Arguments::Report(given) => {
@@ -68,8 +77,25 @@ where
         Arguments::Audit(given) => {
             end_program(audit(rt, given, start, &mut io::writer(rt)), errors)
         }
-        Arguments::Forget(given) => {
-            end_program(forget(rt, given, start, new, &mut io::writer(rt)), errors)
-        }
+        Arguments::Forget(given) => match with_number(rt, given) {
+            Ok(given) => end_program(forget(rt, given, start, new, &mut io::writer(rt)), errors),
+            Err(fault) => end_process(Err(fault), errors),
+        },
     }
+}
+
+/// What `forget` is given, with the number of its day.
+fn with_number<'a, R: Files + Clock + Eprint + AllocGlobal>(
+    rt: &R,
+    given: ForgetWords<'a>,
+) -> Result<ForgetArguments<'a>, ProcessFault>
+    requires { IsDayUpTo 376200 given.before }
+    ensures { IfOk result (λ forgets. IsDay forgets.before) }
+{
+    let before = day_named(rt, given.before, Some(given.config), LAST_DAY)?;
+    Ok(ForgetArguments {
+        config: given.config,
+        before,
+        into: given.into,
+    })
 }

@@ -1,10 +1,10 @@
 -- Steps over the servers that a command asks.
-use Rattle.std.proofs.Common.{◌≡◌, ◌<◌, ◌≤◌, ◌+◌, ℕ, List, Bool, true, length, drop, get_or, map, max, sym, subst, inr}
+use Rattle.std.proofs.Common.{◌≡◌, ◌<◌, ◌≤◌, ◌+◌, ◌++◌, ◌∷◌, [], ℕ, List, Bool, true, length, drop, get_or, map, max, sym, subst, inl, inr}
 use Rattle.std.proofs.lemmas.List.{drop_all, drop_more}
 use Rattle.std.specs.Borrow.{Bor}
 use Rattle.std.specs.Net.Grammar.{IsSocketText}
 use Rattle.std.specs.declared.net.SocketAddr.{SocketAddr}
-use Rattle.mq_process.specs.Refusals.{HasNoAddress}
+use Rattle.mq_process.specs.Refusals.{HasNoAddress, IsNoAddress}
 use Rattle.mq_process.specs.Servers.{AsksEach, no_server, server}
 
 -- one that is asked, before those that are left
@@ -28,3 +28,10 @@ asks_none Asks is_alone last status xs k all = subst (λ l. AsksEach Asks is_alo
 pub others_have_none : (xs : List (Bor (List ℕ))) (k : ℕ) (d : Bor (List ℕ)) (address : SocketAddr) → k < length xs → IsSocketText (get_or xs k d).now address
     → (HasNoAddress (map (λ s. s.now) (drop k xs)) → ⊥) → HasNoAddress (map (λ s. s.now) (drop (k + 1) xs)) → ⊥
 others_have_none xs k d address below spelled none some = none (subst (λ l. HasNoAddress (map (λ s. s.now) l)) (sym (drop_more xs k d below)) (inr some))
+
+-- one more text that is an address
+pub more_addresses : (texts : List (List ℕ)) (text : List ℕ) → (HasNoAddress texts → ⊥) → (IsNoAddress text → ⊥) → HasNoAddress (texts ++ text ∷ []) → ⊥
+more_addresses [] text none is (inl bad) = is bad
+more_addresses [] text none is (inr some) = some
+more_addresses (t ∷ ts) text none is (inl bad) = none (inl bad)
+more_addresses (t ∷ ts) text none is (inr some) = more_addresses ts text (λ s. none (inr s)) is some

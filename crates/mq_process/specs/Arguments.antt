@@ -1,13 +1,14 @@
 -- What the words of a command line may ask for.
 use Rattle.std.specs.Prelude.{◌≤◌, ℕ, IfSome, ⊤}
-use Rattle.mq_request.specs.Range.{IsRun, IsDay, IsAmount, IsMoment, IsWithin}
+use Rattle.mq_request.specs.Range.{IsRun, IsAmount, IsMoment, IsWithin}
 use Rattle.mq_process.specs.declared.arguments.ReplayArguments.{ReplayArguments}
 use Rattle.mq_process.specs.declared.arguments.LimitArguments.{LimitArguments}
 use Rattle.mq_process.specs.declared.arguments.ResumeArguments.{ResumeArguments}
 use Rattle.mq_process.specs.declared.arguments.StopArguments.{StopArguments}
 use Rattle.mq_process.specs.declared.arguments.ReportArguments.{ReportArguments}
 use Rattle.mq_process.specs.declared.arguments.DayArgument.{DayArgument}
-use Rattle.mq_process.specs.declared.arguments.DayArgument.TheVariants.{Today, Ago, Given}
+use Rattle.mq_process.specs.declared.arguments.DayArguments.{DayArguments}
+use Rattle.mq_process.specs.declared.arguments.DayArgument.TheVariants.{Today, Ago, Tomorrow, Given}
 use Rattle.mq_process.specs.declared.arguments.ConnectionsArgument.{ConnectionsArgument}
 use Rattle.mq_process.specs.declared.arguments.ConnectionsArgument.TheVariants.{Count, Endless}
 use Rattle.mq_process.specs.declared.arguments.Arguments.{Arguments}
@@ -20,9 +21,10 @@ pub record IsReplayArguments (given : ReplayArguments) : Type 0 where
   pub east : given.east ≤ 1439
   pub west : given.west ≤ 1439
 
--- a day number of 0 to the last one, and a day of today or up to 376,200 days before it
+-- a day number of 0 to the last one, today or tomorrow, or a day up to 376,200 days before it
 abbrev pub IsDayUpTo : ℕ → DayArgument → Type 0
 IsDayUpTo last Today = ⊤
+IsDayUpTo last Tomorrow = ⊤
 IsDayUpTo last (Ago days) = IsWithin 0 376200 days
 IsDayUpTo last (Given day) = IsWithin 0 last day
 
@@ -50,6 +52,11 @@ pub record IsReportArguments (given : ReportArguments) : Type 0 where
   pub day : IsDayUpTo 376200 given.day
   pub top : IfSome given.top (IsWithin 1 1000000)
 
+-- a day in range, where one is named, and a moment in range, where one is given
+pub record IsDayArguments (given : DayArguments) : Type 0 where
+  pub named : IfSome given.named (IsDayUpTo 376200)
+  pub moment : IfSome given.moment IsMoment
+
 -- 1 to 1,000,000 connections, where they have an end
 abbrev pub IsConnections : ConnectionsArgument → Type 0
 IsConnections (Count count) = IsWithin 1 1000000 count
@@ -63,7 +70,7 @@ IsArguments (Server given) = IsConnections given.connections
 IsArguments (Limit given) = IsLimitArguments given
 IsArguments (Stop given) = IsStopArguments given
 IsArguments (Resume given) = IsResumeArguments given
-IsArguments (Day given) = IfSome given.moment IsMoment
+IsArguments (Day given) = IsDayArguments given
 IsArguments (Retire given) = IfSome given.run IsRun
 IsArguments (Report given) = IsReportArguments given
 IsArguments (Init given) = ⊤
@@ -71,4 +78,4 @@ IsArguments (Status given) = ⊤
 IsArguments (Probe given) = ⊤
 IsArguments (Limits given) = ⊤
 IsArguments (Audit given) = ⊤
-IsArguments (Forget given) = IsDay given.before
+IsArguments (Forget given) = IsDayUpTo 376200 given.before

@@ -8,7 +8,10 @@ use Rattle.mq_settings.specs.declared.settings.FilterSettings.{FilterSettings}
 use Rattle.mq_settings.specs.declared.settings.ServerSettings.{ServerSettings}
 use Rattle.mq_settings.specs.declared.settings.fault.SettingsFault.{SettingsFault}
 use Rattle.mq_process.specs.declared.fault.ProcessFault.{ProcessFault}
-use Rattle.mq_process.specs.declared.fault.ProcessFault.TheVariants.{File, Settings}
+use Rattle.mq_process.specs.declared.fault.ProcessFault.TheVariants.{File, Settings, Servers}
+use Rattle.mq_servers.specs.Lists.{ListsServers}
+use Rattle.mq_servers.specs.declared.fault.ServersFault.{ServersFault}
+use Rattle.std.specs.declared.net.SocketAddr.{SocketAddr}
 
 -- a limit of 0 to 1,000,000, from a file of settings
 pub record AreInRange (settings : ServerSettings) : Type 0 where
@@ -52,3 +55,12 @@ ReadsFilter remaining (Err fault) = IsFileFault fault ⊎ OfAFile remaining (λ 
 abbrev pub ReadsServer : {F : Type 0} → (F → Option (List ℕ)) → Result ServerSettings ProcessFault → Type 0
 ReadsServer remaining (Ok settings) = OfAFile remaining (λ text. SpellsServer text settings)
 ReadsServer remaining (Err fault) = IsFileFault fault ⊎ OfAFile remaining (λ text. RefusesServer text fault)
+
+-- a text lists no servers
+abbrev pub IsServersFault : ProcessFault → Type 0
+IsServersFault fault = (cause : ServersFault) × (fault ≡ Servers cause)
+
+-- a file was read: the servers that all of it lists, or why it lists none
+abbrev pub ReadsServers : {F : Type 0} → (F → Option (List ℕ)) → Result (List SocketAddr) ProcessFault → Type 0
+ReadsServers remaining (Ok servers) = OfAFile remaining (λ text. ListsServers text servers)
+ReadsServers remaining (Err fault) = IsFileFault fault ⊎ IsServersFault fault

@@ -2,7 +2,7 @@
 use Rattle.std.specs.Prelude.{◌≡◌, ◌<◌, ◌+◌, ◌/◌, ◌==◌, ◌&&◌, ℕ, Bool, true, false, ◌⊎◌, List, Option, None, Some, Result, Ok, Err, nat_le}
 use Rattle.mq_request.specs.Range.{IsMoment}
 use Rattle.mq_process.specs.declared.arguments.DayArgument.{DayArgument}
-use Rattle.mq_process.specs.declared.arguments.DayArgument.TheVariants.{Today, Ago, Given}
+use Rattle.mq_process.specs.declared.arguments.DayArgument.TheVariants.{Today, Ago, Tomorrow, Given}
 use Rattle.mq_ledger.specs.Day.{day_of}
 use Rattle.mq_ledger.specs.declared.zone.Zone.{Zone}
 use Rattle.mq_settings.specs.declared.settings.ServerSettings.{ServerSettings}
@@ -45,10 +45,17 @@ IsDaysAgo remaining ago day =
     (settings : ServerSettings) × ReadsServer remaining (Ok settings)
     × ((moment : ℕ) × IsMoment moment × (day + ago ≡ day_of settings.zone moment))
 
+-- the day after that of a moment of the clock, in the zone of the settings that a file spells
+abbrev pub IsTomorrow : {F : Type 0} → (F → Option (List ℕ)) → ℕ → Type 0
+IsTomorrow remaining day =
+    (settings : ServerSettings) × ReadsServer remaining (Ok settings)
+    × ((moment : ℕ) × IsMoment moment × (day ≡ day_of settings.zone moment + 1))
+
 -- the day that words name, by its number or by today
 abbrev pub NamesDay : {F : Type 0} → (F → Option (List ℕ)) → DayArgument → ℕ → Type 0
 NamesDay remaining Today day = IsDaysAgo remaining 0 day
 NamesDay remaining (Ago ago) day = IsDaysAgo remaining ago day
+NamesDay remaining Tomorrow day = IsTomorrow remaining day
 NamesDay remaining (Given number) day = day ≡ number
 
 -- why there is no day that is named by today: no settings are named or in their place, they can't be used, or the clock shows none
@@ -67,9 +74,16 @@ RefusesAgo remaining ago (Err fault) =
     IsNoDay remaining fault
     ⊎ ((day : ℕ) × IsDaysAgo remaining ago day × (0 < ago) × (fault ≡ NotToday day (day + ago)))
 
+-- tomorrow is refused, since it isn't today
+abbrev pub RefusesTomorrow : {F : Type 0} → (F → Option (List ℕ)) → Result ℕ ProcessFault → Type 0
+RefusesTomorrow remaining (Ok day) = ⊥
+RefusesTomorrow remaining (Err fault) =
+    IsNoDay remaining fault ⊎ ((today : ℕ) × IsTomorrow remaining (today + 1) × (fault ≡ NotToday (today + 1) today))
+
 -- the day from which a login is stopped: the one that is named where it is forced, else the one that is today
 abbrev pub StopsFrom : {F X : Type 0} → (F → Option (List ℕ)) → Option X → Bool → DayArgument → Result ℕ ProcessFault → Type 0
 StopsFrom remaining file true given ended = NamesOrNot remaining given ended
 StopsFrom remaining file false Today ended = NamesOrNot remaining Today ended
 StopsFrom remaining file false (Ago ago) ended = RefusesAgo remaining ago ended
+StopsFrom remaining file false Tomorrow ended = RefusesTomorrow remaining ended
 StopsFrom remaining file false (Given day) ended = ChoosesBy remaining file day ended

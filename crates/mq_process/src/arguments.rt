@@ -8,6 +8,9 @@ pub const SERVER_SETTINGS: &str = "/etc/mailquota/server.toml";
 /// The settings of a filter where no words name others.
 pub const FILTER_SETTINGS: &str = "/etc/mailquota/filter.toml";
 
+/// The file that lists the servers which a command asks where no words name others.
+pub const SERVERS_FILE: &str = "/etc/mailquota/servers.toml";
+
 /// What `replay` is given.
 #[derive(Clone, Copy)]
 pub struct ReplayArguments<'a> {
@@ -64,7 +67,7 @@ pub struct ServerArguments<'a> {
 /// What `status` is given where it asks servers by their addresses.
 #[derive(Drop)]
 pub struct ProbeArguments<'a> {
-    /// The servers that are asked, or none where the settings name the one.
+    /// The servers that are asked, or none where settings name them.
     pub servers: Servers<'a>,
     /// The mail host of which it asks whether its requests are taken, or none.
     pub host: Option<&'a str>,
@@ -89,6 +92,17 @@ pub struct AuditArguments<'a> {
 pub struct LimitsArguments<'a> {
     /// The file of the server's settings.
     pub config: &'a str,
+}
+
+/// What the words of `forget` ask for.
+#[derive(Clone, Copy)]
+pub struct ForgetWords<'a> {
+    /// The file of the server's settings.
+    pub config: &'a str,
+    /// The first day that is remembered; a given number is 0 to 376,200.
+    pub before: DayArgument,
+    /// The database file that is made.
+    pub into: &'a str,
 }
 
 /// What `forget` is given.
@@ -118,6 +132,8 @@ pub enum DayArgument {
     Today,
     /// The day that is so many days before today, 0 to 376,200.
     Ago(u32),
+    /// The day after today.
+    Tomorrow,
     /// The day of this number.
     Given(u32),
 }
@@ -125,7 +141,7 @@ pub enum DayArgument {
 /// What `limit` is given.
 #[derive(Drop)]
 pub struct LimitArguments<'a> {
-    /// The servers that are asked, or none where the settings name the one.
+    /// The servers that are asked, or none where settings name them.
     pub servers: Servers<'a>,
     /// The file of the server's settings, or none.
     pub config: Option<&'a str>,
@@ -144,7 +160,7 @@ pub struct LimitArguments<'a> {
 /// What `stop` is given.
 #[derive(Drop)]
 pub struct StopArguments<'a> {
-    /// The servers that are asked, or none where the settings name the one.
+    /// The servers that are asked, or none where settings name them.
     pub servers: Servers<'a>,
     /// The file of the server's settings, or none.
     pub config: Option<&'a str>,
@@ -165,7 +181,7 @@ pub struct StopArguments<'a> {
 /// What `resume` is given.
 #[derive(Drop)]
 pub struct ResumeArguments<'a> {
-    /// The servers that are asked, or none where the settings name the one.
+    /// The servers that are asked, or none where settings name them.
     pub servers: Servers<'a>,
     /// The file of the server's settings, or none.
     pub config: Option<&'a str>,
@@ -185,6 +201,8 @@ pub struct ResumeArguments<'a> {
 pub struct DayArguments<'a> {
     /// The file of the server's settings.
     pub config: &'a str,
+    /// The day that is asked for, or that of the moment; a given number is 0 to 376,200.
+    pub named: Option<DayArgument>,
     /// The second since 1970-01-01T00:00:00Z whose day is asked for, 86,400 to 32,503,680,000, or
     /// the clock's.
     pub moment: Option<u64>,
@@ -193,7 +211,7 @@ pub struct DayArguments<'a> {
 /// What `retire` is given.
 #[derive(Clone, Copy)]
 pub struct RetireArguments<'a> {
-    /// The server's numeric address and port, or none where the settings name it.
+    /// The server's numeric address and port, or none where settings name the servers.
     pub server: Option<&'a str>,
     /// The file of the server's settings, or none.
     pub config: Option<&'a str>,
@@ -207,7 +225,7 @@ pub struct RetireArguments<'a> {
 /// What `report` is given.
 #[derive(Drop)]
 pub struct ReportArguments<'a> {
-    /// The servers that are asked, or none where the settings name the one.
+    /// The servers that are asked, or none where settings name them.
     pub servers: Servers<'a>,
     /// The file of the server's settings, or none.
     pub config: Option<&'a str>,
@@ -236,5 +254,5 @@ pub enum Arguments<'a> {
     Report(ReportArguments<'a>),
     Limits(LimitsArguments<'a>),
     Audit(AuditArguments<'a>),
-    Forget(ForgetArguments<'a>),
+    Forget(ForgetWords<'a>),
 }

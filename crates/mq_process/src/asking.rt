@@ -56,6 +56,24 @@ pub fn names_login(given: LoginArgument<'_>) -> bool
     }
 }
 
+/// Logs why words name no login, and gives the fault.
+pub fn refused_login<R: Eprint>(rt: &R, given: LoginArgument<'_>) -> ProcessFault
+    ensures { result ≡ ProcessFault.Login }
+{
+    let logged = Logged::new(rt, LevelFilter::Error, Console(rt));
+    let (text, is_printed) = match given {
+        LoginArgument::Reported(text) => (text, false),
+        LoginArgument::Printed(text) => (text, true),
+    };
+    let named = EscapedText(text.as_bytes());
+    if is_printed && is_login(text.as_bytes()) {
+        error!(logged; "login {named}: so spaces, backslashes and what isn't printable ASCII are written, or use --login");
+    } else {
+        error!(logged; "login {named}: it has to have 1 to 255 bytes");
+    }
+    ProcessFault::Login
+}
+
 /// The login that words name.
 pub fn login_of(alloc: Global, given: LoginArgument<'_>) -> Result<Login, ProcessFault>
     requires { NamesLogin given }
@@ -89,7 +107,7 @@ pub fn checked<R: Eprint>(
         return Err(ProcessFault::Host);
     }
     if !names_login(login) {
-        return Err(ProcessFault::Login);
+        return Err(refused_login(rt, login));
     }
     check_addresses(rt, servers)
 }

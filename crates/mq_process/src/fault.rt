@@ -1,6 +1,7 @@
 //! Why a subcommand isn't done before it asks a server or opens a ledger.
 ghost use Rattle.std.specs.Prelude.{◌≡◌};
 
+use mq_servers::ServersFault;
 use mq_settings::{FileFault, SettingsFault};
 use std::alloc::{AllocError, AllocFailed};
 use thiserror::Error;
@@ -31,6 +32,12 @@ pub enum ProcessFault {
     File(FileFault),
     #[error("{0}")]
     Settings(SettingsFault),
+    /// The file that lists the servers lists none.
+    #[error("{0}")]
+    Servers(ServersFault),
+    /// The server of the settings listens at all addresses of its machine, which isn't this one.
+    #[error("the server listens at all addresses, and isn't known to run here; use --server, or list it in /etc/mailquota/servers.toml")]
+    EveryAddress,
     /// The clock can't be read, or its milliseconds can't be a run's number.
     #[error("run number unavailable")]
     NoRun,
@@ -56,6 +63,7 @@ impl ProcessFault {
             | ProcessFault::Login
             | ProcessFault::Address
             | ProcessFault::NoServer
+            | ProcessFault::EveryAddress
             | ProcessFault::NoDay
             | ProcessFault::NoHost
             | ProcessFault::NotToday(_, _) => 2,

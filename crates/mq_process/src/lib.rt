@@ -9,10 +9,10 @@
 //!     let words = given.servers.as_slice();
 //!     checked(rt, given.host, given.login, words)?;
 //!
-//! It stands on `mq_request`, `mq_ledger`, `mq_settings`, `mq_link` and `mq_command`. Begin with
-//! `arguments.rt`, `settings.rt` and `asking.rt`; `specs/Arguments.antt` has the ranges that
-//! `mq_words` proves, `specs/Refusals.antt` says which words are refused, and in which order, and
-//! `specs/Whom.antt` whom a command asks.
+//! It stands on `mq_request`, `mq_ledger`, `mq_dates`, `mq_settings`, `mq_servers`, `mq_link` and
+//! `mq_command`. Begin with `arguments.rt`, `settings.rt` and `asking.rt`; `specs/Arguments.antt`
+//! has the ranges that `mq_words` proves, `specs/Refusals.antt` says which words are refused, and in
+//! which order, and `specs/Whom.antt` whom a command asks.
 #![tactic(auto)]
 
 mod addresses;
@@ -22,6 +22,7 @@ mod clock;
 mod dialing;
 mod fault;
 mod moment;
+mod printed_day;
 mod probing;
 mod refusing;
 mod servers;
@@ -32,20 +33,22 @@ mod whom;
 pub use addresses::Servers;
 pub use arguments::{
     Arguments, AuditArguments, ConnectionsArgument, DayArgument, DayArguments, FILTER_SETTINGS,
-    FilterArguments, ForgetArguments, InitArguments, LimitArguments, LimitsArguments,
+    FilterArguments, ForgetArguments, ForgetWords, InitArguments, LimitArguments, LimitsArguments,
     LoginArgument, ProbeArguments, ReplayArguments, ReportArguments, ResumeArguments,
     RetireArguments, SERVER_SETTINGS, ServerArguments, StatusArguments, StopArguments,
 };
 pub use asking::{
-    TIMEOUT, address_of, checked, first_id, link_to, login_of, names_login, tell_note,
+    TIMEOUT, address_of, checked, first_id, link_to, login_of, names_login, refused_login,
+    tell_note,
 };
 pub use clock::{WallClock, elapsed, run_number};
 pub use dialing::{Dial, Dialer};
 pub use fault::ProcessFault;
-pub use moment::{day, moment_or_now};
+pub use moment::moment_or_now;
+pub use printed_day::day;
 pub use probing::{Question, ask_once, ask_status, probe};
 pub use refusing::{end_process, refuse};
 pub use servers::{ask_each, check_addresses, tell_server};
 pub use settings::{filter_settings, server_settings};
 pub use today::{day_named, day_to_stop};
-pub use whom::{address_found, filter_settings_in_place, found_server, servers_or};
+pub use whom::{filter_settings_in_place, found_servers, servers_in_place, servers_or, texts_of};

@@ -1,18 +1,13 @@
-//! `day`: prints the day number of a moment.
+//! The moment that words name.
 ghost use Rattle.std.specs.Prelude.{◌≡◌, ◌/◌, Ok, IfSome, IfOk, IfErr};
 ghost use Rattle.std.specs.Option.{SomeIff};
 ghost use Rattle.std.specs.Duration.{as_nanos};
 ghost use Rattle.mq_request.specs.Range.{IsMoment};
-ghost use Rattle.mq_process.specs.Days.{PrintsDay};
 
-use crate::arguments::DayArguments;
 use crate::clock::time_of_clock;
 use crate::fault::ProcessFault;
-use crate::settings::server_settings;
-use mq_command::run_day;
 use mq_request::is_moment;
-use std::io::Write;
-use std::rt::{Clock, Files};
+use std::rt::Clock;
 use std::time::Duration;
 
 /// The whole seconds of a time, where they can be a moment.
@@ -50,27 +45,4 @@ pub fn moment_or_now(rt: &impl Clock, given: Option<u64>) -> Result<u64, Process
             None => Err(ProcessFault::NoMoment),
         },
     }
-}
-
-/// `day`: prints the day number of the moment that is given, or of now, in the zone of a server's
-/// settings.
-pub fn day<R: Files + Clock + Eprint + AllocGlobal, W: Write, E: Write>(
-    rt: &R,
-    given: DayArguments<'_>,
-    output: &mut W,
-    errors: &mut E,
-) -> Result<u8, ProcessFault>
-    requires { IfSome given.moment IsMoment }
-    ensures { PrintsDay R.File.remaining given.entry.moment (W.contents output.old)
-        (W.contents output.new) result }
-{
-    let settings = match server_settings(rt, given.config) {
-        Ok(settings) => settings,
-        Err(fault) => return Err(fault),
-    };
-    let moment = match moment_or_now(rt, given.moment) {
-        Ok(moment) => moment,
-        Err(fault) => return Err(fault),
-    };
-    Ok(run_day(rt.alloc(), &settings.zone, moment, output, errors))
 }

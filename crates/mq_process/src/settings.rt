@@ -1,18 +1,23 @@
 //! The settings of the filter and of the server, read from their files.
 ghost use Rattle.std.specs.Prelude.{◌≡◌, IfErr, IfOk, IfSome, Err, Ok};
 ghost use Rattle.mq_settings.specs.Files.{IsText};
-ghost use Rattle.mq_process.specs.Settings.{AreInRange, CanAsk, IsFileFault, ReadsFilter};
-ghost use Rattle.mq_process.specs.Settings.{ReadsServer, RefusesFilter};
+ghost use Rattle.mq_process.specs.Settings.{AreInRange, CanAsk, IsFileFault, IsServersFault};
+ghost use Rattle.mq_process.specs.Settings.{ReadsFilter};
+ghost use Rattle.mq_process.specs.Settings.{ReadsServer, ReadsServers, RefusesFilter};
 ghost use Rattle.mq_process.specs.Settings.{RefusesServer, SpellsFilter, SpellsServer};
+ghost use Rattle.mq_servers.specs.Lists.{ListsServers};
 
 use crate::fault::ProcessFault;
 use log::sink::Console;
 use log::{LevelFilter, Logged, error};
+use mq_servers::read_servers;
 use mq_settings::{
-    FileFault, FilterSettings, ServerSettings, SettingsFault, read_file, read_filter_settings,
-    read_server_settings,
+    FileFault, FilterSettings, Place, ServerSettings, SettingsFault, read_file,
+    read_filter_settings, read_server_settings,
 };
+use std::fs::File;
 use std::io::ErrorKind;
+use std::net::SocketAddr;
 use std::rt::Files;
 
 /// Logs why a file of settings can't be used, and gives it back. No level is set before the file is
@@ -175,5 +180,52 @@ pub fn filter_settings_if_there<R: Files + Eprint + AllocGlobal>(
             Err(fault) => Err(fault),
         },
         Err(fault) => Err(fault),
+    }
+}
+
+/// The servers that a text lists, which a file of this name has. Why they can't be used is logged.
+fn servers_of<R: Eprint + AllocGlobal>(
+    rt: &R,
+    file: &str,
+    text: &[u8],
+) -> Result<Vec<SocketAddr>, ProcessFault>
+    ensures servers { IfOk result (λ servers. ListsServers text.now servers.items) }
+    ensures refusal { IfErr result IsServersFault }
+{
+    match read_servers(rt.alloc(), text) {
+        Ok(servers) => Ok(servers),
+        Err(fault) => Err(logged_of(rt, file, ProcessFault::Servers(fault))),
+    }
+}
+
+/// The servers that a file lists, if there is such a file. Why they can't be used is logged.
+pub fn servers_if_there<R: Files + Eprint + AllocGlobal>(
+    rt: &R,
+    file: &str,
+) -> Result<Option<Vec<SocketAddr>>, ProcessFault>
+    ensures reads { IfOk result (λ found. IfSome found (λ servers. ReadsServers R.File.remaining
+        (Ok servers.items))) }
+    ensures fault { IfErr result (λ fault. ReadsServers R.File.remaining (Err fault)) }
+{
+    match text_if_there(rt, file) {
+        Ok(None) => Ok(None),
+        Ok(Some(text)) => match servers_of(rt, file, text.as_slice()) {
+            Ok(servers) => Ok(Some(servers)),
+            Err(fault) => Err(fault),
+        },
+        Err(fault) => Err(fault),
+    }
+}
+
+/// Whether the server of settings can run on this machine: a ledger of memory may be anywhere, and
+/// one in a file is where that file is.
+pub fn can_run_here<R: Files>(rt: &R, settings: &ServerSettings) -> bool {
+    let Place::File(file) = &settings.store else {
+        return true;
+    };
+    match File::open(rt, file.as_str()) {
+        Ok(_) => true,
+        // (one that may not be read is there)
+        Err(cause) => cause.kind() != ErrorKind::NotFound,
     }
 }

@@ -5,7 +5,8 @@ ghost use Rattle.mq_request.specs.Range.{IsMoment, IsWithin};
 ghost use Rattle.mq_process.specs.Arguments.{IsDayUpTo, last_stop_day};
 ghost use Rattle.mq_ledger.specs.Day.{day_of};
 ghost use Rattle.mq_process.specs.Today.{ChoosesBy, ChoosesDay, ChoosesNow, IsDaysAgo, IsNoDay};
-ghost use Rattle.mq_process.specs.Today.{NamesDay, RefusesAgo, StopsFrom};
+ghost use Rattle.mq_process.specs.Today.{IsTomorrow, NamesDay, RefusesAgo, RefusesTomorrow};
+ghost use Rattle.mq_process.specs.Today.{StopsFrom};
 ghost use Rattle.mq_process.specs.Today.{is_today, today_of};
 
 use crate::arguments::DayArgument;
@@ -80,6 +81,41 @@ fn days_ago<R: Files + Clock + Eprint + AllocGlobal>(
     }
 }
 
+/// The day after today, in this zone, by the clock: at most this last one.
+fn day_after(rt: &impl Clock, zone: &Zone, last: u32) -> Result<u32, ProcessFault>
+    ensures day { MatchResult result
+        (λ day. (moment : ℕ) × IsMoment moment × (day ≡ day_of zone.now moment + 1))
+        (λ fault. fault ≡ ProcessFault.NoMoment) }
+    ensures in_range { IfOk result (IsWithin 0 last) }
+{
+    match moment_or_now(rt, None) {
+        Ok(moment) => {
+            let tomorrow = zone.day_at(moment) + 1;
+            if last < tomorrow {
+                return Err(ProcessFault::NoMoment);
+            }
+            Ok(tomorrow)
+        }
+        Err(fault) => Err(fault),
+    }
+}
+
+/// The day after today, in the zone of the server's settings: at most this last one.
+fn tomorrow<R: Files + Clock + Eprint + AllocGlobal>(
+    rt: &R,
+    config: Option<&str>,
+    last: u32,
+) -> Result<u32, ProcessFault>
+    ensures day { MatchResult result (IsTomorrow R.File.remaining) (IsNoDay R.File.remaining) }
+    ensures in_range { IfOk result (IsWithin 0 last) }
+{
+    match named_settings(rt, config) {
+        Ok(Some(settings)) => day_after(rt, &settings.zone, last),
+        Ok(None) => Err(ProcessFault::NoDay),
+        Err(fault) => Err(fault),
+    }
+}
+
 /// The day that words name, by its number, or by today in the zone of the server's settings: of
 /// those in the file that the words name, or else in their place.
 ///
@@ -99,6 +135,7 @@ pub fn day_named<R: Files + Clock + Eprint + AllocGlobal>(
     match given {
         DayArgument::Today => days_ago(rt, config, 0, last),
         DayArgument::Ago(ago) => days_ago(rt, config, ago, last),
+        DayArgument::Tomorrow => tomorrow(rt, config, last),
         DayArgument::Given(number) => Ok(number),
     }
 }
@@ -166,6 +203,19 @@ fn day_not_ago<R: Files + Clock + Eprint + AllocGlobal>(
     }
 }
 
+/// Refuses tomorrow.
+fn not_tomorrow<R: Files + Clock + Eprint + AllocGlobal>(
+    rt: &R,
+    config: Option<&str>,
+) -> Result<u32, ProcessFault>
+    ensures { RefusesTomorrow R.File.remaining result }
+{
+    match tomorrow(rt, config, LAST_DAY) {
+        Ok(day) => Err(ProcessFault::NotToday(day, day - 1)),
+        Err(fault) => Err(fault),
+    }
+}
+
 /// The day from which a login is stopped: that of the words, where it is forced, or is today by the
 /// clock and the zone of the server's settings. A day that is given by its number, where the words
 /// name no settings, has to be today in some zone.
@@ -188,6 +238,7 @@ pub fn day_to_stop<R: Files + Clock + Eprint + AllocGlobal>(
     match given {
         DayArgument::Today => days_ago(rt, config, 0, LAST_DAY - 1),
         DayArgument::Ago(ago) => day_not_ago(rt, ago, config),
+        DayArgument::Tomorrow => not_tomorrow(rt, config),
         DayArgument::Given(day) => day_by_settings(rt, day, config),
     }
 }

@@ -1,6 +1,6 @@
 -- What the servers of a command were asked.
 use Rattle.std.proofs.Common.{◌≡◌, ◌==◌, ℕ, List, Bool, true, false, [], ◌∷◌, length, map, Option, None, Some, Result, Ok, Err, is_some, ap, inl, inr, refl, sym, ◌∙◌, subst}
-use Rattle.std.specs.Prelude.{IfSome, IfOk, IfErr, MatchResult}
+use Rattle.std.specs.Prelude.{IfSome, IfOk, IfErr, MatchOption, MatchResult}
 use Rattle.std.proofs.lemmas.List.{length-map}
 use Rattle.std.specs.Borrow.{Bor}
 use Rattle.std.specs.Net.Text.{socket_text}
@@ -16,11 +16,12 @@ use Rattle.mq_process.specs.Clocks.{IsRunAt}
 use Rattle.mq_process.specs.Links.{AsksOver}
 use Rattle.mq_process.specs.Servers.{AsksEach, server}
 use Rattle.mq_process.specs.Servers.{no_server as none_asked}
-use Rattle.mq_process.specs.Whom.{FindsAddress, IsWhom, servers_or}
+use Rattle.mq_process.specs.Whom.{FindsServers, IsWhom, servers_or}
 use Rattle.mq_process.specs.declared.asking.TheConstants.{TIMEOUT}
 use Rattle.mq_process.specs.declared.fault.ProcessFault.{ProcessFault}
 use Rattle.mq_process.specs.declared.fault.ProcessFault.TheVariants.{Memory}
-use Rattle.mq_remote.specs.Asked.{AsksAt, IsLimitBy, IsRunBy, SendsLimit, SendsLimitBy}
+use Rattle.mq_remote.specs.Asked.{AsksAt, IsLimitBy, IsRunBy, IsTarget, SendsLimit, SendsLimitBy, words_of}
+use Rattle.mq_remote.specs.declared.subcommands.retire.Target.{Target}
 use Rattle.mq_command.specs.Orders.{PrintsLine}
 use Rattle.mq_remote.specs.Servers.{AsksAll, asks_one, none_left}
 
@@ -41,14 +42,24 @@ pub servers_asked : {F : Type 0} {Asks : F → SocketAddr → ℕ → F → Type
 servers_asked {At = At} {status = status} state texts each asked =
     subst (λ n. AsksAll At (n == 1) status (map (λ s. s.now) texts) 0) (sym (length-map texts (λ s. s.now))) (all_asked state each state _ _ refl asked)
 
--- the servers of the words, or the one that was found
-pub whom_of : {F X : Type 0} (remaining : F → Option (List ℕ)) (named : Option X) (words given asked servers : List (List ℕ)) (found shown : List ℕ) → words ≡ given → shown ≡ found
-    → (words ≡ [] → (address : SocketAddr) × FindsAddress remaining named (Ok address) × (found ≡ socket_text address))
+-- the servers of the words, or those that were found
+pub whom_of : {F X : Type 0} (remaining : F → Option (List ℕ)) (named : Option X) (words given asked servers found shown : List (List ℕ)) → words ≡ given → shown ≡ found
+    → (words ≡ [] → (at : List SocketAddr) × FindsServers remaining named (Ok at) × (found ≡ map socket_text at))
     → servers ≡ servers_or shown words → asked ≡ servers → IsWhom remaining named given asked
-whom_of remaining named words [] asked servers found shown same text finds chosen is =
+whom_of remaining named words [] asked servers found shown same texts finds chosen is =
     let it = finds same in
-    (it.0, it.1, is ∙ chosen ∙ ap (servers_or shown) same ∙ ap (λ t. t ∷ []) (text ∙ it.2))
-whom_of remaining named words (given ∷ more) asked servers found shown same text finds chosen is = is ∙ chosen ∙ ap (servers_or shown) same
+    (it.0, it.1, is ∙ chosen ∙ ap (servers_or shown) same ∙ texts ∙ it.2)
+whom_of remaining named words (given ∷ more) asked servers found shown same texts finds chosen is = is ∙ chosen ∙ ap (servers_or shown) same
+
+-- the one server of the words, where they name one
+pub words_are : (server : Option (Bor (List ℕ))) (words : List (Bor (List ℕ))) → MatchOption server (words ≡ []) (λ s. words ≡ s ∷ []) → map (λ s. s.now) words ≡ words_of server
+words_are None words is = ap (map (λ s. s.now)) is
+words_are (Some text) words is = ap (map (λ s. s.now)) is
+
+-- whose runs are given up, and where, by the words that were given
+pub target_by : {F X : Type 0} (remaining : F → Option (List ℕ)) (named : Option X) (host : Option (List ℕ)) (target : Target) (words given : List (List ℕ)) → words ≡ given
+    → IsTarget remaining named host words target → IsTarget remaining named host given target
+target_by remaining named host target words given is found = subst (λ w. IsTarget remaining named host w target) is found
 
 -- the run that is given, or the clock's
 pub run_by : (Shows : SystemTime → Type 0) (given : Option ℕ) (run : ℕ) (numbered : Result ℕ ProcessFault) → numbered ≡ Ok run → IfSome given (λ g. numbered ≡ Ok g) → IsRun run

@@ -1,12 +1,14 @@
 -- How an order ends where a word of it is at fault.
-use Rattle.std.proofs.Common.{◌≡◌, ℕ, List, Option, None, Some, Result, Ok, Err, ap, subst, sym, ◌∙◌}
+use Rattle.std.proofs.Common.{◌≡◌, ℕ, List, Option, None, Some, Result, Ok, Err, ap, inl, subst, sym, ◌∙◌}
+use Rattle.std.specs.Borrow.{Bor}
 use Rattle.std.specs.Prelude.{IfSome, IsErrAnd}
 use Rattle.mq_request.specs.Range.{IsHost}
 use Rattle.mq_process.specs.declared.arguments.ProbeArguments.{ProbeArguments}
 use Rattle.mq_process.specs.declared.arguments.ReportArguments.{ReportArguments}
 use Rattle.mq_process.specs.declared.arguments.RetireArguments.{RetireArguments}
 use Rattle.mq_process.specs.declared.arguments.LoginArgument.{LoginArgument}
-use Rattle.mq_process.specs.Refusals.{HasNoAddress, NamesLogin, OrderRefuses, ProbeRefuses, ReportRefuses, RetireRefuses}
+use Rattle.mq_remote.specs.Asked.{words_of}
+use Rattle.mq_process.specs.Refusals.{HasNoAddress, IsNoAddress, NamesLogin, OrderRefuses, ProbeRefuses, ReportRefuses, RetireRefuses}
 use Rattle.mq_process.specs.declared.fault.ProcessFault.{ProcessFault}
 use Rattle.mq_process.specs.declared.fault.ProcessFault.TheVariants.{Host, Login, Address}
 
@@ -62,4 +64,16 @@ pub retire_refused : (given : RetireArguments) (ended : Result ℕ ProcessFault)
 retire_refused given ended fault host is same = record {
   host = right_or given.host (λ h. IsHost h.now) (ended ≡ Err Host) host;
   address = λ right. whatever given.server _ (ended ≡ Err Address) (by_address ended fault is same);
+}
+
+-- a server that is an address isn't refused
+server_right : (server : Option (Bor (List ℕ))) (Refused : Type 0) → (HasNoAddress (words_of server) → ⊥) → IfSome server (λ s. IsNoAddress s.now → Refused)
+server_right None Refused right = tt
+server_right (Some text) Refused right = λ no. absurd (right (inl no))
+
+-- nor is `retire` whose words are right
+pub retire_right : (given : RetireArguments) (EndsBy : ProcessFault → Type 0) → IfSome given.host (λ host. IsHost host.now) → (HasNoAddress (words_of given.server) → ⊥) → RetireRefuses given EndsBy
+retire_right given EndsBy host right = record {
+  host = right_or given.host (λ h. IsHost h.now) (EndsBy Host) host;
+  address = λ is. server_right given.server (EndsBy Address) right;
 }

@@ -1,9 +1,8 @@
 -- What quota servers are asked, by the words of a command: about which login and day, under which host and run, at which
 -- addresses.
-use Rattle.std.specs.Prelude.{◌≡◌, ◌⊎◌, ◌<◌, ◌==◌, ℕ, List, length, Bool, true, false, is_some, IsSomeAnd, option_map, unwrap_or}
+use Rattle.std.specs.Prelude.{◌≡◌, ◌⊎◌, ◌<◌, ◌==◌, ℕ, List, [], ◌∷◌, length, map, Bool, true, false, is_some, option_map, string_bytes}
 use Rattle.std.specs.Prelude.{Option, None, Some, Result, Ok, ⊤}
 use Rattle.std.specs.Borrow.{Bor}
-use Rattle.std.specs.Net.Grammar.{IsSocketText}
 use Rattle.std.specs.Net.Text.{socket_text}
 use Rattle.std.specs.declared.net.SocketAddr.{SocketAddr}
 use Rattle.std.specs.declared.time.SystemTime.{SystemTime}
@@ -32,9 +31,9 @@ use Rattle.mq_process.specs.Clocks.{IsRunAt}
 use Rattle.mq_process.specs.Links.{AsksOver}
 use Rattle.mq_process.specs.Questions.{Puts}
 use Rattle.mq_process.specs.Refusals.{Names}
-use Rattle.mq_process.specs.Settings.{ReadsFilter}
+use Rattle.mq_process.specs.Settings.{ReadsFilter, ReadsServers}
 use Rattle.mq_process.specs.Today.{NamesDay, StopsFrom}
-use Rattle.mq_process.specs.Whom.{FindsAddress, IsWhom}
+use Rattle.mq_process.specs.Whom.{FindsServers, IsWhom, servers_or}
 use Rattle.mq_process.specs.declared.asking.TheConstants.{TIMEOUT}
 use Rattle.mq_process.specs.declared.probing.Question.{Question}
 use Rattle.mq_process.specs.declared.probing.Question.TheVariants.{Status, Host}
@@ -163,38 +162,42 @@ pub record AsksResume {L F : Type 0} (leads : L → SocketAddr → ℕ → Type 
 
 -- ---- `retire`
 
--- the address that the words spell, or none where they name none
-abbrev pub IsAddressBy : Option (List ℕ) → Option SocketAddr → Type 0
-IsAddressBy None found = found ≡ None
-IsAddressBy (Some text) found = IsSomeAnd found (IsSocketText text)
+-- the server of the words, where they name one
+abbrev pub words_of : Option (Bor (List ℕ)) → List (List ℕ)
+words_of None = []
+words_of (Some text) = text.now ∷ []
 
--- the address that is given, or else the one that settings have
-abbrev pub IsAddressOr : {F X : Type 0} → (F → Option (List ℕ)) → Option X → Option SocketAddr → SocketAddr → Type 0
-IsAddressOr remaining named (Some given) address = address ≡ given
-IsAddressOr remaining named None address = FindsAddress remaining named (Ok address)
+-- the servers that a file lists, or the one that the filter asks
+abbrev pub FindsByFilter : {F : Type 0} → (F → Option (List ℕ)) → SocketAddr → List (List ℕ) → Type 0
+FindsByFilter remaining server texts =
+    ((servers : List SocketAddr) × ReadsServers remaining (Ok servers) × (texts ≡ map socket_text servers))
+    ⊎ (texts ≡ socket_text server ∷ [])
 
--- the host of a filter's settings, at the address that is given, or else at their server's
-abbrev pub IsTargetOfFilter : {F : Type 0} → (F → Option (List ℕ)) → Option SocketAddr → Target → Type 0
-IsTargetOfFilter remaining given target =
+-- the host of a filter's settings, and whom these name where the words name no server
+abbrev pub IsTargetOfFilter : {F : Type 0} → (F → Option (List ℕ)) → List (List ℕ) → Target → Type 0
+IsTargetOfFilter remaining words target =
     (settings : FilterSettings) × ReadsFilter remaining (Ok settings) × (target.host ≡ settings.host)
-    × (target.address ≡ unwrap_or given settings.server)
+    × (words ≡ [] → FindsByFilter remaining settings.server (map string_bytes target.found.items))
 
--- the host of the words, or else that of a filter's settings, and where its runs are given up
-abbrev pub IsTarget : {F X : Type 0} → (F → Option (List ℕ)) → Option X → Option (List ℕ) → Option SocketAddr → Target → Type 0
-IsTarget remaining named (Some host) given target = (target.host ≡ host) × IsAddressOr remaining named given target.address
-IsTarget remaining named None given target = IsTargetOfFilter remaining given target
+-- the host of the words, and whom any command asks; or else that of a filter's settings
+abbrev pub IsTarget : {F X : Type 0} → (F → Option (List ℕ)) → Option X → Option (List ℕ) → List (List ℕ) → Target → Type 0
+IsTarget remaining named (Some host) words target =
+    (target.host ≡ host)
+    × (words ≡ [] → (servers : List SocketAddr) × FindsServers remaining named (Ok servers)
+    × (map string_bytes target.found.items ≡ map socket_text servers))
+IsTarget remaining named None words target = IsTargetOfFilter remaining words target
 
--- what `retire` asks: that the runs of the host below this one are given up
+-- what `retire` asks: of each server the same, that the runs of the host below this one are given up
 pub record AsksRetire {L F : Type 0} (leads : L → SocketAddr → ℕ → Type 0) (told : L → Option (List ReportedExchange))
     (remaining : F → Option (List ℕ)) (Shows : SystemTime → Type 0) (given : RetireArguments) (status : ℕ) : Type 0 where
   pub run : ℕ
   pub is_run : IsRunBy Shows given.run run
-  pub server : Option SocketAddr
-  pub spelled : IsAddressBy (option_map (λ text. text.now) given.server) server
   pub target : Target
-  pub is_target : IsTarget remaining given.config (option_map (λ host. host.now) given.host) server target
-  pub asked : AsksOver leads told target.address TIMEOUT
-      (SendsOrder (asks.Retire (record { host = target.host; run = run; number = 1 })) status)
+  pub is_target : IsTarget remaining given.config (option_map (λ host. host.now) given.host) (words_of given.server) target
+  pub servers : List (List ℕ)
+  pub whom : servers ≡ servers_or (map string_bytes target.found.items) (words_of given.server)
+  pub asked : AsksAll (λ address said. AsksOver leads told address TIMEOUT
+      (SendsOrder (asks.Retire (record { host = target.host; run = run; number = 1 })) said)) (length servers == 1) status servers 0
 
 -- ---- `report`
 

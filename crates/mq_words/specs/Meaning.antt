@@ -1,5 +1,5 @@
 -- What the options of a subcommand ask for, as clap matched them to the words.
-use Rattle.std.specs.Prelude.{◌≡◌, ◌⊎◌, ◌≢◌, ℕ, Bool, true, false, List, [], Option, Some, None, codes, option_map}
+use Rattle.std.specs.Prelude.{◌≡◌, ◌⊎◌, ◌≢◌, IsSomeAnd, ℕ, Bool, true, false, List, [], Option, Some, None, codes, option_map}
 use Rattle.std.specs.Borrow.{Bor}
 use Rattle.std.specs.Option.{option_map_or}
 use Rattle.std.specs.Str.Parse.{IsNumeral, digits_value, without_leading_plus}
@@ -13,7 +13,7 @@ use Rattle.mq_process.specs.declared.arguments.Arguments.TheVariants.{Init, Stat
 use Rattle.mq_process.specs.declared.arguments.ConnectionsArgument.{ConnectionsArgument}
 use Rattle.mq_process.specs.declared.arguments.ConnectionsArgument.TheVariants.{Count, Endless}
 use Rattle.mq_process.specs.declared.arguments.DayArgument.{DayArgument}
-use Rattle.mq_process.specs.declared.arguments.DayArgument.TheVariants.{Today, Ago, Given}
+use Rattle.mq_process.specs.declared.arguments.DayArgument.TheVariants.{Today, Ago}
 use Rattle.mq_process.specs.declared.arguments.LoginArgument.{LoginArgument}
 use Rattle.mq_process.specs.declared.arguments.LoginArgument.TheVariants.{Reported, Printed}
 use Rattle.mq_process.specs.declared.arguments.FilterArguments.{FilterArguments}
@@ -25,7 +25,8 @@ use Rattle.mq_process.specs.declared.arguments.ResumeArguments.{ResumeArguments}
 use Rattle.mq_process.specs.declared.arguments.DayArguments.{DayArguments}
 use Rattle.mq_process.specs.declared.arguments.RetireArguments.{RetireArguments}
 use Rattle.mq_process.specs.declared.arguments.ReportArguments.{ReportArguments}
-use Rattle.mq_process.specs.declared.arguments.ForgetArguments.{ForgetArguments}
+use Rattle.mq_process.specs.declared.arguments.ForgetWords.{ForgetWords}
+use Rattle.mq_words.specs.Days.{WritesDay}
 use Rattle.mq_process.specs.declared.arguments.ReplayArguments.{ReplayArguments}
 
 -- the text that an option has, by the words or by default
@@ -72,12 +73,20 @@ pub record HasCap (found : Found) (cap : ℕ) : Type 0 where
   pub word : HasNumber found (codes "CAP") 0 1000000 cap
   pub named : one_text found (codes "CAP") ≡ None → HasNumber found (codes "cap") 0 1000000 cap
 
--- the day of this number, or else so many days ago, or else today
-pub record HasDay (found : Found) (id : List ℕ) (last : ℕ) (day : DayArgument) : Type 0 where
-  pub given : (text : List ℕ) (spelled : ℕ) → one_text found id ≡ Some text → Spells 0 last text spelled → day ≡ Given spelled
-  pub ago : one_text found id ≡ None
-      → (text : List ℕ) (spelled : ℕ) → one_text found (codes "ago") ≡ Some text → Spells 0 376200 text spelled → day ≡ Ago spelled
-  pub today : one_text found id ≡ None → one_text found (codes "ago") ≡ None → day ≡ Today
+-- the day that was so many days ago, or else today
+pub record HasDayAgo (found : Found) (day : DayArgument) : Type 0 where
+  pub ago : (text : List ℕ) (spelled : ℕ) → one_text found (codes "ago") ≡ Some text → Spells 0 376200 text spelled → day ≡ Ago spelled
+  pub today : one_text found (codes "ago") ≡ None → day ≡ Today
+
+-- the day that the option's text names, or else one by how long ago it is
+abbrev pub HasDay : Found → List ℕ → ℕ → DayArgument → Type 0
+HasDay found id last day =
+    IsSomeAnd (first_value found id) (λ text. WritesDay last text day) ⊎ ((first_value found id ≡ None) × HasDayAgo found day)
+
+-- the day that the word names, where it is given
+abbrev pub HasDayWord : Found → Option DayArgument → Type 0
+HasDayWord found (Some day) = IsSomeAnd (first_value found (codes "DAY")) (λ text. WritesDay 376200 text day)
+HasDayWord found None = first_value found (codes "DAY") ≡ None
 
 -- the login as smtpd reports it, or else as a report prints it: the word, or else the option
 abbrev pub HasLoginOrNone : Found → Option LoginArgument → Type 0
@@ -135,6 +144,7 @@ pub record MeansResume (found : Found) (given : ResumeArguments) : Type 0 where
 
 pub record MeansDay (found : Found) (given : DayArguments) : Type 0 where
   pub config : HasText found (codes "config") given.config.now
+  pub named : HasDayWord found given.named
   pub moment : HasNumberOrNone found (codes "at") 86400 32503680000 given.moment
 
 pub record MeansRetire (found : Found) (given : RetireArguments) : Type 0 where
@@ -150,9 +160,9 @@ pub record MeansReport (found : Found) (given : ReportArguments) : Type 0 where
   pub login : HasLoginOrNone found given.login
   pub top : HasNumberOrNone found (codes "top") 1 1000000 given.top
 
-pub record MeansForget (found : Found) (given : ForgetArguments) : Type 0 where
+pub record MeansForget (found : Found) (given : ForgetWords) : Type 0 where
   pub config : HasText found (codes "config") given.config.now
-  pub before : HasNumber found (codes "before") 0 376200 given.before
+  pub before : (text : List ℕ) → first_value found (codes "before") ≡ Some text → WritesDay 376200 text given.before
   pub «into» : HasText found (codes "into") given.into.now
 
 pub record MeansReplay (found : Found) (given : ReplayArguments) : Type 0 where

@@ -3,8 +3,8 @@ use Rattle.std.specs.Prelude.{◌≡◌, ◌≢◌, ◌⊎◌, ℕ, Result, Ok, 
 use Rattle.clap.specs.Values.{kind_of}
 use Rattle.clap.specs.declared.error.Error.{Error}
 use Rattle.clap.specs.declared.error.kind.ErrorKind.TheVariants.{DisplayHelp, DisplayVersion}
-use Rattle.mq_words.specs.declared.words.WordsFault.{WordsFault}
-use Rattle.mq_words.specs.declared.words.WordsFault.TheVariants as words
+use Rattle.mq_words.specs.declared.fault.WordsFault.{WordsFault}
+use Rattle.mq_words.specs.declared.fault.WordsFault.TheVariants as words
 use Rattle.mq_words.specs.declared.printing.PrintFault.{PrintFault}
 use Rattle.mq_words.specs.declared.printing.PrintFault.TheVariants as unprinted
 
@@ -17,4 +17,5 @@ pub record EndsErring (error : Error) (ended : Result ℕ PrintFault) : Type 0 w
 -- where memory runs out nothing is printed
 abbrev pub EndsPrinted : WordsFault → Result ℕ PrintFault → Type 0
 EndsPrinted words.Memory ended = ended ≡ Err unprinted.Memory
+EndsPrinted (words.Day text) ended = ended ≡ Ok 2
 EndsPrinted (words.Words error) ended = EndsErring error ended

@@ -7,16 +7,19 @@
 //!     match read_arguments(rt.alloc(), words, VERSION) {
 //!         Ok(given) => run_subcommand(rt, given, start, new, errors),
 //!
-//! It stands on `mq_process`, for the arguments as types, and `mq_request`, and is the one crate
-//! that gives options to `clap`; it doesn't know what a subcommand does. Begin with
-//! `subcommands.rt`, the options as a table, and `meaning.rt`, what they ask for; `mailquota(8)`
-//! has them in words.
+//! It stands on `mq_process`, for the arguments as types, `mq_request`, and `mq_dates`, for days as
+//! people write them, and is the one crate that gives options to `clap`; it doesn't know what a
+//! subcommand does. Begin with `subcommands.rt`, the options as a table, and `meaning.rt`, what they
+//! ask for; `mailquota(8)` has them in words.
 #![tactic(auto)]
 
+mod days;
+mod fault;
 mod meaning;
 mod printing;
 mod subcommands;
 mod words;
 
+pub use fault::WordsFault;
 pub use printing::{PrintFault, print_fault};
-pub use words::{WordsFault, read_arguments};
+pub use words::read_arguments;

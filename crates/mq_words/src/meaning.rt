@@ -1,24 +1,28 @@
 //! What the options of a subcommand ask for.
-ghost use Rattle.std.specs.Prelude.{◌≡◌, ◌≤◌, IfOk, IfSome, None, codes};
+ghost use Rattle.std.specs.Prelude.{◌≡◌, ◌≤◌, ℕ, IfOk, IfSome, None, codes};
 ghost use Rattle.clap.specs.Matches.{found_of};
-ghost use Rattle.mq_request.specs.Range.{IsAmount, IsDay, IsMoment, IsRun, IsWithin};
-ghost use Rattle.mq_process.specs.Arguments.{IsArguments, IsConnections, IsDayUpTo};
+ghost use Rattle.mq_request.specs.Range.{IsAmount, IsRun, IsWithin};
+ghost use Rattle.mq_process.specs.Arguments.{IsArguments, IsConnections, IsDayArguments};
+ghost use Rattle.mq_process.specs.Arguments.{IsDayUpTo};
 ghost use Rattle.mq_process.specs.Arguments.{IsLimitArguments, IsReplayArguments};
 ghost use Rattle.mq_process.specs.Arguments.{IsReportArguments, IsResumeArguments, IsStopArguments};
-ghost use Rattle.mq_words.specs.Meaning.{HasCap, HasConnections, HasDay, HasLogin, HasLoginOrNone};
+ghost use Rattle.mq_words.specs.Meaning.{HasCap, HasConnections, HasDay, HasDayAgo, HasDayWord};
+ghost use Rattle.mq_words.specs.Meaning.{HasLogin, HasLoginOrNone};
 ghost use Rattle.mq_words.specs.Meaning.{HasNumber, HasNumberOrNone, HasText, IsUnknown};
 ghost use Rattle.mq_words.specs.Meaning.{Means, MeansDay, MeansFilter, MeansForget, MeansLimit};
 ghost use Rattle.mq_words.specs.Meaning.{MeansReplay, MeansReport, MeansResume};
 ghost use Rattle.mq_words.specs.Meaning.{MeansRetire, MeansServer, MeansStatus, MeansStop};
 ghost use Rattle.mq_words.specs.Meaning.{texts_of};
 
+use crate::days::read_day;
+use crate::fault::WordsFault;
 use crate::subcommands::{
     AMOUNTS, CROWDS, DAYS, EARLIER_DAYS, MINUTES, MOMENTS, RUNS, Range, TOPS,
 };
 use clap::ArgMatches;
 use mq_process::{
     Arguments, AuditArguments, ConnectionsArgument, DayArgument, DayArguments, FilterArguments,
-    ForgetArguments, InitArguments, LimitArguments, LimitsArguments, LoginArgument, ProbeArguments,
+    ForgetWords, InitArguments, LimitArguments, LimitsArguments, LoginArgument, ProbeArguments,
     ReplayArguments, ReportArguments, ResumeArguments, RetireArguments, ServerArguments, Servers,
     StatusArguments, StopArguments,
 };
@@ -30,7 +34,7 @@ pub fn arguments_of<'a>(
     alloc: Global,
     name: &str,
     found: &ArgMatches<'a>,
-) -> Result<Option<Arguments<'a>>, AllocError>
+) -> Result<Option<Arguments<'a>>, WordsFault>
     ensures in_range { IfOk result (λ given. IfSome given IsArguments) }
     ensures meant { IfOk result (λ given. IfSome given (Means name.now (found_of found.now))) }
     ensures unknown { IfOk result (λ given. given ≡ None → IsUnknown name.now) }
@@ -45,7 +49,7 @@ pub fn arguments_of<'a>(
         "limit" => Arguments::Limit(limit_of(alloc, found)?),
         "stop" => Arguments::Stop(stop_of(alloc, found)?),
         "resume" => Arguments::Resume(resume_of(alloc, found)?),
-        "day" => Arguments::Day(moment_of(found)),
+        "day" => Arguments::Day(asked_day_of(alloc, found)?),
         "retire" => Arguments::Retire(retire_of(found)),
         "report" => Arguments::Report(report_of(alloc, found)?),
         "limits" => Arguments::Limits(LimitsArguments {
@@ -54,7 +58,7 @@ pub fn arguments_of<'a>(
         "audit" => Arguments::Audit(AuditArguments {
             config: text_of(found, "config"),
         }),
-        "forget" => Arguments::Forget(forget_of(found)),
+        "forget" => Arguments::Forget(forget_of(alloc, found)?),
         "replay" => Arguments::Replay(replay_of(found)),
         _ => return Ok(None),
     }))
@@ -131,19 +135,43 @@ fn cap_of(found: &ArgMatches<'_>) -> u32
     }
 }
 
-/// The day, by the option of this name, or by how long ago it is.
-fn day_of(found: &ArgMatches<'_>, name: &str, range: Range<u32>) -> DayArgument
+/// The day, by the option of this name, which faults show so, or by how long ago it is.
+fn day_of(
+    alloc: Global,
+    found: &ArgMatches<'_>,
+    name: &str,
+    shown: &str,
+    range: Range<u32>,
+) -> Result<DayArgument, WordsFault>
     requires { range.least ≡ 0 }
-    ensures in_range { IsDayUpTo range.most result }
-    ensures meant { HasDay (found_of found.now) name.now range.most result }
+    ensures in_range { IfOk result (IsDayUpTo range.most) }
+    ensures meant { IfOk result (HasDay (found_of found.now) name.now range.most) }
 {
-    match (
-        number_if_given(found, name, range),
-        number_if_given(found, "ago", DAYS),
-    ) {
-        (Some(day), _) => DayArgument::Given(day),
-        (None, Some(days)) => DayArgument::Ago(days),
-        (None, None) => DayArgument::Today,
+    match found.get_str(name) {
+        Some(text) => read_day(alloc, shown, text, range),
+        None => Ok(day_ago(found)),
+    }
+}
+
+/// The day, by how long ago it is, or today.
+fn day_ago(found: &ArgMatches<'_>) -> DayArgument
+    ensures in_range { (last : ℕ) → IsDayUpTo last result }
+    ensures meant { HasDayAgo (found_of found.now) result }
+{
+    match number_if_given(found, "ago", DAYS) {
+        Some(days) => DayArgument::Ago(days),
+        None => DayArgument::Today,
+    }
+}
+
+/// The day that the word of `day` names, if it is given.
+fn day_word_of(alloc: Global, found: &ArgMatches<'_>) -> Result<Option<DayArgument>, WordsFault>
+    ensures in_range { IfOk result (λ day. IfSome day (IsDayUpTo 376200)) }
+    ensures meant { IfOk result (HasDayWord (found_of found.now)) }
+{
+    match found.get_str("DAY") {
+        Some(text) => Ok(Some(read_day(alloc, "[DAY]", text, DAYS)?)),
+        None => Ok(None),
     }
 }
 
@@ -214,7 +242,7 @@ fn status_of<'a>(alloc: Global, found: &ArgMatches<'a>) -> Result<Arguments<'a>,
     })
 }
 
-fn limit_of<'a>(alloc: Global, found: &ArgMatches<'a>) -> Result<LimitArguments<'a>, AllocError>
+fn limit_of<'a>(alloc: Global, found: &ArgMatches<'a>) -> Result<LimitArguments<'a>, WordsFault>
     ensures in_range { IfOk result IsLimitArguments }
     ensures meant { IfOk result (MeansLimit (found_of found.now)) }
 {
@@ -223,13 +251,13 @@ fn limit_of<'a>(alloc: Global, found: &ArgMatches<'a>) -> Result<LimitArguments<
         config: found.get_str("config"),
         host: text_of(found, "host"),
         login: login_of(found),
-        from: day_of(found, "from", DAYS),
+        from: day_of(alloc, found, "from", "--from <DAY>", DAYS)?,
         cap: cap_of(found),
         run: run_of(found),
     })
 }
 
-fn stop_of<'a>(alloc: Global, found: &ArgMatches<'a>) -> Result<StopArguments<'a>, AllocError>
+fn stop_of<'a>(alloc: Global, found: &ArgMatches<'a>) -> Result<StopArguments<'a>, WordsFault>
     ensures in_range { IfOk result IsStopArguments }
     ensures meant { IfOk result (MeansStop (found_of found.now)) }
 {
@@ -238,14 +266,14 @@ fn stop_of<'a>(alloc: Global, found: &ArgMatches<'a>) -> Result<StopArguments<'a
         config: found.get_str("config"),
         host: text_of(found, "host"),
         login: login_of(found),
-        day: day_of(found, "day", EARLIER_DAYS),
+        day: day_of(alloc, found, "day", "--day <DAY>", EARLIER_DAYS)?,
         is_forced: found.get_flag("force"),
         is_all: found.get_flag("all"),
         is_waiting: found.get_flag("wait"),
     })
 }
 
-fn resume_of<'a>(alloc: Global, found: &ArgMatches<'a>) -> Result<ResumeArguments<'a>, AllocError>
+fn resume_of<'a>(alloc: Global, found: &ArgMatches<'a>) -> Result<ResumeArguments<'a>, WordsFault>
     ensures in_range { IfOk result IsResumeArguments }
     ensures meant { IfOk result (MeansResume (found_of found.now)) }
 {
@@ -254,19 +282,20 @@ fn resume_of<'a>(alloc: Global, found: &ArgMatches<'a>) -> Result<ResumeArgument
         config: found.get_str("config"),
         host: text_of(found, "host"),
         login: login_of(found),
-        day: day_of(found, "day", EARLIER_DAYS),
+        day: day_of(alloc, found, "day", "--day <DAY>", EARLIER_DAYS)?,
         cap: number_if_given(found, "cap", AMOUNTS),
     })
 }
 
-fn moment_of<'a>(found: &ArgMatches<'a>) -> DayArguments<'a>
-    ensures in_range { IfSome result.moment IsMoment }
-    ensures meant { MeansDay (found_of found.now) result }
+fn asked_day_of<'a>(alloc: Global, found: &ArgMatches<'a>) -> Result<DayArguments<'a>, WordsFault>
+    ensures in_range { IfOk result IsDayArguments }
+    ensures meant { IfOk result (MeansDay (found_of found.now)) }
 {
-    DayArguments {
+    Ok(DayArguments {
         config: text_of(found, "config"),
+        named: day_word_of(alloc, found)?,
         moment: long_number_if_given(found, "at", MOMENTS),
-    }
+    })
 }
 
 fn retire_of<'a>(found: &ArgMatches<'a>) -> RetireArguments<'a>
@@ -281,28 +310,28 @@ fn retire_of<'a>(found: &ArgMatches<'a>) -> RetireArguments<'a>
     }
 }
 
-fn report_of<'a>(alloc: Global, found: &ArgMatches<'a>) -> Result<ReportArguments<'a>, AllocError>
+fn report_of<'a>(alloc: Global, found: &ArgMatches<'a>) -> Result<ReportArguments<'a>, WordsFault>
     ensures in_range { IfOk result IsReportArguments }
     ensures meant { IfOk result (MeansReport (found_of found.now)) }
 {
     Ok(ReportArguments {
         servers: servers_of(alloc, found)?,
         config: found.get_str("config"),
-        day: day_of(found, "day", DAYS),
+        day: day_of(alloc, found, "day", "--day <DAY>", DAYS)?,
         login: one_login_of(found),
         top: number_if_given(found, "top", TOPS),
     })
 }
 
-fn forget_of<'a>(found: &ArgMatches<'a>) -> ForgetArguments<'a>
-    ensures in_range { IsDay result.before }
-    ensures meant { MeansForget (found_of found.now) result }
+fn forget_of<'a>(alloc: Global, found: &ArgMatches<'a>) -> Result<ForgetWords<'a>, WordsFault>
+    ensures in_range { IfOk result (λ given. IsDayUpTo 376200 given.before) }
+    ensures meant { IfOk result (MeansForget (found_of found.now)) }
 {
-    ForgetArguments {
+    Ok(ForgetWords {
         config: text_of(found, "config"),
-        before: number_of(found, "before", DAYS),
+        before: read_day(alloc, "--before <DAY>", text_of(found, "before"), DAYS)?,
         into: text_of(found, "into"),
-    }
+    })
 }
 
 fn replay_of<'a>(found: &ArgMatches<'a>) -> ReplayArguments<'a>

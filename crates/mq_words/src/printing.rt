@@ -4,7 +4,7 @@ ghost use Rattle.clap.specs.Values.{kind_of};
 ghost use Rattle.clap.specs.declared.error.kind.ErrorKind.TheVariants.{DisplayHelp, DisplayVersion};
 ghost use Rattle.mq_words.specs.Printing.{EndsPrinted};
 
-use crate::words::WordsFault;
+use crate::fault::WordsFault;
 use clap::Error;
 
 /// Why nothing was printed of words that ask for nothing that can be done.
@@ -22,6 +22,10 @@ pub fn print_fault<R: Print + Eprint>(rt: &R, fault: WordsFault) -> Result<u8, P
 {
     match fault {
         WordsFault::Memory => Err(PrintFault::Memory),
+        WordsFault::Day(text) => {
+            let _ = eprintln!(rt; "{text}\n\nFor more information, try '--help'.");
+            Ok(2)
+        }
         WordsFault::Words(error) => print_error(rt, &error),
     }
 }

@@ -67,6 +67,8 @@ pub enum Takes {
     Text,
     /// One text each time that it is given, of any number of times.
     Texts,
+    /// A day, by its number or its date, or one of yesterday, today and tomorrow.
+    Day(Range<u32>),
     Number(Range<u32>),
     LongNumber(Range<u64>),
 }
@@ -306,8 +308,8 @@ const LOGIN_TEXT: CommandOption = CommandOption {
 const FROM: CommandOption = CommandOption {
     name: "from",
     value: "DAY",
-    help: "Number of the limit's first day; else today",
-    takes: Takes::Number(DAYS),
+    help: "The limit's first day, as 2026-11-30; else today",
+    takes: Takes::Day(DAYS),
     need: Need::OneOf(DATED),
     default: None,
 };
@@ -342,8 +344,8 @@ const CAP: CommandOption = CommandOption {
 const DAY: CommandOption = CommandOption {
     name: "day",
     value: "DAY",
-    help: "Day number, from 1970-01-01 on; else today",
-    takes: Takes::Number(DAYS),
+    help: "Date as 2026-11-30, number or yesterday; else today",
+    takes: Takes::Day(DAYS),
     need: Need::OneOf(DATED),
     default: None,
 };
@@ -351,8 +353,8 @@ const DAY: CommandOption = CommandOption {
 const EARLIER_DAY: CommandOption = CommandOption {
     name: "day",
     value: "DAY",
-    help: "Day number, from 1970-01-01 on; else today",
-    takes: Takes::Number(EARLIER_DAYS),
+    help: "Date as 2026-11-30, number or yesterday; else today",
+    takes: Takes::Day(EARLIER_DAYS),
     need: Need::OneOf(DATED),
     default: None,
 };
@@ -402,12 +404,21 @@ const TOP: CommandOption = CommandOption {
     default: None,
 };
 
+const DAY_WORD: CommandOption = CommandOption {
+    name: "DAY",
+    value: "DAY",
+    help: "Date as 2026-11-30, number, or yesterday, today, tomorrow",
+    takes: Takes::Day(DAYS),
+    need: Need::Optional,
+    default: None,
+};
+
 const AT: CommandOption = CommandOption {
     name: "at",
     value: "SECONDS",
     help: "Second since 1970-01-01 UTC; else now",
     takes: Takes::LongNumber(MOMENTS),
-    need: Need::Optional,
+    need: Need::Without("DAY"),
     default: None,
 };
 
@@ -459,8 +470,8 @@ const RULE: CommandOption = CommandOption {
 const BEFORE: CommandOption = CommandOption {
     name: "before",
     value: "DAY",
-    help: "First day number that is kept",
-    takes: Takes::Number(DAYS),
+    help: "First day that is kept: its date or its number",
+    takes: Takes::Day(DAYS),
     need: Need::Required,
     default: None,
 };
@@ -564,9 +575,9 @@ pub const SUBCOMMANDS: [Subcommand; 14] = [
     },
     Subcommand {
         name: "day",
-        about: "Print today's day number by a server's settings",
+        about: "Print a day's number and, on a terminal, its date",
         usage: None,
-        words: &[],
+        words: &[DAY_WORD],
         options: &[CONFIG, AT],
         groups: &[],
     },

@@ -1,40 +1,14 @@
 //! The words of the command line.
-ghost use Rattle.std.specs.Prelude.{◌≡◌, IfOk};
+ghost use Rattle.std.specs.Prelude.{IfOk};
 ghost use Rattle.mq_process.specs.Arguments.{IsArguments};
 
+use crate::fault::WordsFault;
 use crate::meaning::arguments_of;
 use crate::subcommands::{CommandOption, Need, SUBCOMMANDS, Subcommand, Takes};
 use clap::error::ErrorKind;
-use clap::{Arg, ArgAction, ArgGroup, Command, Error, value_parser};
+use clap::{Arg, ArgAction, ArgGroup, Command, value_parser};
 use mq_process::Arguments;
 use std::alloc::{AllocError, Global};
-
-/// Why the words ask for nothing that can be done.
-#[derive(Drop)]
-pub enum WordsFault {
-    /// They ask for help, or are no usage of the program.
-    Words(Error),
-    Memory,
-}
-
-impl From<AllocError> for WordsFault {
-    ghost use Rattle.mq_words.specs.declared.words.WordsFault.TheVariants.{Memory};
-
-    ghost from_gives = { λ _ fault. fault ≡ Memory };
-
-    fn from(_error: AllocError) -> WordsFault {
-        WordsFault::Memory
-    }
-}
-
-impl From<Error> for WordsFault {
-    fn from(error: Error) -> WordsFault {
-        match error.kind() {
-            ErrorKind::OutOfMemory => WordsFault::Memory,
-            _ => WordsFault::Words(error),
-        }
-    }
-}
 
 /// Reads the words of a command line, the program's name first. `--version` prints this version.
 pub fn read_arguments<'a>(
@@ -107,7 +81,7 @@ fn argument_of<'a>(alloc: Global, option: &CommandOption) -> Result<Arg<'a>, All
     };
     let argument = match option.takes {
         Takes::Nothing => return Ok(argument.action(ArgAction::SetTrue)),
-        Takes::Text => argument,
+        Takes::Text | Takes::Day(_) => argument,
         Takes::Texts => argument.action(ArgAction::Append),
         Takes::Number(range) => argument.value_parser(value_parser!(u64).range(
             i64::from(range.least)..=i64::from(range.most),

@@ -8,10 +8,12 @@ from concurrent.futures import ThreadPoolExecutor
 import clocks
 from cases.rules import CENTRAL_EUROPE
 from cases.stopping import LAST_DAY, caps, not_today, nothing_sent
+from cases.words import bad_login
 from ends import (
     NOT_ALLOWED,
     NO_FILE,
     SECONDS,
+    Script,
     Server,
     as_user,
     fault,
@@ -70,6 +72,11 @@ def run(world, checks):
     settings_of_others(world, checks)
     words_that_say_all(world, checks)
     retires(world, checks)
+    by_a_list(world, checks)
+    before_a_list(world, checks)
+    retires_at_each(world, checks)
+    wrong_lists(world, checks)
+    at_all_addresses(world, checks)
     by_a_clock(world, checks)
     days_of_odd_minutes(world, checks)
     days_ago_over_a_change(world, checks)
@@ -83,12 +90,17 @@ def filter_settings(address, **more):
     return toml({"host": "mx1", "server": address, **more})
 
 
-def with_settings(world, *words, server=None, filter_=None, user=None):
+def listed(*addresses):
+    """The file that lists these servers."""
+    return "servers = [" + ", ".join(f'"{it}"' for it in addresses) + "]\n"
+
+
+def with_settings(world, *words, server=None, filter_=None, servers=None, user=None):
     """What the program comes to that finds these settings in their places. With a user it runs as
     that one, who may not read those of the server."""
     folder = world.new_file("") + ".etc"
     os.makedirs(folder)
-    for name, text in (("server", server), ("filter", filter_)):
+    for name, text in (("server", server), ("filter", filter_), ("servers", servers)):
         if text is A_FOLDER:
             os.makedirs(f"{folder}/{name}.toml")
         elif text is not None:
@@ -130,6 +142,11 @@ def by_the_servers_settings(world, checks):
             ("report", ["--login", "u"], line),
             ("report", ["--top", "1"], line),
             ("report", ["--ago", "1"], b""),
+            ("report", ["--day", "today"], line),
+            ("report", ["--day", "yesterday"], b""),
+            ("report", ["--day", "tomorrow"], b""),
+            ("day", ["today"], f"{today}\n".encode()),
+            ("day", ["tomorrow"], f"{today + 1}\n".encode()),
             ("limit", ["--login", "u", "--cap", "7"], b"set\n"),
             (
                 "stop",
@@ -384,7 +401,7 @@ def without_settings(world, checks):
     checks.equal(
         "a bad login goes first",
         with_settings(world, "stop", "--login", "u" * 256),
-        (2, b"", "mailquota: bad login\n"),
+        bad_login("u" * 256),
     )
     checks.equal(
         "a report of a server, without a day",
@@ -591,6 +608,307 @@ def retires(world, checks):
     checks.equal(
         "retire with a host alone", with_settings(world, "retire", "--host", "mx1"), NO_SERVER
     )
+
+
+def at_each(done, *servers):
+    """What is printed where each of these servers says so, in their order."""
+    heads = [f"server {it.address}:\n" if len(servers) > 1 else "" for it in servers]
+    return "".join(head + done.format(it.address) for head, it in zip(heads, servers)).encode()
+
+
+def by_a_list(world, checks):
+    """Each command asks all servers that a file lists, as if the words named them."""
+    wait_past_midnight()
+    today = int(time.time()) // 86_400
+    with Server(world, default=9) as first, Server(world, default=9) as second:
+        for servers in ([first, second], [second, first], [first]):
+            found = {
+                "servers": listed(*(it.address for it in servers)),
+                # (its zone is that of the days)
+                "server": server_settings("127.0.0.1:1"),
+                "filter_": filter_settings("127.0.0.1:1"),
+            }
+            login = "u" + "".join("12"[it is second] for it in servers)
+            for name, words, done in [
+                ("status", [], "quota server {} answers\n"),
+                (
+                    "status",
+                    ["--host", "mx1"],
+                    "quota server {} answers\nrequests of host mx1 are taken\n",
+                ),
+                ("limit", [login, "7"], "set\n"),
+                ("report", [login], f"      0       0       7 {login}\n"),
+                (
+                    "stop",
+                    [login, "--force"],
+                    f"stopped: {login} used 0 on day {today}\nlimit before: 7\n",
+                ),
+                ("resume", [login, "--cap", "5"], f"resumed: {login} may use 5 on day {today}\n"),
+                ("retire", ["--host", "mx2"], "retired\n"),
+                ("retire", [], "retired\n"),
+            ]:
+                checks.equal(
+                    f"{' '.join([name, *words])}, by a list of {len(servers)}",
+                    with_settings(world, name, *words, **found),
+                    (0, at_each(done, *servers), ""),
+                )
+            checks.equal(
+                f"the limits of {login}",
+                [caps(it, login.encode(), today - 1, today) for it in servers],
+                [[9, 5]] * len(servers),
+            )
+        found = {"servers": listed("127.0.0.1:1", first.address)}
+        status, printed, errors = with_settings(world, "status", **found)
+        checks.equal(
+            "status by a list, of which one is away",
+            (status, printed, errors.splitlines()[-1]),
+            (
+                1,
+                f"server 127.0.0.1:1:\nserver {first.address}:\nquota server {first.address}"
+                " answers\n".encode(),
+                "mailquota: not done by server 127.0.0.1:1",
+            ),
+        )
+        checks.equal(
+            "a report by a list alone, without a day",
+            with_settings(world, "report", servers=listed(first.address)),
+            NO_DAY,
+        )
+        checks.equal(
+            "a report of a day by a list alone",
+            with_settings(world, "report", "u12", "--day", "1", servers=listed(first.address)),
+            (0, b"      0       0       9 u12\n", ""),
+        )
+
+
+def before_a_list(world, checks):
+    """The words go before it, and the settings that they name; it goes before settings in their
+    places."""
+    with Server(world, default=1) as first, Server(world, default=2) as second, Server(
+        world, default=3
+    ) as third, Server(world, default=4) as fourth:
+        found = {
+            "servers": listed(third.address),
+            "server": server_settings(fourth.address),
+            "filter_": filter_settings(fourth.address),
+        }
+        config = world.new_file(server_settings(second.address))
+        words = ["report", "u", "--day", "1"]
+        for what, more, cap in [
+            ("by words, settings that they name, and a list", ["--server", first.address, "--config", config], 1),
+            ("by settings that the words name, and a list", ["--config", config], 2),
+            ("by a list, and settings in their places", [], 3),
+        ]:
+            checks.equal(
+                f"a report {what}",
+                with_settings(world, *words, *more, **found),
+                (0, b"      0       0 %7d u\n" % cap, ""),
+            )
+        checks.equal(
+            "words that say whom, beside a wrong list",
+            with_settings(world, *words, "--server", first.address, servers="servers = 1\n"),
+            (0, b"      0       0       1 u\n", ""),
+        )
+        checks.equal(
+            "settings that the words name, beside a wrong list",
+            with_settings(world, *words, "--config", config, servers="servers = 1\n"),
+            (0, b"      0       0       2 u\n", ""),
+        )
+
+
+def retires_at_each(world, checks):
+    """`retire` gives up a host's runs at each server of the list, and at one alone where the words
+    name it."""
+    with Server(world) as first, Server(world) as second, Server(world) as third:
+        found = {
+            "servers": listed(first.address, second.address),
+            "filter_": filter_settings(third.address, host="mx9"),
+        }
+        run = {"host": b"mx9", "run": clock() - 1}
+        checks.equal(
+            "retire by a list",
+            with_settings(world, "retire", **found),
+            (0, at_each("retired\n", first, second), ""),
+        )
+        checks.equal(
+            "an earlier run at each, and at the server of the filter",
+            [it.ask(reserve(2, **run)) for it in (first, second, third)],
+            [old(2, **run)] * 2 + [granted(2, 1, **run)],
+        )
+        run = {"host": b"mx8", "run": clock() - 1}
+        checks.equal(
+            "retire of a host at a server of the words, beside a list",
+            with_settings(
+                world, "retire", "--host", "mx8", "--server", second.address, **found
+            ),
+            (0, b"retired\n", ""),
+        )
+        checks.equal(
+            "its earlier run at each",
+            [it.ask(reserve(3, txn=2, **run)) for it in (first, second)],
+            [granted(3, 1, **run), old(3, **run)],
+        )
+        checks.equal(
+            "retire by a list, without the filter's settings",
+            with_settings(world, "retire", servers=found["servers"]),
+            NO_HOST,
+        )
+
+
+# lists that can't be used, and why
+WRONG_LISTS = [
+    ("", "setting servers: missing"),
+    ('server = ["127.0.0.1:1"]\n', "setting server: unknown"),
+    ('servers = ["127.0.0.1:1"]\nlog = "off"\n', "setting log: unknown"),
+    *(
+        (
+            f"servers = {it}\n",
+            "setting servers: bad value, it has to be a list of 1 to 16 addresses in quotes",
+        )
+        for it in (
+            '"127.0.0.1:1"',
+            "7025",
+            "[]",
+            "[1]",
+            '[["127.0.0.1:1"]]',
+            str([f"127.0.0.1:{port}" for port in range(1, 18)]).replace("'", '"'),
+        )
+    ),
+    ('servers = ["127.0.0.1:1", "127.0.0.1"]\n', "setting servers: 127.0.0.1: no port"),
+    (
+        'servers = ["quota:7025"]\n',
+        (
+            "setting servers: quota:7025: no numeric address before the port; an IPv6 address"
+            " stands in brackets"
+        ),
+    ),
+    ('servers = ["127.0.0.1:1:"]\n', "setting servers: 127.0.0.1:1:: no port"),
+    ('servers = ["127.0.0.1:65536"]\n', "setting servers: 127.0.0.1:65536: port above 65535"),
+    (
+        'servers = ["127.0.0.1:1", "127.0.0.1:2", "127.0.0.1:1"]\n',
+        "setting servers: 127.0.0.1:1 stands there twice",
+    ),
+    (
+        'servers = ["[::1]:1", "[0:0::1]:1"]\n',
+        "setting servers: [::1]:1 stands there twice",
+    ),
+    ('servers = ["a b:1"]\n', None),
+    ("servers = [\n", None),
+    ("\xff", None),
+]
+
+
+def wrong_lists(world, checks):
+    """A list that can't be used keeps each command from asking anybody, also whom settings in their
+    places name."""
+    with Script([]) as server:
+        found = {"server": server_settings(server.address), "filter_": filter_settings(server.address)}
+        for text, why in WRONG_LISTS:
+            came = with_settings(world, "report", "--day", "1", servers=text, **found)
+            if why is None:
+                begins = f"[ERROR mq_process::settings] {PLACE}/servers.toml: "
+                checks.holds(
+                    f"a report by the list {text!r}",
+                    came[:2] == (1, b"") and came[2].startswith(begins),
+                    f"status 1, and a line that begins with {begins!r}",
+                    came,
+                )
+                continue
+            checks.equal(
+                f"a report by the list {text!r}",
+                came,
+                fault(why, log=of_settings(f"{PLACE}/servers.toml", why)),
+            )
+        for name, words in [
+            ("status", []),
+            ("limit", ["u", "1", "--from", "1"]),
+            ("stop", ["u", "--day", "1", "--force"]),
+            ("resume", ["u", "--day", "1", "--cap", "1"]),
+            ("retire", []),
+            ("retire", ["--host", "mx1"]),
+        ]:
+            why = WRONG_LISTS[0][1]
+            checks.equal(
+                f"{' '.join([name, *words])} by an empty list",
+                with_settings(world, name, *words, servers="", **found),
+                fault(why, log=of_settings(f"{PLACE}/servers.toml", why)),
+            )
+        for text, why, said in [
+            (A_FOLDER, "Is a directory (os error 21)", "settings can't be read"),
+            ("#" * 65_537, "settings too large", "settings too large"),
+        ]:
+            checks.equal(
+                f"a report by a list: {why}",
+                with_settings(world, "report", "--day", "1", servers=text, **found),
+                fault(said, log=of_settings(f"{PLACE}/servers.toml", why)),
+            )
+        checks.equal("what was asked", server.heard, [])
+    with Server(world) as server:
+        sixteen = [server.address] + [f"127.0.0.1:{port}" for port in range(1, 16)]
+        status, printed, _ = with_settings(world, "status", servers=listed(*sixteen))
+        checks.equal(
+            "status by a list of sixteen",
+            (status, printed.count(b"server 127.0.0.1:"), printed.count(b" answers\n")),
+            (1, 17, 1),
+        )
+
+
+EVERYWHERE = (
+    2,
+    b"",
+    (
+        "mailquota: the server listens at all addresses, and isn't known to run here; use --server,"
+        f" or list it in {PLACE}/servers.toml\n"
+    ),
+)
+
+
+def at_all_addresses(world, checks):
+    """A server that listens at all addresses is asked at this machine's own where its ledger is,
+    and elsewhere the words or a list have to say where it is."""
+    path = f"{world.folder}/everywhere"
+    for host, every, here in [("127.0.0.1", "0.0.0.0", "127.0.0.1"), ("::1", "[::]", "[::1]")]:
+        if host == "::1" and loopback_of_6() != "::1":
+            checks.skip("a server that listens at all addresses of IPv6", "there is none")
+            continue
+        with Server(world, default=9, host=host) as server:
+            there = f"{here}:{server.port}"
+            for what, store in [("in this file", world.new_file("")), ("in memory", "memory")]:
+                found = {"server": server_settings(f"{every}:{server.port}", store=store)}
+                checks.equal(
+                    f"status of a server at {every} whose ledger is {what}",
+                    with_settings(world, "status", **found),
+                    (0, f"quota server {there} answers\n".encode(), ""),
+                )
+                config = world.new_file(found["server"])
+                checks.equal(
+                    f"a report of a server at {every} whose ledger is {what}, by --config",
+                    world.run("report", "u", "--day", "1", "--config", config),
+                    (0, b"      0       0       9 u\n", ""),
+                )
+            found = {"server": server_settings(f"{every}:{server.port}", store=path)}
+            for words in (
+                ["status"],
+                ["report", "--day", "1"],
+                ["limit", "u", "1", "--from", "1"],
+                ["stop", "u", "--day", "1", "--force"],
+                ["resume", "u", "--day", "1"],
+                ["retire", "--host", "mx1"],
+            ):
+                checks.equal(
+                    f"{' '.join(words)} of a server at {every} of another machine",
+                    with_settings(world, *words, **found),
+                    EVERYWHERE,
+                )
+            for what, words, more in [
+                ("by words", ["--server", there], {}),
+                ("by a list", [], {"servers": listed(there)}),
+            ]:
+                checks.equal(
+                    f"a report of a server at {every} of another machine, {what}",
+                    with_settings(world, "report", "u", "--day", "1", *words, **found, **more),
+                    (0, b"      0       0       9 u\n", ""),
+                )
 
 
 # moments about the ends of a day, noon, and the hour until which a night belongs to the day before

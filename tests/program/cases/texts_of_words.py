@@ -16,7 +16,7 @@ Commands:
   limit   Set the limit of a login from a day on
   stop    Let a login have nothing more, today and on each later day
   resume  Let a login have more again, today and on each later day
-  day     Print today's day number by a server's settings
+  day     Print a day's number and, on a terminal, its date
   retire  Retire a host's earlier filters: what they reserved counts as sent
   report  Print what logins used on a day
   limits  Print the limits that are set in the ledger in a file
@@ -114,7 +114,7 @@ Usage: mailquota forget [OPTIONS] --before <DAY> --into <FILE>
 
 Options:
       --config <FILE>  Settings [default: /etc/mailquota/server.toml]
-      --before <DAY>   First day number that is kept
+      --before <DAY>   First day that is kept: its date or its number
       --into <FILE>    Database file to make, which must not be there
   -h, --help           Print help
 """,
@@ -135,7 +135,7 @@ Options:
       --host <HOST>        Name under which it asks [default: admin]
       --login <LOGIN>      Login as smtpd reports it, in place of LOGIN
       --login-text <TEXT>  Login as a report prints it, in place of LOGIN
-      --from <DAY>         Number of the limit's first day; else today
+      --from <DAY>         The limit's first day, as 2026-11-30; else today
       --ago <N>            That many days before today
       --cap <N>            Recipients a day, in place of CAP
       --run <N>            Number of the run; else the clock's milliseconds
@@ -157,7 +157,7 @@ Options:
       --host <HOST>        Name under which it asks [default: admin]
       --login <LOGIN>      Login as smtpd reports it, in place of LOGIN
       --login-text <TEXT>  Login as a report prints it, in place of LOGIN
-      --day <DAY>          Day number, from 1970-01-01 on; else today
+      --day <DAY>          Date as 2026-11-30, number or yesterday; else today
       --ago <N>            That many days before today
       --force              Also on another day, or if it sent nothing lately
       --all                Also from each later day with a limit of its own
@@ -180,7 +180,7 @@ Options:
       --host <HOST>        Name under which it asks [default: admin]
       --login <LOGIN>      Login as smtpd reports it, in place of LOGIN
       --login-text <TEXT>  Login as a report prints it, in place of LOGIN
-      --day <DAY>          Day number, from 1970-01-01 on; else today
+      --day <DAY>          Date as 2026-11-30, number or yesterday; else today
       --ago <N>            That many days before today
       --cap <N>            Recipients more, each day; else the limit it had
   -h, --help               Print help
@@ -188,9 +188,12 @@ Options:
     ),
     (
         ["day", "--help"],
-        """Print today's day number by a server's settings
+        """Print a day's number and, on a terminal, its date
 
-Usage: mailquota day [OPTIONS]
+Usage: mailquota day [OPTIONS] [DAY]
+
+Arguments:
+  [DAY]  Date as 2026-11-30, number, or yesterday, today, tomorrow
 
 Options:
       --config <FILE>  Settings [default: /etc/mailquota/server.toml]
@@ -224,7 +227,7 @@ Arguments:
 Options:
       --server <ADDRESS>   Numeric address and port of a server; repeatable
       --config <FILE>      Settings of the server: its address and its days
-      --day <DAY>          Day number, from 1970-01-01 on; else today
+      --day <DAY>          Date as 2026-11-30, number or yesterday; else today
       --ago <N>            That many days before today
       --login <LOGIN>      Login as smtpd reports it, in place of LOGIN
       --login-text <TEXT>  Login as a report prints it, in place of LOGIN

@@ -39,6 +39,7 @@ from wire import (
     usage,
 )
 
+NO_DAY = "no day number, no date as 2026-11-30, and none of yesterday, today and tomorrow"
 MORE = "\n\nFor more information, try '--help'.\n"
 MOST_RUN = 281_474_976_710_655
 
@@ -54,6 +55,7 @@ def run(world, checks):
     words_of_a_server_and_an_audit(world, checks)
     words_of_questions(world, checks)
     words_without_a_name(world, checks)
+    days_as_people_write_them(world, checks)
     all_options_at_once(world, checks)
     words_of_replay(world, checks)
     tables_of_replay(world, checks)
@@ -140,7 +142,17 @@ def unreadable(name):
 
 SETTINGS = "/etc/mailquota"
 BAD_ADDRESS = bad_address("a", NO_PORT)
-BAD_LOGIN = (2, b"", "mailquota: bad login\n")
+TOO_LONG = "it has to have 1 to 255 bytes"
+TO_ESCAPE = "so spaces, backslashes and what isn't printable ASCII are written, or use --login"
+
+
+def bad_login(shown, why=TOO_LONG):
+    """What a command ends with whose words name no login."""
+    log = f"[ERROR mq_process::asking] login {shown}: {why}\n"
+    return 2, b"", f"{log}mailquota: bad login\n"
+
+
+BAD_LOGIN = bad_login("")
 ASKED = ["limit", "--server=a", "--host=h", "--login=u"]
 # the words before a number, its option, how its value is called, its least and greatest number, and
 # how the program ends by these
@@ -195,7 +207,7 @@ def ranges_of_numbers(world, checks):
             why = (
                 f"{given} is not in {least}..={most}"
                 if given >= 0
-                else "invalid digit found in string"
+                else NO_DAY if value == "DAY" else "invalid digit found in string"
             )
             refused = (
                 2,
@@ -281,7 +293,10 @@ def bad_words_of_the_administrator(world, checks):
         (report("mail:7025", long), "bad login"),
     ]:
         shown = " ".join(word if len(word) < 20 else f"({len(word)} bytes)" for word in words)
-        checks.equal(f"'{shown}'", world.run(*words), (2, b"", f"mailquota: {said}\n"))
+        wanted = (2, b"", f"mailquota: {said}\n")
+        if said == "bad login":
+            wanted = bad_login(words[words.index("--login") + 1])
+        checks.equal(f"'{shown}'", world.run(*words), wanted)
     for address, lacks in [
         ("nowhere", NO_PORT),
         ("", NO_PORT),
@@ -508,7 +523,7 @@ def words_without_a_name(world, checks):
             checks.equal(
                 f"{' '.join(words)}: a word that no report prints",
                 world.run(*words, *asked),
-                BAD_LOGIN,
+                bad_login(as_logged(words[1].encode()), TO_ESCAPE),
             )
 
 
@@ -519,6 +534,45 @@ REPLAYS = [
     (["--default", "0", "--west", "1439", "--sql"], 0, 1, 86_400 + 1_439 * 60),
     (["--east=90", "--default=1000000", "--west=30"], 1_000_000, 2, 2 * 86_400 - 60 * 60),
 ]
+
+
+def days_as_people_write_them(world, checks):
+    """A day by its date is that of its number, on any calendar; other spellings name none."""
+    for date, number_ in [
+        ("1970-01-01", 0),
+        ("1970-01-02", 1),
+        ("2000-02-29", 11_016),
+        ("2026-11-30", 20_787),
+        ("2100-03-01", 47_541),
+        ("3000-01-01", 376_200),
+    ]:
+        checks.equal(
+            f"day {date}",
+            (world.run("day", date), world.run("day", str(number_))),
+            ((0, f"{number_}\n".encode(), ""),) * 2,
+        )
+        with Script([page_reply([], day=number_)]) as script:
+            came = world.run("report", f"--day={date}", f"--server={script.address}")
+        checks.equal(
+            f"report --day {date}: what is asked", (came, script.heard), ((0, b"", ""), [page(day=number_)])
+        )
+    for text_ in ("2026-11-31", "2026-02-29", "2026-11-3", "26-11-30", "today ", "Today", ""):
+        checks.equal(
+            f"day '{text_}'",
+            world.run("day", text_),
+            (
+                2,
+                b"",
+                f"error: invalid value '{as_logged(text_.encode())}' for '[DAY]': {NO_DAY}{MORE}",
+            ),
+        )
+    for date, number_ in [("3000-01-02", 376_201), ("9999-12-30", 2_932_895)]:
+        checks.holds(
+            f"day {date}",
+            world.run("day", date)[0] == 2,
+            "status 2",
+            world.run("day", date),
+        )
 
 
 def all_options_at_once(world, checks):

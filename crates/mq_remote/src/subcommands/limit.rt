@@ -12,7 +12,7 @@ use log::{LevelFilter, Logged};
 use mq_command::{ServerErrors, run_fresh, run_limit};
 use mq_process::{
     Dial, LimitArguments, ProcessFault, TIMEOUT, WallClock, ask_each, checked, day_named,
-    end_process, first_id, found_server, link_to, login_of, run_number, servers_or, tell_note,
+    end_process, first_id, found_servers, link_to, login_of, run_number, servers_or, tell_note,
 };
 use mq_request::Request;
 use mq_request::bounds::LAST_DAY;
@@ -61,8 +61,8 @@ pub fn limit<R: Files + Clock + WallClock + Print + Eprint + AllocGlobal, D: Dia
 {
     let words = given.servers.as_slice();
     checked(rt, given.host, given.login, words)?;
-    let found = found_server(rt, words, given.config)?;
-    let chosen = servers_or(rt.alloc(), words, found.as_str())?;
+    let found = found_servers(rt, words, given.config)?;
+    let chosen = servers_or(rt.alloc(), words, found.as_slice())?;
     let servers = chosen.as_slice();
     let from_day = day_named(rt, given.from, given.config, LAST_DAY)?;
     tell_note(rt.alloc(), &login_of(rt.alloc(), given.login)?, errors)?;

@@ -8,7 +8,7 @@ ghost use Rattle.mq_remote.specs.Asked.{AsksAbout, AsksAt, AsksProbe};
 
 use mq_process::{
     Dial, ProbeArguments, ProcessFault, Question, ask_each, check_addresses, end_process,
-    found_server, probe, run_number, servers_or,
+    found_servers, probe, run_number, servers_or,
 };
 use mq_request::{Host, is_host};
 use std::alloc::{AllocError, Global};
@@ -57,8 +57,8 @@ pub fn probe_servers<R: Files + Clock + Print + Eprint + AllocGlobal, D: Dial, E
     }
     let words = given.servers.as_slice();
     check_addresses(rt, words)?;
-    let found = found_server(rt, words, None)?;
-    let chosen = servers_or(rt.alloc(), words, found.as_str())?;
+    let found = found_servers(rt, words, None)?;
+    let chosen = servers_or(rt.alloc(), words, found.as_slice())?;
     let servers = chosen.as_slice();
     let host = host_of(rt.alloc(), given.host)?;
     let question = question_of(rt, host.as_ref())?;

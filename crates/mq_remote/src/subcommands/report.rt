@@ -13,7 +13,8 @@ use mq_command::{Errors, ServerErrors, print_columns, run_report, run_top};
 use mq_link::Link;
 use mq_process::{
     Dial, LoginArgument, ProcessFault, ReportArguments, TIMEOUT, ask_each, check_addresses,
-    day_named, end_process, found_server, link_to, login_of, names_login, servers_or, tell_note,
+    day_named, end_process, found_servers, link_to, login_of, names_login, refused_login,
+    servers_or, tell_note,
 };
 use mq_request::Login;
 use mq_request::bounds::LAST_DAY;
@@ -51,6 +52,16 @@ fn reported_of(
     }
 }
 
+/// Logs why the words name no login, and gives the fault.
+fn no_login<R: Eprint>(rt: &R, given: Option<LoginArgument<'_>>) -> ProcessFault
+    ensures { result ≡ ProcessFault.Login }
+{
+    match given {
+        Some(login) => refused_login(rt, login),
+        None => ProcessFault::Login,
+    }
+}
+
 /// Says on `errors` what is to be noted of the one login that is reported.
 fn tell_note_of<E: Write>(
     alloc: Global,
@@ -78,12 +89,12 @@ pub fn report<R: Files + Clock + Print + Eprint + AllocGlobal, D: Dial, E: Write
         has_columns) }
 {
     if !given.login.is_none_or(|login| names_login(login)) {
-        return Err(ProcessFault::Login);
+        return Err(no_login(rt, given.login));
     }
     let words = given.servers.as_slice();
     check_addresses(rt, words)?;
-    let found = found_server(rt, words, given.config)?;
-    let chosen = servers_or(rt.alloc(), words, found.as_str())?;
+    let found = found_servers(rt, words, given.config)?;
+    let chosen = servers_or(rt.alloc(), words, found.as_slice())?;
     let servers = chosen.as_slice();
     let day = day_named(rt, given.day, given.config, LAST_DAY)?;
     let reported = reported_of(rt.alloc(), given.login, given.top)?;

@@ -14,7 +14,7 @@ use log::{LevelFilter, Logged};
 use mq_command::{SentLately, ServerErrors, Setter, StopOrder, run_restore, run_resume};
 use mq_process::{
     Dial, LoginArgument, ProcessFault, ResumeArguments, StopArguments, address_of, ask_each,
-    checked, day_named, day_to_stop, found_server, link_to, login_of, run_number, servers_or,
+    checked, day_named, day_to_stop, found_servers, link_to, login_of, run_number, servers_or,
     tell_note,
 };
 use mq_request::Host;
@@ -61,8 +61,8 @@ pub fn stop<R: Files + Clock + Print + Eprint + AllocGlobal, D: Dial, E: Write>(
 {
     let words = given.servers.as_slice();
     checked(rt, given.host, given.login, words)?;
-    let found = found_server(rt, words, given.config)?;
-    let chosen = servers_or(rt.alloc(), words, found.as_str())?;
+    let found = found_servers(rt, words, given.config)?;
+    let chosen = servers_or(rt.alloc(), words, found.as_slice())?;
     let servers = chosen.as_slice();
     let day = day_to_stop(rt, given.day, given.config, given.is_forced)?;
     let run = run_number(rt, None)?;
@@ -161,8 +161,8 @@ pub fn resume<R: Files + Clock + Print + Eprint + AllocGlobal, D: Dial, E: Write
 {
     let words = given.servers.as_slice();
     checked(rt, given.host, given.login, words)?;
-    let found = found_server(rt, words, given.config)?;
-    let chosen = servers_or(rt.alloc(), words, found.as_str())?;
+    let found = found_servers(rt, words, given.config)?;
+    let chosen = servers_or(rt.alloc(), words, found.as_slice())?;
     let servers = chosen.as_slice();
     let day = day_named(rt, given.day, given.config, LAST_DAY - 1)?;
     let run = run_number(rt, None)?;

@@ -1,4 +1,4 @@
-use Rattle.std.proofs.Common.{ap, map, rules}
+use Rattle.std.proofs.Common.{ap, map, rules, string_bytes}
 use Rattle.mq_remote.proofs.AskedSteps.{run_by, servers_asked, whom_of}
 use Rattle.mq_remote.proofs.RefusalSteps.{order_refused}
 use Rattle.mq_remote.proofs.subcommands.limit.limit.Goals as goal
@@ -10,7 +10,7 @@ returns-in_err-checked-clause-refuses g c =
 pub returns-clause-asks : goal.returns-clause-asks
 returns-clause-asks g c = record {
   servers = (map (λ s. s.now) c.as_slice-servers.result.now);
-  whom = whom_of _ _ _ _ _ _ _ _ c.as_slice-words.ensures c.as_str.ensures.value c.in_ok-found.ensures.found c.in_ok-chosen.ensures.servers (ap (map (λ s. s.now)) c.as_slice-servers.ensures.value);
+  whom = whom_of _ _ _ _ _ _ _ _ c.as_slice-words.ensures (ap (map string_bytes) c.as_slice.ensures.value) c.in_ok-found.ensures.found c.in_ok-chosen.ensures.servers (ap (map (λ s. s.now)) c.as_slice-servers.ensures.value);
   day = c.in_ok-from_day.from_day;
   from = c.in_ok-from_day.ensures.day;
   run = c.in_ok-run.run';

@@ -1,4 +1,4 @@
-use Rattle.std.proofs.Common.{Bor, List, None, ℕ, ap, map, rules, subst}
+use Rattle.std.proofs.Common.{Bor, List, None, ap, map, rules, string_bytes, subst, ℕ}
 use Rattle.mq_process.specs.Refusals.{HasNoAddress}
 use Rattle.mq_remote.specs.Asked.{AsksAbout}
 use Rattle.mq_remote.proofs.RefusalSteps.{probe_right}
@@ -8,7 +8,7 @@ use Rattle.mq_remote.proofs.subcommands.probe.probe_servers.Goals as goal
 pub returns-clause-asks : goal.returns-clause-asks
 returns-clause-asks g c = record {
   servers = (map (λ s. s.now) c.as_slice-servers.result.now);
-  whom = whom_of {X = Bor (List ℕ)} g.R.File.Read.remaining None _ _ _ _ _ _ c.as_slice-words.ensures c.as_str.ensures.value c.in_ok-found.ensures.found c.in_ok-chosen.ensures.servers (ap (map (λ s. s.now)) c.as_slice-servers.ensures.value);
+  whom = whom_of {X = Bor (List ℕ)} g.R.File.Read.remaining None _ _ _ _ _ _ c.as_slice-words.ensures (ap (map string_bytes) c.as_slice.ensures.value) c.in_ok-found.ensures.found c.in_ok-chosen.ensures.servers (ap (map (λ s. s.now)) c.as_slice-servers.ensures.value);
   question = c.in_ok-question.question;
   about = subst (λ h. AsksAbout h c.in_ok-question.question) (search rules) c.in_ok-question.ensures.about;
   asked = servers_asked _ _ (λ address said after k. let called = k.2 in search rules) c.ask_each.ensures.1;

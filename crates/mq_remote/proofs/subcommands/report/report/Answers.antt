@@ -1,4 +1,4 @@
-use Rattle.std.proofs.Common.{ap, map, rules, subst}
+use Rattle.std.proofs.Common.{ap, map, rules, string_bytes, subst}
 use Rattle.mq_process.specs.Refusals.{HasNoAddress}
 use Rattle.mq_remote.proofs.RefusalSteps.{report_right}
 use Rattle.mq_remote.proofs.AskedSteps.{servers_asked, whom_of}
@@ -7,7 +7,7 @@ use Rattle.mq_remote.proofs.subcommands.report.report.Goals as goal
 pub returns-clause-asks : goal.returns-clause-asks
 returns-clause-asks g c = record {
   servers = (map (λ s. s.now) c.as_slice-servers.result.now);
-  whom = whom_of _ _ _ _ _ _ _ _ c.as_slice-words.ensures c.as_str.ensures.value c.in_ok-found.ensures.found c.in_ok-chosen.ensures.servers (ap (map (λ s. s.now)) c.as_slice-servers.ensures.value);
+  whom = whom_of _ _ _ _ _ _ _ _ c.as_slice-words.ensures (ap (map string_bytes) c.as_slice.ensures.value) c.in_ok-found.ensures.found c.in_ok-chosen.ensures.servers (ap (map (λ s. s.now)) c.as_slice-servers.ensures.value);
   day = c.in_ok-day.day;
   on = c.in_ok-day.ensures.day;
   reported = c.in_ok-reported.reported;

@@ -1,4 +1,4 @@
-use Rattle.std.proofs.Common.{ap, map}
+use Rattle.std.proofs.Common.{ap, map, string_bytes}
 use Rattle.mq_remote.proofs.AskedSteps.{whom_of}
 use Rattle.mq_remote.proofs.RefusalSteps.{order_refused}
 use Rattle.mq_remote.proofs.subcommands.stop.resume.Goals as goal
@@ -10,7 +10,7 @@ returns-in_err-checked-clause-refuses g c =
 pub returns-clause-asks : goal.returns-clause-asks
 returns-clause-asks g c = record {
   servers = (map (λ s. s.now) c.as_slice-servers.result.now);
-  whom = whom_of _ _ _ _ _ _ _ _ c.as_slice-words.ensures c.as_str.ensures.value c.in_ok-found.ensures.found c.in_ok-chosen.ensures.servers (ap (map (λ s. s.now)) c.as_slice-servers.ensures.value);
+  whom = whom_of _ _ _ _ _ _ _ _ c.as_slice-words.ensures (ap (map string_bytes) c.as_slice.ensures.value) c.in_ok-found.ensures.found c.in_ok-chosen.ensures.servers (ap (map (λ s. s.now)) c.as_slice-servers.ensures.value);
   setter = c.in_ok-setter.setter;
   is_setter = c.in_ok-setter.ensures.setter;
   day = c.in_ok-day.day;
