@@ -72,6 +72,7 @@ INSTALLED = {
     "share/doc/mailquota/examples/nftables-mailhost.conf": 0o644,
     "share/doc/mailquota/examples/nftables.conf": 0o644,
     "share/doc/mailquota/examples/permits.toml": 0o644,
+    "share/doc/mailquota/examples/servers.toml": 0o644,
     "share/doc/mailquota/examples/server.toml": 0o644,
     "share/doc/mailquota/examples/smtpd-restart.conf": 0o644,
     "share/doc/mailquota/examples/smtpd.conf": 0o644,

@@ -83,19 +83,21 @@ def the_rule_of_a_zone_file(world, checks):
 
 
 def the_date_of_a_day(world, checks):
-    """The command of mailquota-limit(8) that shows the date of a day's number at offset 0."""
-    [command] = [
-        it.removeprefix(".Ql ")
-        for it in lines_of_manual("mailquota-limit.8", "DESCRIPTION")
-        if it.startswith(".Ql date ")
-    ]
-    number = int(re.search(r"\(\((\d+)", command)[1])
-    date = datetime.date(1970, 1, 1) + datetime.timedelta(number)
-    came = Machine(world, "dated").run(["export LC_ALL=C TZ=UTC-14", command])
-    shown = f"{date:%a %b} {date.day:2} 00:00:00 UTC {date.year}\n"
-    checks.equal("mailquota-limit(8): the date of a day's number", came, (0, shown, ""))
+    """The day of the date that mailquota-limit(8) writes, by name, and at its first and last
+    second."""
+    [written] = {
+        it
+        for line in lines_of_manual("mailquota-limit.8", "DESCRIPTION")
+        for it in re.findall(r"date as (\d{4}-\d\d-\d\d)", line)
+    }
+    number = (datetime.date.fromisoformat(written) - datetime.date(1970, 1, 1)).days
     its = {"listen": "127.0.0.1:1", "store": "memory", "default": 3, "offset": 0}
     file = world.new_file(toml(its))
+    checks.equal(
+        "mailquota-limit(8): the number of a date's day",
+        world.run("day", "--config", file, written),
+        (0, f"{number}\n".encode(), ""),
+    )
     checks.equal(
         "the number of that day, at its first second and its last one",
         [

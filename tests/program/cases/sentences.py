@@ -30,7 +30,6 @@ OTHERS = {
     "rmdir /var/lib/mailquota",
     "rt version",
     "smtpctl update table credentials",
-    "systemctl daemon-reload",
     "systemctl edit mailquota",
     "systemctl enable --now nftables",
     "systemctl enable nftables",
