@@ -291,6 +291,17 @@ NO_PORT, PORT_TOO_LARGE = "no port", "port above 65535"
 NO_NUMERIC_ADDRESS = "no numeric address before the port; an IPv6 address stands in brackets"
 
 
+# Why words name no login: by its length, and as a report prints it.
+TOO_LONG = "it has to have 1 to 255 bytes"
+TO_ESCAPE = "so spaces, backslashes and what isn't printable ASCII are written, or use --login"
+
+
+def bad_login(given, why=TOO_LONG):
+    """What a command of the administrator ends with where it is given this login."""
+    log = f"[ERROR mq_process::asking] login {given}: {why}\n"
+    return 2, b"", f"{log}mailquota: bad login\n"
+
+
 def bad_address(address, lacks):
     """What a command of the administrator ends with where it is given this address."""
     return (

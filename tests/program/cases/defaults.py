@@ -8,7 +8,6 @@ from concurrent.futures import ThreadPoolExecutor
 import clocks
 from cases.rules import CENTRAL_EUROPE
 from cases.stopping import LAST_DAY, caps, not_today, nothing_sent
-from cases.words import bad_login
 from ends import (
     NOT_ALLOWED,
     NO_FILE,
@@ -16,6 +15,7 @@ from ends import (
     Script,
     Server,
     as_user,
+    bad_login,
     fault,
     ledger_settings,
     loopback_of_6,
@@ -695,7 +695,11 @@ def before_a_list(world, checks):
         config = world.new_file(server_settings(second.address))
         words = ["report", "u", "--day", "1"]
         for what, more, cap in [
-            ("by words, settings that they name, and a list", ["--server", first.address, "--config", config], 1),
+            (
+                "by words, settings that they name, and a list",
+                ["--server", first.address, "--config", config],
+                1,
+            ),
             ("by settings that the words name, and a list", ["--config", config], 2),
             ("by a list, and settings in their places", [], 3),
         ]:
@@ -738,9 +742,7 @@ def retires_at_each(world, checks):
         run = {"host": b"mx8", "run": clock() - 1}
         checks.equal(
             "retire of a host at a server of the words, beside a list",
-            with_settings(
-                world, "retire", "--host", "mx8", "--server", second.address, **found
-            ),
+            with_settings(world, "retire", "--host", "mx8", "--server", second.address, **found),
             (0, b"retired\n", ""),
         )
         checks.equal(
@@ -802,7 +804,10 @@ def wrong_lists(world, checks):
     """A list that can't be used keeps each command from asking anybody, also whom settings in their
     places name."""
     with Script([]) as server:
-        found = {"server": server_settings(server.address), "filter_": filter_settings(server.address)}
+        found = {
+            "server": server_settings(server.address),
+            "filter_": filter_settings(server.address),
+        }
         for text, why in WRONG_LISTS:
             came = with_settings(world, "report", "--day", "1", servers=text, **found)
             if why is None:

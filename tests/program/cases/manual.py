@@ -174,5 +174,9 @@ def places(checks):
     checks.equal(
         "mailquota(8): its other files",
         [it for it in listed if it not in own],
-        [*settings, "/etc/mailquota/mail-to", ledger, f"{ledger}-wal", f"{ledger}.old"],
+        [
+            *settings,
+            *("/etc/mailquota/servers.toml", "/etc/mailquota/mail-to"),
+            *(ledger, f"{ledger}-wal", f"{ledger}.old"),
+        ],
     )

@@ -12,10 +12,13 @@ from ends import (
     NO_NUMERIC_ADDRESS,
     NO_PORT,
     SECONDS,
+    TO_ESCAPE,
+    TOO_LONG,
     Relay,
     Script,
     Server,
     bad_address,
+    bad_login,
     fault,
     ledger_settings,
     of_settings,
@@ -829,14 +832,14 @@ def login_texts(world, checks):
 def bad_words(world, checks):
     """A bad host, login or address, in this order, before anything is sent; and texts that are no
     printed login."""
-    bad = lambda name: (2, b"", f"mailquota: bad {name}\n")
+    bad_host = (2, b"", "mailquota: bad host\n")
     for name, more in [("stop", []), ("resume", ["--cap", "1"])]:
         for server, host, login, wanted in [
-            ("nowhere", "a_b", "", bad("host")),
-            ("127.0.0.1:1", "", "u", bad("host")),
-            ("127.0.0.1:1", "a" * 65, "u", bad("host")),
-            ("nowhere", "a", "", bad("login")),
-            ("127.0.0.1:1", "a", "u" * 256, bad("login")),
+            ("nowhere", "a_b", "", bad_host),
+            ("127.0.0.1:1", "", "u", bad_host),
+            ("127.0.0.1:1", "a" * 65, "u", bad_host),
+            ("nowhere", "a", "", bad_login("")),
+            ("127.0.0.1:1", "a", "u" * 256, bad_login("u" * 256)),
             ("nowhere", "a", "u", bad_address("nowhere", NO_PORT)),
             ("127.0.0.1", "a", "u", bad_address("127.0.0.1", NO_PORT)),
             (
@@ -846,11 +849,11 @@ def bad_words(world, checks):
                 bad_address("localhost:7025", NO_NUMERIC_ADDRESS),
             ),
         ]:
-            shown = (
+            called = (
                 f"{name} --server {server} --host ({len(host)} bytes) --login ({len(login)} bytes)"
             )
             checks.equal(
-                shown, world.run(name, *words_of(server, login, 1, host=host), *more), wanted
+                called, world.run(name, *words_of(server, login, 1, host=host), *more), wanted
             )
     texts = [
         "",
@@ -871,7 +874,9 @@ def bad_words(world, checks):
         "a" * 256,
     ]
     for given in texts:
-        shown = given if len(given) < 20 else f"({len(given)} bytes)"
+        called = given if len(given) < 20 else f"({len(given)} bytes)"
+        why = TO_ESCAPE if 0 < len(given.encode()) < 256 else TOO_LONG
+        wanted = bad_login(shown(given.encode()), why)
         for name, more in [
             ("stop", ["--day", "1"]),
             ("resume", ["--day", "1", "--cap", "1"]),
@@ -880,9 +885,9 @@ def bad_words(world, checks):
             came = world.run(
                 name, "--server", "127.0.0.1:1", "--host", "a", f"--login-text={given}", *more
             )
-            checks.equal(f"{name} --login-text={shown}", came, bad("login"))
+            checks.equal(f"{name} --login-text={called}", came, wanted)
         came = world.run("report", "--server", "127.0.0.1:1", "--day", "1", f"--login-text={given}")
-        checks.equal(f"report --login-text={shown}", came, bad("login"))
+        checks.equal(f"report --login-text={called}", came, wanted)
 
 
 def today_alone(world, checks):

@@ -12,9 +12,11 @@ from ends import (
     NO_NUMERIC_ADDRESS,
     NO_PORT,
     PORT_TOO_LARGE,
+    TO_ESCAPE,
     Script,
     Server,
     bad_address,
+    bad_login,
     begun,
     fault,
     loopback_of_6,
@@ -142,16 +144,6 @@ def unreadable(name):
 
 SETTINGS = "/etc/mailquota"
 BAD_ADDRESS = bad_address("a", NO_PORT)
-TOO_LONG = "it has to have 1 to 255 bytes"
-TO_ESCAPE = "so spaces, backslashes and what isn't printable ASCII are written, or use --login"
-
-
-def bad_login(shown, why=TOO_LONG):
-    """What a command ends with whose words name no login."""
-    log = f"[ERROR mq_process::asking] login {shown}: {why}\n"
-    return 2, b"", f"{log}mailquota: bad login\n"
-
-
 BAD_LOGIN = bad_login("")
 ASKED = ["limit", "--server=a", "--host=h", "--login=u"]
 # the words before a number, its option, how its value is called, its least and greatest number, and
@@ -207,7 +199,9 @@ def ranges_of_numbers(world, checks):
             why = (
                 f"{given} is not in {least}..={most}"
                 if given >= 0
-                else NO_DAY if value == "DAY" else "invalid digit found in string"
+                else NO_DAY
+                if value == "DAY"
+                else "invalid digit found in string"
             )
             refused = (
                 2,
@@ -554,7 +548,9 @@ def days_as_people_write_them(world, checks):
         with Script([page_reply([], day=number_)]) as script:
             came = world.run("report", f"--day={date}", f"--server={script.address}")
         checks.equal(
-            f"report --day {date}: what is asked", (came, script.heard), ((0, b"", ""), [page(day=number_)])
+            f"report --day {date}: what is asked",
+            (came, script.heard),
+            ((0, b"", ""), [page(day=number_)]),
         )
     for text_ in ("2026-11-31", "2026-02-29", "2026-11-3", "26-11-30", "today ", "Today", ""):
         checks.equal(
