@@ -1,5 +1,5 @@
 -- What the servers of a command were asked.
-use Rattle.std.proofs.Common.{◌≡◌, ◌==◌, ℕ, List, Bool, true, false, [], ◌∷◌, length, map, Option, None, Some, Result, Ok, Err, is_some, ap, inl, inr, refl, sym, ◌∙◌, subst}
+use Rattle.std.proofs.Common.{◌≡◌, ◌==◌, ℕ, List, Bool, [], ◌∷◌, length, map, Option, None, Some, Result, Ok, Err, is_some, ap, inl, inr, refl, sym, ◌∙◌, subst}
 use Rattle.std.specs.Prelude.{IfSome, IfOk, IfErr, MatchOption, MatchResult}
 use Rattle.std.proofs.lemmas.List.{length-map}
 use Rattle.std.specs.Borrow.{Bor}

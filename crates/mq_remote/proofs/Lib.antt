@@ -1,3 +1,4 @@
 pub mod AskedSteps
 pub mod RefusalSteps
 pub mod StopSteps
+pub mod TotalSteps

@@ -6,7 +6,7 @@ use Rattle.std.specs.Borrow.{Bor}
 use Rattle.std.specs.Net.Text.{socket_text}
 use Rattle.std.specs.declared.net.SocketAddr.{SocketAddr}
 use Rattle.std.specs.declared.time.SystemTime.{SystemTime}
-use Rattle.mq_request.specs.Range.{IsLogin, IsRun}
+use Rattle.mq_request.specs.Range.{IsRun}
 use Rattle.mq_request.specs.declared.message.Request.{Request}
 use Rattle.mq_request.specs.declared.message.Request.TheVariants as asks
 use Rattle.mq_link.specs.declared.link.ReportedExchange.{ReportedExchange}
@@ -25,8 +25,13 @@ use Rattle.mq_command.specs.Stopping.{GivesMore, Restores, restored_lines}
 use Rattle.mq_command.specs.Top.{ReportsTop, columns_line}
 use Rattle.mq_command.specs.declared.allow.Setter.{Setter}
 use Rattle.mq_command.specs.declared.order.OrderFault.{OrderFault}
+use Rattle.mq_command.specs.declared.form.Form.{Form}
+use Rattle.mq_command.specs.declared.form.Form.TheVariants.{Plain, Shown}
 use Rattle.mq_command.specs.declared.report.ReportFault.{ReportFault}
 use Rattle.mq_command.specs.declared.stop.StopOrder.{StopOrder}
+use Rattle.mq_command.specs.declared.totals.ReportOrder.{ReportOrder}
+use Rattle.mq_command.specs.declared.totals.ReportedLogins.{ReportedLogins}
+use Rattle.mq_command.specs.declared.totals.ReportedLogins.TheVariants.{One, Top, All}
 use Rattle.mq_process.specs.Clocks.{IsRunAt}
 use Rattle.mq_process.specs.Links.{AsksOver}
 use Rattle.mq_process.specs.Questions.{Puts}
@@ -39,8 +44,7 @@ use Rattle.mq_process.specs.declared.probing.Question.{Question}
 use Rattle.mq_process.specs.declared.probing.Question.TheVariants.{Status, Host}
 use Rattle.mq_remote.specs.Servers.{AsksAll}
 use Rattle.mq_remote.specs.Stops.{AsksUse, StopsAll, UseAt}
-use Rattle.mq_remote.specs.declared.subcommands.report.ReportedLogins.{ReportedLogins}
-use Rattle.mq_remote.specs.declared.subcommands.report.ReportedLogins.TheVariants.{One, Top, All}
+use Rattle.mq_remote.specs.Totals.{AsksTogether}
 use Rattle.mq_remote.specs.declared.subcommands.retire.Target.{Target}
 use Rattle.mq_settings.specs.declared.settings.FilterSettings.{FilterSettings}
 
@@ -208,11 +212,6 @@ NamesReported None (Some count) (Top number) = number ≡ count
 NamesReported None None All = ⊤
 NamesReported _ _ _ = ⊥
 
--- a login that is reported alone is in range
-abbrev pub IsReported : ReportedLogins → Type 0
-IsReported (One login) = IsLogin login
-IsReported _ = ⊤
-
 -- how what was asked of these logins and the day is printed
 abbrev pub ReportsOf : ℕ → ReportedLogins → Option (List ReportedExchange) → Option (List ReportedExchange) → Option (List ℕ) → Option (List ℕ)
     → Result (Unit {0}) ReportFault → Type 0
@@ -232,7 +231,19 @@ ReportsThere day reported true status old new output output' =
     ((headed : Option (List ℕ)) × PrintsLine columns_line output headed 0 × ReportsRows day reported status old new headed output')
     ⊎ ((status ≡ 1) × PrintsLine columns_line output output' 1 × (new ≡ old))
 
--- what `report` asks: of each server the same
+-- the form of sums, by whether there is a line of columns
+abbrev pub form_of : Bool → Form
+form_of true = Shown
+form_of false = Plain
+
+-- how servers are reported: the sums of several that settings name, where the words name none, and else what each has
+abbrev pub ReportsBy : {L : Type 0} → (L → SocketAddr → ℕ → Type 0) → (L → Option (List ReportedExchange)) → ReportOrder → Bool → List (List ℕ)
+    → List (List ℕ) → ℕ → Type 0
+ReportsBy leads told order columns [] (server ∷ next ∷ others) status = AsksTogether leads told order (server ∷ next ∷ others) status
+ReportsBy leads told order columns words servers status =
+    AsksEachOf leads told (ReportsThere order.day order.logins columns) servers status
+
+-- what `report` asks: of each server the same, whether for itself or for the sums
 pub record AsksReport {L F : Type 0} (leads : L → SocketAddr → ℕ → Type 0) (told : L → Option (List ReportedExchange))
     (remaining : F → Option (List ℕ)) (given : ReportArguments) (columns : Bool) (status : ℕ) : Type 0 where
   pub servers : List (List ℕ)
@@ -241,4 +252,4 @@ pub record AsksReport {L F : Type 0} (leads : L → SocketAddr → ℕ → Type 
   pub on : NamesDay remaining given.day day
   pub reported : ReportedLogins
   pub named : NamesReported given.login given.top reported
-  pub asked : AsksEachOf leads told (ReportsThere day reported columns) servers status
+  pub asked : ReportsBy leads told (record { day = day; logins = reported; form = form_of columns }) columns given.servers servers status

@@ -2,3 +2,4 @@ pub mod Asked
 pub mod Filters
 pub mod Servers
 pub mod Stops
+pub mod Totals

@@ -1,39 +1,34 @@
 //! `report`: prints what logins used on a day.
-ghost use Rattle.std.specs.Prelude.{◌≡◌, Err, IfErr, IfOk, IfSome};
+ghost use Rattle.std.specs.Prelude.{◌≡◌, ◌≤◌, [], Err, IfErr, IfOk, IfSome, MatchBool, length, map};
+ghost use Rattle.std.specs.Net.Grammar.{IsSocketText};
 ghost use Rattle.mq_request.specs.Range.{IsDay, IsLogin, IsWithin};
+ghost use Rattle.mq_command.specs.Totals.{IsMeant};
 ghost use Rattle.mq_process.specs.Arguments.{IsReportArguments};
 ghost use Rattle.mq_process.specs.Links.{AsksOver};
-ghost use Rattle.mq_process.specs.Refusals.{NamesLogin, ReportRefuses};
-ghost use Rattle.mq_remote.specs.Asked.{AsksAt, AsksReport, IsReported, NamesReported, ReportsRows};
-ghost use Rattle.mq_remote.specs.Asked.{ReportsThere};
+ghost use Rattle.mq_process.specs.Refusals.{HasNoAddress, NamesLogin, ReportRefuses};
+ghost use Rattle.mq_process.specs.declared.asking.TheConstants.{TIMEOUT};
+ghost use Rattle.mq_remote.specs.Asked.{AsksAt, AsksReport, NamesReported, ReportsBy, ReportsRows};
+ghost use Rattle.mq_remote.specs.Asked.{ReportsThere, form_of};
+ghost use Rattle.mq_remote.specs.Totals.{AreSummed, AsksTogether, InStep};
 
 use log::sink::Console;
-use log::{LevelFilter, Logged};
-use mq_command::{Errors, ServerErrors, print_columns, run_report, run_top};
-use mq_link::Link;
-use mq_process::{
-    Dial, LoginArgument, ProcessFault, ReportArguments, TIMEOUT, ask_each, check_addresses,
-    day_named, end_process, found_servers, link_to, login_of, names_login, refused_login,
-    servers_or, tell_note,
+use log::{LevelFilter, Log, Logged};
+use mq_command::{
+    Errors, Form, ReportOrder, ReportedLogins, ServerErrors, print_columns, run_report, run_top,
+    run_totals,
 };
-use mq_request::Login;
+use mq_link::{Link, LoggedLink};
+use mq_process::{
+    Dial, LoginArgument, ProcessFault, ReportArguments, TIMEOUT, address_of, ask_each,
+    check_addresses, day_named, end_process, found_servers, link_to, login_of, names_login,
+    refused_login, servers_or, tell_note,
+};
 use mq_request::bounds::LAST_DAY;
-use std::alloc::Global;
+use std::alloc::{AllocError, Global};
 use std::io;
 use std::io::{BufWriter, Write};
 use std::net::SocketAddr;
 use std::rt::{Clock, Files};
-
-/// Which logins are reported.
-#[derive(Drop)]
-pub enum ReportedLogins {
-    /// This one.
-    One(Login),
-    /// So many of those that used most, 1 to 1,000,000.
-    Top(u32),
-    /// All.
-    All,
-}
 
 /// The logins that the words name.
 fn reported_of(
@@ -43,11 +38,11 @@ fn reported_of(
 ) -> Result<ReportedLogins, ProcessFault>
     requires { IfSome given NamesLogin }
     ensures named { IfOk result (NamesReported given.entry top) }
-    ensures in_range { IfOk result IsReported }
+    ensures in_range { IfOk result IsMeant }
 {
     match (given, top) {
         (Some(login), _) => Ok(ReportedLogins::One(login_of(alloc, login)?)),
-        (None, Some(count)) => Ok(ReportedLogins::Top(count)),
+        (None, Some(count)) => Ok(ReportedLogins::Top(count as usize)),
         (None, None) => Ok(ReportedLogins::All),
     }
 }
@@ -74,8 +69,20 @@ fn tell_note_of<E: Write>(
     }
 }
 
+/// In which form sums are printed, by whether a line above says what the columns are.
+fn form_of(has_columns: bool) -> Form
+    ensures { result ≡ form_of has_columns }
+{
+    if has_columns {
+        Form::Shown
+    } else {
+        Form::Plain
+    }
+}
+
 /// `report`: prints what one login, or all, or those that used most, used on a day. With
-/// `has_columns` a line above says what the columns are.
+/// `has_columns` a line above says what the columns are. Of several servers that settings name it
+/// prints the sums, in one table.
 pub fn report<R: Files + Clock + Print + Eprint + AllocGlobal, D: Dial, E: Write>(
     rt: &R,
     dial: &D,
@@ -97,13 +104,126 @@ pub fn report<R: Files + Clock + Print + Eprint + AllocGlobal, D: Dial, E: Write
     let chosen = servers_or(rt.alloc(), words, found.as_slice())?;
     let servers = chosen.as_slice();
     let day = day_named(rt, given.day, given.config, LAST_DAY)?;
-    let reported = reported_of(rt.alloc(), given.login, given.top)?;
-    tell_note_of(rt.alloc(), &reported, errors)?;
+    let logins = reported_of(rt.alloc(), given.login, given.top)?;
+    tell_note_of(rt.alloc(), &logins, errors)?;
+    let form = form_of(has_columns);
+    let order = ReportOrder { day, logins, form };
+    report_by(rt, dial, words, servers, &order, has_columns, errors)
+}
+
+/// Whether the sums of servers are reported: of several, where the words name none.
+fn are_summed(words: &[&str], servers: &[&str]) -> bool
+    ensures { MatchBool result (AreSummed (map (λ s. s.now) words.now) (map (λ s. s.now) servers.now))
+        (¬ AreSummed (map (λ s. s.now) words.now) (map (λ s. s.now) servers.now)) }
+{
+    words.is_empty() && servers.len() > 1
+}
+
+/// Asks these servers what logins used on a day, and prints it: the sums of it, or what each has.
+fn report_by<R: Print + Eprint + AllocGlobal, D: Dial, E: Write>(
+    rt: &R,
+    dial: &D,
+    words: &[&str],
+    servers: &[&str],
+    order: &ReportOrder,
+    has_columns: bool,
+    errors: &mut E,
+) -> Result<u8, ProcessFault>
+    requires servers { ¬ HasNoAddress (map (λ s. s.now) servers.now) }
+    requires few { map (λ s. s.now) words.now ≡ [] → length (map (λ s. s.now) servers.now) ≤ 4000 }
+    requires day { IsDay order.now.day }
+    requires logins { IsMeant order.now.logins }
+    ensures { IfOk result (ReportsBy D.leads D.Link.told order.now has_columns
+        (map (λ s. s.now) words.now) (map (λ s. s.now) servers.now)) }
+{
+    if are_summed(words, servers) {
+        return report_together(rt, dial, servers, order, errors);
+    }
+    let (day, reported) = (order.day, &order.logins);
     Ok(ask_each(
         rt,
         servers,
         errors,
-        |address, errors| report_at(rt, dial, address, day, &reported, has_columns, errors),
+        |address, errors| report_at(rt, dial, address, day, reported, has_columns, errors),
+    ))
+}
+
+/// The addresses that these texts spell.
+fn addresses_of<R: Eprint + AllocGlobal>(
+    rt: &R,
+    servers: &[&str],
+) -> Result<Vec<SocketAddr>, ProcessFault>
+    ensures { IfOk result (λ addresses. InStep IsSocketText (map (λ s. s.now) servers.now)
+        addresses.items) }
+{
+    let mut addresses = Vec::new(rt.alloc());
+    for server in servers {
+        addresses.push(address_of(rt, server)?)?;
+    }
+    Ok(addresses)
+}
+
+/// A link to the server at each of these addresses, with one log of their troubles.
+fn links_to<'a, D: Dial, G: Log>(
+    alloc: Global,
+    dial: &D,
+    addresses: &[SocketAddr],
+    log: &'a G,
+) -> Result<Vec<LoggedLink<'a, D::Link, G>>, AllocError>
+    ensures { IfOk result (λ links. InStep (λ address link. D.leads link address TIMEOUT)
+        addresses.now links.items) }
+{
+    let mut links = Vec::new(alloc);
+    for address in addresses {
+        links.push(link_to(dial, *address, log))?;
+    }
+    Ok(links)
+}
+
+/// Asks all these servers what logins used on a day, and prints the sums of it as one table. It
+/// fails before it asks the first.
+fn report_together<R: Print + Eprint + AllocGlobal, D: Dial, E: Write>(
+    rt: &R,
+    dial: &D,
+    servers: &[&str],
+    order: &ReportOrder,
+    errors: &mut E,
+) -> Result<u8, ProcessFault>
+    requires few { length (map (λ s. s.now) servers.now) ≤ 4000 }
+    requires day { IsDay order.now.day }
+    requires logins { IsMeant order.now.logins }
+    ensures { IfOk result (AsksTogether D.leads D.Link.told order.now (map (λ s. s.now) servers.now)) }
+{
+    let mut output = BufWriter::new(rt.alloc(), io::writer(rt)).map_err(|_| ProcessFault::Memory)?;
+    report_sums(rt, dial, servers, order, &mut output, errors)
+}
+
+/// The same, with where it is printed.
+fn report_sums<R: Eprint + AllocGlobal, D: Dial, W: Write, E: Write>(
+    rt: &R,
+    dial: &D,
+    servers: &[&str],
+    order: &ReportOrder,
+    output: &mut W,
+    errors: &mut E,
+) -> Result<u8, ProcessFault>
+    requires few { length (map (λ s. s.now) servers.now) ≤ 4000 }
+    requires day { IsDay order.now.day }
+    requires logins { IsMeant order.now.logins }
+    ensures { IfOk result (AsksTogether D.leads D.Link.told order.now (map (λ s. s.now) servers.now)) }
+{
+    let spelled = addresses_of(rt, servers)?;
+    let addresses = spelled.as_slice();
+    let logged = Logged::new(rt, LevelFilter::Error, Console(rt));
+    let mut links = links_to(rt.alloc(), dial, addresses, &logged)?;
+    Ok(run_totals(
+        rt.alloc(),
+        links.as_mut_slice(),
+        addresses,
+        order,
+        "",
+        output,
+        errors,
     ))
 }
 
@@ -119,7 +239,7 @@ fn report_at<R: Print + Eprint + AllocGlobal, D: Dial, E: Write>(
     errors: &mut E,
 ) -> u8
     requires day { IsDay day }
-    requires reported { IsReported reported.now }
+    requires reported { IsMeant reported.now }
     ensures { AsksAt D.leads D.Link.told (ReportsThere day reported.now has_columns) address result }
 {
     end_process(
@@ -139,7 +259,7 @@ fn ask_report<R: Print + Eprint + AllocGlobal, D: Dial, E: Write>(
     errors: &mut E,
 ) -> Result<u8, ProcessFault>
     requires day { IsDay day }
-    requires reported { IsReported reported.now }
+    requires reported { IsMeant reported.now }
     ensures asks { IfOk result (λ status. AsksOver D.leads D.Link.told address TIMEOUT
         (ReportsThere day reported.now has_columns status)) }
     ensures memory { IfErr result (λ fault. fault ≡ ProcessFault.Memory) }
@@ -170,7 +290,7 @@ fn report_over<L: Link, W: Write, E: Errors>(
     errors: &mut E,
 ) -> u8
     requires day { IsDay day }
-    requires reported { IsReported reported.now }
+    requires reported { IsMeant reported.now }
     ensures { ReportsThere day reported.now has_columns result (L.told link.old) (L.told link.new)
         (W.contents output.old)
         (W.contents output.new) }
@@ -194,14 +314,14 @@ fn report_rows<L: Link, W: Write, E: Errors>(
     errors: &mut E,
 ) -> u8
     requires day { IsDay day }
-    requires reported { IsReported reported.now }
+    requires reported { IsMeant reported.now }
     ensures { ReportsRows day reported.now result (L.told link.old) (L.told link.new)
         (W.contents output.old)
         (W.contents output.new) }
 {
     match reported {
         ReportedLogins::One(login) => run_report(alloc, link, day, Some(login), output, errors),
-        ReportedLogins::Top(count) => run_top(alloc, link, day, *count as usize, output, errors),
+        ReportedLogins::Top(count) => run_top(alloc, link, day, *count, output, errors),
         ReportedLogins::All => run_report(alloc, link, day, None, output, errors),
     }
 }
