@@ -69,15 +69,11 @@ fn tell_note_of<E: Write>(
     }
 }
 
-/// In which form sums are printed, by whether a line above says what the columns are.
-fn form_of(has_columns: bool) -> Form
-    ensures { result ≡ form_of has_columns }
+/// In which form sums are printed: below a line that says what the columns are, or without one.
+fn form_of(is_headed: bool) -> Form
+    ensures { result ≡ form_of is_headed }
 {
-    if has_columns {
-        Form::Shown
-    } else {
-        Form::Plain
-    }
+    if is_headed { Form::Shown } else { Form::Plain }
 }
 
 /// `report`: prints what one login, or all, or those that used most, used on a day. With
@@ -198,7 +194,7 @@ fn report_together<R: Print + Eprint + AllocGlobal, D: Dial, E: Write>(
     report_sums(rt, dial, servers, order, &mut output, errors)
 }
 
-/// The same, with where it is printed.
+/// Asks all these servers what logins used on a day, and prints the sums of it on `output`.
 fn report_sums<R: Eprint + AllocGlobal, D: Dial, W: Write, E: Write>(
     rt: &R,
     dial: &D,
