@@ -7,3 +7,4 @@ pub mod report;
 pub mod retire;
 pub mod stop;
 mod stopping;
+mod sums;

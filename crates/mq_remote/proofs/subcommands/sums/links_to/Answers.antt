@@ -1,7 +1,7 @@
 use Rattle.std.proofs.lemmas.List.{take_more}
 use Rattle.mq_process.specs.declared.asking.TheConstants.{TIMEOUT}
 use Rattle.mq_remote.proofs.TotalSteps.{in_step_push}
-use Rattle.mq_remote.proofs.subcommands.report.links_to.Goals as goal
+use Rattle.mq_remote.proofs.subcommands.sums.links_to.Goals as goal
 
 pub loop-address-preserved : goal.loop-address-preserved
 loop-address-preserved g c =

@@ -1,7 +1,7 @@
 use Rattle.std.proofs.Common.{ap, arith, length, map, sym, ◌∙◌, ◌≡◌}
 use Rattle.mq_process.specs.declared.asking.TheConstants.{TIMEOUT}
 use Rattle.mq_remote.proofs.TotalSteps.{in_step_length, in_step_same}
-use Rattle.mq_remote.proofs.subcommands.report.report_sums.Goals as goal
+use Rattle.mq_remote.proofs.subcommands.sums.report_sums.Goals as goal
 
 pub run_totals-requires-clause-servers : goal.run_totals-requires-clause-servers
 run_totals-requires-clause-servers g c = in_step_length _ _ _ c.in_ok-links.ensures ∙ sym (ap length c.as_mut_slice.ensures.value)

@@ -2,7 +2,7 @@ use Rattle.std.proofs.Common.{[], ap, map, take, ◌++◌, ◌+◌, ◌∙◌, �
 use Rattle.std.proofs.lemmas.List.{map-append, take_more}
 use Rattle.std.specs.Net.Grammar.{IsSocketText}
 use Rattle.mq_remote.proofs.TotalSteps.{in_step_push}
-use Rattle.mq_remote.proofs.subcommands.report.addresses_of.Goals as goal
+use Rattle.mq_remote.proofs.subcommands.sums.addresses_of.Goals as goal
 
 pub loop-server-preserved : goal.loop-server-preserved
 loop-server-preserved g c =
