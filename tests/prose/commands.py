@@ -44,8 +44,6 @@ RUN = {
     "black .": Run(),
     "python3 gate/run.py must-fail NAME": Run(words=f"python3 gate/run.py must-fail {CRATE}"),
     "python3 gate/run.py gate NAME": Run(words=f"python3 gate/run.py gate {CRATE}"),
-    "gate/run.py must-fail NAME": Run(words=f"gate/run.py must-fail {CRATE}"),
-    "gate/run.py gate NAME": Run(words=f"gate/run.py gate {CRATE}"),
     "python3 -m unittest discover gate '*_test.py'": Run(),
     "make test ONLY=nights": Run(),
     "rt check --only PATH": Run(f"crates/{CRATE}", "rt check --only sink"),
