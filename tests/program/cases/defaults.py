@@ -24,7 +24,7 @@ from ends import (
     wait_past_midnight,
 )
 from smtpd import clock
-from wire import granted, limit, old, reserve
+from wire import granted, limit, old, reserve, settle
 
 # what a command finds in /etc: the settings of a folder, and nothing else
 APART = (
@@ -73,6 +73,7 @@ def run(world, checks):
     words_that_say_all(world, checks)
     retires(world, checks)
     by_a_list(world, checks)
+    sums_of_a_list(world, checks)
     before_a_list(world, checks)
     retires_at_each(world, checks)
     wrong_lists(world, checks)
@@ -617,7 +618,8 @@ def at_each(done, *servers):
 
 
 def by_a_list(world, checks):
-    """Each command asks all servers that a file lists, as if the words named them."""
+    """Each command asks all servers that a file lists, as if the words named them; a report has
+    the sums."""
     wait_past_midnight()
     today = int(time.time()) // 86_400
     with Server(world, default=9) as first, Server(world, default=9) as second:
@@ -637,7 +639,7 @@ def by_a_list(world, checks):
                     "quota server {} answers\nrequests of host mx1 are taken\n",
                 ),
                 ("limit", [login, "7"], "set\n"),
-                ("report", [login], f"      0       0       7 {login}\n"),
+                ("report", [login], None),
                 (
                     "stop",
                     [login, "--force"],
@@ -647,10 +649,11 @@ def by_a_list(world, checks):
                 ("retire", ["--host", "mx2"], "retired\n"),
                 ("retire", [], "retired\n"),
             ]:
+                sums = b"      0       0 %7d %s\n" % (7 * len(servers), login.encode())
                 checks.equal(
                     f"{' '.join([name, *words])}, by a list of {len(servers)}",
                     with_settings(world, name, *words, **found),
-                    (0, at_each(done, *servers), ""),
+                    (0, at_each(done, *servers) if done else sums, ""),
                 )
             checks.equal(
                 f"the limits of {login}",
@@ -679,6 +682,73 @@ def by_a_list(world, checks):
             with_settings(world, "report", "u12", "--day", "1", servers=listed(first.address)),
             (0, b"      0       0       9 u12\n", ""),
         )
+
+
+def used(settled, reserved, limit, login):
+    """A line of a report."""
+    return b"%7d %7d %7d %s\n" % (settled, reserved, limit, login)
+
+
+def sums_of_a_list(world, checks):
+    """A report of several servers of a list is one table: what a login used at all of them, and
+    its limits' sum. Of one, and of those that the words name, each has its own."""
+    with Server(world, default=9) as first, Server(world, default=3) as second:
+        first.ask(
+            reserve(1, count=2, login=b"both")
+            + settle(2, count=2, login=b"both")
+            + reserve(3, txn=2, count=4, login=b"here")
+            + limit(4, 1, 100, login=b"there")
+        )
+        second.ask(reserve(1, count=3, login=b"both") + reserve(2, txn=2, login=b"there"))
+        both, here, there = used(2, 3, 12, b"both"), used(0, 4, 12, b"here"), used(0, 1, 103, b"there")
+        words = ["report", "--day", "1"]
+        found = {"servers": listed(first.address, second.address)}
+        for what, more, wanted in [
+            ("all logins", [], both + here + there),
+            ("one login", ["both"], both),
+            ("a login that sent at the second", ["there"], there),
+            ("a login that never sent", ["none"], used(0, 0, 12, b"none")),
+            ("the two that used most", ["--top", "2"], both + here),
+        ]:
+            checks.equal(
+                f"a report of {what}, by a list of two",
+                with_settings(world, *words, *more, **found),
+                (0, wanted, ""),
+            )
+        apart = [
+            used(2, 0, 9, b"both") + used(0, 4, 9, b"here"),
+            used(0, 3, 3, b"both") + used(0, 1, 3, b"there"),
+        ]
+        named = [it for server in (first, second) for it in ("--server", server.address)]
+        checks.equal(
+            "a report of two servers of the words, beside a list",
+            with_settings(world, *words, *named, **found),
+            (
+                0,
+                b"".join(
+                    f"server {server.address}:\n".encode() + lines
+                    for server, lines in zip((first, second), apart)
+                ),
+                "",
+            ),
+        )
+        checks.equal(
+            "a report by a list of one",
+            with_settings(world, *words, servers=listed(second.address)),
+            (0, apart[1], ""),
+        )
+        for servers, wanted in [
+            ([first.address, "127.0.0.1:1"], (1, apart[0])),
+            (["127.0.0.1:1", second.address], (1, apart[1])),
+            (["127.0.0.1:1", "127.0.0.1:2"], (1, b"")),
+        ]:
+            *came, errors = with_settings(world, *words, servers=listed(*servers))
+            away = [it for it in servers if it not in (first.address, second.address)]
+            checks.equal(
+                f"a report by a list of which {len(away)} are away",
+                (*came, [it for it in errors.splitlines() if it.startswith("mailquota: ")]),
+                (*wanted, [f"mailquota: server {it} is left out: quota service unavailable" for it in away]),
+            )
 
 
 def before_a_list(world, checks):
