@@ -700,7 +700,11 @@ def sums_of_a_list(world, checks):
             + limit(4, 1, 100, login=b"there")
         )
         second.ask(reserve(1, count=3, login=b"both") + reserve(2, txn=2, login=b"there"))
-        both, here, there = used(2, 3, 12, b"both"), used(0, 4, 12, b"here"), used(0, 1, 103, b"there")
+        both, here, there = (
+            used(2, 3, 12, b"both"),
+            used(0, 4, 12, b"here"),
+            used(0, 1, 103, b"there"),
+        )
         words = ["report", "--day", "1"]
         found = {"servers": listed(first.address, second.address)}
         for what, more, wanted in [
@@ -747,7 +751,13 @@ def sums_of_a_list(world, checks):
             checks.equal(
                 f"a report by a list of which {len(away)} are away",
                 (*came, [it for it in errors.splitlines() if it.startswith("mailquota: ")]),
-                (*wanted, [f"mailquota: server {it} is left out: quota service unavailable" for it in away]),
+                (
+                    *wanted,
+                    [
+                        f"mailquota: server {it} is left out: quota service unavailable"
+                        for it in away
+                    ],
+                ),
             )
 
 
