@@ -8,8 +8,8 @@ more fails here too, and not an hour later.
 
 The program is the one that `make build` proved, where nothing has changed since, and else one that
 is built without proofs, at once with the tests in Rattle. What takes longest begins first, by the
-times that earlier runs on this machine took; as many groups run as there are processors for what
-they need, since most wait. On a terminal a line says how far it is, and each group has a line as it
+times that earlier runs on this machine took, or else those of tests/times.txt; as many groups run as
+there are processors for what they need, since most wait. On a terminal a line says how far it is, and each group has a line as it
 ends; of a case that fails, so has the command that runs it alone. A group of cases in which one
 fails runs again by itself at the end, since cases that measure a time are of a machine that has
 time: what fails then too has failed. What failed stands at the end once more. The last line is
@@ -50,6 +50,12 @@ FEW = 6
 # So many groups run at once for each processor, however little they need.
 MOST_FOR_A_PROCESSOR = 4
 COUNTS = re.compile(r"(\d+) passed, (\d+) failed\n\Z")
+# Lines of a group's name, its seconds by the clock and those of a processor.
+TIMES = f"{TESTS}/times.txt"
+HEAD_OF_TIMES = """\
+# How long each group of `make test` takes: seconds by the clock, and of a processor. Groups begin by
+# these times on a machine that has none of its own. `python3 tests/run.py --note-times` writes them.
+"""
 # Lines that say which function of a group has begun, and what a case or a test came to.
 FUNCTION = re.compile(r"-- \w+: (\w+)\Z")
 FAILED = re.compile(r"NOT |test \S+ \.\.\. (?!ok\b|ignored\b)")
@@ -149,16 +155,16 @@ class Running:
 
 
 class Times:
-    """How long each group took in earlier runs on this machine: the seconds by the clock, and those
-    of a processor."""
+    """How long each group took in earlier runs on this machine, or else in the run that noted it:
+    the seconds by the clock, and those of a processor."""
 
     def __init__(self):
         base = os.environ.get("XDG_CACHE_HOME", "")
         base = base if os.path.isabs(base) else os.path.expanduser("~/.cache")
-        self.file, self.known = f"{base}/mailquota/times-of-tests", {}
+        self.file, self.known = f"{base}/mailquota/times-of-tests", dict(noted_times())
         try:
             with open(self.file, encoding="ascii") as file:
-                self.known = {
+                self.known |= {
                     name: (float(seconds), float(work))
                     for name, (seconds, work) in json.load(file).items()
                 }
@@ -173,6 +179,13 @@ class Times:
     def add(self, name, ran):
         self.known[name] = (round(ran.seconds, 1), round(ran.work, 1))
 
+    def note(self):
+        """Notes them for machines that have none."""
+        with open(TIMES, "w", encoding="ascii") as file:
+            file.write(HEAD_OF_TIMES)
+            for name, (seconds, work) in sorted(self.known.items()):
+                file.write(f"{name} {seconds:.0f} {work:.0f}\n")
+
     def keep(self):
         """Keeps them, unless there is no place: they only say in what order groups begin."""
         try:
@@ -184,6 +197,13 @@ class Times:
             os.replace(file.name, self.file)
         except OSError:
             pass
+
+
+def noted_times():
+    """The name of each group of tests/times.txt, with its times."""
+    with open(TIMES, encoding="ascii") as file:
+        for name, seconds, work in (it.split() for it in file if not it.startswith("#")):
+            yield name, (float(seconds), float(work))
 
 
 def size(folder):
@@ -420,6 +440,9 @@ def parsed():
         action="store_true",
         help="over a program that is built without proofs, whatever `make build` made",
     )
+    parser.add_argument(
+        "--note-times", action="store_true", help="note in tests/times.txt how long groups took"
+    )
     return parser.parse_args()
 
 
@@ -459,6 +482,8 @@ def main():
         with Progress(test.said) as progress:
             test.run(progress)
         test.times.keep()
+        if asked.note_times:
+            test.times.note()
     finally:
         Copies.remove()
     # (once more, since the first time they may stand far above)
