@@ -24,13 +24,13 @@ _mailquota() {
     init) options='--config --help' ;;
     server) options='--config --create --connections --endless --help' ;;
     filter) options='--config --run --check --help' ;;
-    status) options='--server --host --config --help' ;;
+    status) options='--server --host --config --json --help' ;;
     limit) options='--server --config --host --login --login-text --from --ago --cap --run --help' ;;
     stop) options='--server --config --host --login --login-text --day --ago --force --all --wait --help' ;;
     resume) options='--server --config --host --login --login-text --day --ago --cap --help' ;;
-    day) options='--config --at --help' ;;
+    day) options='--config --at --json --help' ;;
     retire) options='--server --config --host --run --help' ;;
-    report) options='--server --config --day --ago --login --login-text --top --help' ;;
+    report) options='--server --config --day --ago --login --login-text --top --each --json --help' ;;
     limits) options='--config --help' ;;
     audit) options='--config --help' ;;
     forget) options='--config --before --into --help' ;;

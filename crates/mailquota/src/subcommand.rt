@@ -60,16 +60,16 @@ where
         Arguments::Stop(given) => end_process(stop(rt, dial, given, errors), errors),
         Arguments::Resume(given) => end_process(resume(rt, dial, given, errors), errors),
         Arguments::Day(given) => {
-            let has_date = rt.has_output_on_terminal();
+            let is_on_terminal = rt.has_output_on_terminal();
             end_process(
-                day(rt, given, has_date, &mut io::writer(rt), errors),
+                day(rt, given, is_on_terminal, &mut io::writer(rt), errors),
                 errors,
             )
         },
         Arguments::Retire(given) => end_process(retire(rt, dial, given, errors), errors),
         Arguments::Report(given) => {
-            let has_columns = rt.has_output_on_terminal();
-            end_process(report(rt, dial, given, has_columns, errors), errors)
+            let is_on_terminal = rt.has_output_on_terminal();
+            end_process(report(rt, dial, given, is_on_terminal, errors), errors)
         },
         Arguments::Limits(given) => {
             end_program(limits(rt, given, start, &mut io::writer(rt)), errors)

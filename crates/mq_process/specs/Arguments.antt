@@ -2,6 +2,8 @@
 use Rattle.std.specs.Prelude.{◌≤◌, ℕ, IfSome, ⊤}
 use Rattle.mq_request.specs.Range.{IsRun, IsAmount, IsMoment, IsWithin}
 use Rattle.mq_process.specs.declared.arguments.ReplayArguments.{ReplayArguments}
+use Rattle.mq_process.specs.declared.arguments.LimitArgument.{LimitArgument}
+use Rattle.mq_process.specs.declared.arguments.LimitArgument.TheVariants.{Recipients, Default}
 use Rattle.mq_process.specs.declared.arguments.LimitArguments.{LimitArguments}
 use Rattle.mq_process.specs.declared.arguments.ResumeArguments.{ResumeArguments}
 use Rattle.mq_process.specs.declared.arguments.StopArguments.{StopArguments}
@@ -28,10 +30,15 @@ IsDayUpTo last Tomorrow = ⊤
 IsDayUpTo last (Ago days) = IsWithin 0 376200 days
 IsDayUpTo last (Given day) = IsWithin 0 last day
 
--- a limit of 0 to 1,000,000, and a run in range where one is given
+-- a limit of 0 to 1,000,000, where it is a number
+abbrev pub IsLimitArgument : LimitArgument → Type 0
+IsLimitArgument (Recipients number) = IsAmount number
+IsLimitArgument Default = ⊤
+
+-- a limit in range, and a run in range where one is given
 pub record IsLimitArguments (given : LimitArguments) : Type 0 where
   pub from : IsDayUpTo 376200 given.from
-  pub cap : IsAmount given.cap
+  pub cap : IsLimitArgument given.cap
   pub run : IfSome given.run IsRun
 
 -- the last day that another one follows in range, whose limit `stop` and `resume` set too

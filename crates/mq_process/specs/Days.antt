@@ -1,10 +1,11 @@
 -- What `day` prints.
-use Rattle.std.specs.Prelude.{◌≡◌, ◌⊎◌, ◌++◌, ◌∷◌, [], ℕ, Bool, true, false, List, Option, None, Some, Result, Ok, Err}
-use Rattle.std.specs.Fmt.{decimal}
+use Rattle.std.specs.Prelude.{◌≡◌, ◌⊎◌, ℕ, Bool, List, Option, None, Some, Result, Ok, Err}
 use Rattle.mq_request.specs.Range.{IsMoment}
 use Rattle.mq_ledger.specs.Day.{day_of}
+use Rattle.mq_command.specs.Forms.{day_text}
 use Rattle.mq_command.specs.Orders.{PrintsLine}
 use Rattle.mq_settings.specs.declared.settings.ServerSettings.{ServerSettings}
+use Rattle.mq_process.specs.Outputs.{form_of}
 use Rattle.mq_process.specs.Settings.{ReadsServer}
 use Rattle.mq_process.specs.Today.{IsNoDay, NamesDay}
 use Rattle.mq_process.specs.declared.arguments.DayArgument.{DayArgument}
@@ -25,15 +26,10 @@ IsAskedDay remaining None given day =
     (settings : ServerSettings) × ReadsServer remaining (Ok settings)
     × ((moment : ℕ) × IsMomentBy given moment × (day ≡ day_of settings.zone moment))
 
--- its line: the number, and on a terminal the date
-abbrev pub IsDayLine : Bool → ℕ → List ℕ → Type 0
-IsDayLine false day line = line ≡ decimal day ++ 10 ∷ []
-IsDayLine true day line = (date : List ℕ) × IsDateText day date × (line ≡ decimal day ++ 32 ∷ [] ++ date ++ 10 ∷ [])
-
--- the day is printed, or there are no settings or no moment, or memory runs out
+-- the day is printed in this form, or there are no settings or no moment, or memory runs out
 abbrev pub PrintsDay : {F : Type 0} → (F → Option (List ℕ)) → DayArguments → Bool → Option (List ℕ) → Option (List ℕ)
     → Result ℕ ProcessFault → Type 0
-PrintsDay remaining given has_date old new (Ok status) =
-    (day : ℕ) × IsAskedDay remaining given.named given.moment day × ((line : List ℕ) × IsDayLine has_date day line
-    × PrintsLine line old new status)
-PrintsDay remaining given has_date old new (Err fault) = (fault ≡ Memory) ⊎ IsNoDay remaining fault
+PrintsDay remaining given on_terminal old new (Ok status) =
+    (day : ℕ) × (date : List ℕ) × IsAskedDay remaining given.named given.moment day × IsDateText day date
+    × PrintsLine (day_text (form_of given.output on_terminal) day date) old new status
+PrintsDay remaining given on_terminal old new (Err fault) = (fault ≡ Memory) ⊎ IsNoDay remaining fault

@@ -3,6 +3,7 @@ pub mod Clocks
 pub mod Days
 pub mod Faults
 pub mod Links
+pub mod Outputs
 pub mod Questions
 pub mod Refusals
 pub mod Servers

@@ -11,6 +11,15 @@ pub const FILTER_SETTINGS: &str = "/etc/mailquota/filter.toml";
 /// The file that lists the servers which a command asks where no words name others.
 pub const SERVERS_FILE: &str = "/etc/mailquota/servers.toml";
 
+/// How what is asked for is printed.
+#[derive(Clone, Copy)]
+pub enum OutputArgument {
+    /// As text: for people on a terminal, and for scripts elsewhere.
+    Text,
+    /// As JSON.
+    Json,
+}
+
 /// What `replay` is given.
 #[derive(Clone, Copy)]
 pub struct ReplayArguments<'a> {
@@ -71,6 +80,8 @@ pub struct ProbeArguments<'a> {
     pub servers: Servers<'a>,
     /// The mail host of which it asks whether its requests are taken, or none.
     pub host: Option<&'a str>,
+    /// How it is printed.
+    pub output: OutputArgument,
 }
 
 /// What `status` is given where it asks the server of a file of settings.
@@ -138,6 +149,15 @@ pub enum DayArgument {
     Given(u32),
 }
 
+/// The limit that a login is given.
+#[derive(Clone, Copy)]
+pub enum LimitArgument {
+    /// So many recipients a day, 0 to 1,000,000.
+    Recipients(u32),
+    /// That of a login that has none of its own, at each server by itself.
+    Default,
+}
+
 /// What `limit` is given.
 #[derive(Drop)]
 pub struct LimitArguments<'a> {
@@ -151,8 +171,8 @@ pub struct LimitArguments<'a> {
     pub login: LoginArgument<'a>,
     /// The day from which on the limit governs; a given number is 0 to 376,200.
     pub from: DayArgument,
-    /// Recipients a day, 0 to 1,000,000.
-    pub cap: u32,
+    /// The limit.
+    pub cap: LimitArgument,
     /// The number of the run, 1 to 281,474,976,710,655, or the clock's.
     pub run: Option<u64>,
 }
@@ -206,6 +226,8 @@ pub struct DayArguments<'a> {
     /// The second since 1970-01-01T00:00:00Z whose day is asked for, 86,400 to 32,503,680,000, or
     /// the clock's.
     pub moment: Option<u64>,
+    /// How it is printed.
+    pub output: OutputArgument,
 }
 
 /// What `retire` is given.
@@ -235,6 +257,10 @@ pub struct ReportArguments<'a> {
     pub login: Option<LoginArgument<'a>>,
     /// How many logins are reported, those that used most, 1 to 1,000,000, or all.
     pub top: Option<u32>,
+    /// Whether several servers are shown apart, and not their sums.
+    pub is_each: bool,
+    /// How it is printed.
+    pub output: OutputArgument,
 }
 
 /// What the words ask for.

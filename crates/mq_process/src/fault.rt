@@ -38,6 +38,9 @@ pub enum ProcessFault {
     /// The server of the settings listens at all addresses of its machine, which isn't this one.
     #[error("the server listens at all addresses, and isn't known to run here; use --server, or list it in /etc/mailquota/servers.toml")]
     EveryAddress,
+    /// More than 4,000 servers are to be summed up.
+    #[error("more than 4000 servers")]
+    ManyServers,
     /// The clock can't be read, or its milliseconds can't be a run's number.
     #[error("run number unavailable")]
     NoRun,
@@ -64,6 +67,7 @@ impl ProcessFault {
             | ProcessFault::Address
             | ProcessFault::NoServer
             | ProcessFault::EveryAddress
+            | ProcessFault::ManyServers
             | ProcessFault::NoDay
             | ProcessFault::NoHost
             | ProcessFault::NotToday(_, _) => 2,

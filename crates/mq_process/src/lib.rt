@@ -21,6 +21,7 @@ mod asking;
 mod clock;
 mod dialing;
 mod fault;
+mod form;
 mod moment;
 mod printed_day;
 mod probing;
@@ -33,9 +34,10 @@ mod whom;
 pub use addresses::Servers;
 pub use arguments::{
     Arguments, AuditArguments, ConnectionsArgument, DayArgument, DayArguments, FILTER_SETTINGS,
-    FilterArguments, ForgetArguments, ForgetWords, InitArguments, LimitArguments, LimitsArguments,
-    LoginArgument, ProbeArguments, ReplayArguments, ReportArguments, ResumeArguments,
-    RetireArguments, SERVER_SETTINGS, ServerArguments, StatusArguments, StopArguments,
+    FilterArguments, ForgetArguments, ForgetWords, InitArguments, LimitArgument, LimitArguments,
+    LimitsArguments, LoginArgument, OutputArgument, ProbeArguments, ReplayArguments,
+    ReportArguments, ResumeArguments, RetireArguments, SERVER_SETTINGS, ServerArguments,
+    StatusArguments, StopArguments,
 };
 pub use asking::{
     TIMEOUT, address_of, checked, first_id, link_to, login_of, names_login, refused_login,
@@ -44,11 +46,12 @@ pub use asking::{
 pub use clock::{WallClock, elapsed, run_number};
 pub use dialing::{Dial, Dialer};
 pub use fault::ProcessFault;
+pub use form::form_of;
 pub use moment::moment_or_now;
 pub use printed_day::day;
-pub use probing::{Question, ask_once, ask_status, probe};
+pub use probing::{Question, ask_once, ask_status, probe, probe_in_json};
 pub use refusing::{end_process, refuse};
-pub use servers::{ask_each, check_addresses, tell_server};
+pub use servers::{ask_each, ask_in_turn, check_addresses, tell_server};
 pub use settings::{filter_settings, server_settings};
 pub use today::{day_named, day_to_stop};
 pub use whom::{filter_settings_in_place, found_servers, servers_in_place, servers_or, texts_of};

@@ -1,21 +1,19 @@
-//! `day`: prints the number of a day.
-ghost use Rattle.std.specs.Prelude.{◌≡◌, ◌⊎◌, IfErr, IfOk, IfSome, MatchResult, false, string_bytes, true};
-ghost use Rattle.mq_command.specs.Orders.{PrintsLine};
+//! `day`: prints a day, in any form.
+ghost use Rattle.std.specs.Prelude.{IfOk, IfSome, MatchResult};
 ghost use Rattle.mq_request.specs.Range.{IsDay, IsMoment};
-ghost use Rattle.mq_process.specs.Arguments.{IsDayArguments, IsDayUpTo};
-ghost use Rattle.mq_process.specs.Days.{IsAskedDay, IsDayLine, PrintsDay};
+ghost use Rattle.mq_process.specs.Arguments.{IsDayArguments};
+ghost use Rattle.mq_process.specs.Days.{IsAskedDay, PrintsDay};
 ghost use Rattle.mq_process.specs.Today.{IsNoDay};
 
-use crate::arguments::{DayArgument, DayArguments};
+use crate::arguments::DayArguments;
 use crate::fault::ProcessFault;
+use crate::form::form_of;
 use crate::moment::moment_or_now;
-use crate::refusing::refuse;
 use crate::settings::server_settings;
 use crate::today::day_named;
-use mq_command::{OutputFault, write_whole};
+use mq_command::print_day;
 use mq_dates::date_of_day;
 use mq_request::bounds::LAST_DAY;
-use std::alloc::{AllocError, Global};
 use std::io::Write;
 use std::rt::{Clock, Files};
 
@@ -56,67 +54,25 @@ fn asked_day<R: Files + Clock + Eprint + AllocGlobal>(
     }
 }
 
-/// The line of a day's number.
-fn number_line(alloc: Global, day: u32) -> Result<String, AllocError>
-    requires { IsDay day }
-    ensures { IfOk result (λ line. IsDayLine false day (string_bytes line)) }
-{
-    let mut line = day.to_string(alloc)?;
-    line.push('\n')?;
-    Ok(line)
-}
-
-/// The line of a day's number and its date.
-fn dated_line(alloc: Global, day: u32) -> Result<String, AllocError>
-    requires { IsDay day }
-    ensures { IfOk result (λ line. IsDayLine true day (string_bytes line)) }
-{
-    let date = date_of_day(alloc, day)?;
-    let mut line = day.to_string(alloc)?;
-    line.push(' ')?;
-    line.push_str(date.as_str())?;
-    line.push('\n')?;
-    Ok(line)
-}
-
-/// The line of a day, with its date or without.
-fn line_of(alloc: Global, day: u32, has_date: bool) -> Result<String, AllocError>
-    requires { IsDay day }
-    ensures { IfOk result (λ line. IsDayLine has_date day (string_bytes line)) }
-{
-    if has_date {
-        dated_line(alloc, day)
-    } else {
-        number_line(alloc, day)
-    }
-}
-
-/// Prints a line, or says on `errors` that it can't be printed. The result is the exit status.
-fn print_line<W: Write, E: Write>(line: &str, output: &mut W, errors: &mut E) -> u8
-    ensures { PrintsLine line.now (W.contents output.old) (W.contents output.new) result }
-{
-    if write_whole(output, line.as_bytes()).is_err() || output.flush().is_err() {
-        return refuse(&OutputFault::Write, 1, errors);
-    }
-    0
-}
-
 /// `day`: prints the number of the day that is named, or of a moment, or of now, in the zone of a
-/// server's settings; with `has_date` its date behind it.
+/// server's settings; on a terminal and as JSON with its date.
 pub fn day<R: Files + Clock + Eprint + AllocGlobal, W: Write, E: Write>(
     rt: &R,
     given: DayArguments<'_>,
-    has_date: bool,
+    is_on_terminal: bool,
     output: &mut W,
     errors: &mut E,
 ) -> Result<u8, ProcessFault>
     requires { IsDayArguments given }
-    ensures { PrintsDay R.File.remaining given.entry has_date (W.contents output.old)
+    ensures { PrintsDay R.File.remaining given.entry is_on_terminal (W.contents output.old)
         (W.contents output.new) result }
 {
     match asked_day(rt, given) {
-        Ok(day) => match line_of(rt.alloc(), day, has_date) {
-            Ok(line) => Ok(print_line(line.as_str(), output, errors)),
+        Ok(day) => match date_of_day(rt.alloc(), day) {
+            Ok(date) => {
+                let form = form_of(given.output, is_on_terminal);
+                Ok(print_day(rt.alloc(), form, day, date.as_str(), output, errors))
+            }
             Err(_) => Err(ProcessFault::Memory),
         },
         Err(fault) => Err(fault),

@@ -3,14 +3,16 @@ ghost use Rattle.std.specs.Prelude.{◌≡◌, ℕ, List, Option, IfErr, IfOk};
 ghost use Rattle.std.specs.Net.Text.{socket_text};
 ghost use Rattle.mq_command.specs.Probing.{EndsProbe};
 ghost use Rattle.mq_process.specs.Links.{AsksOver};
-ghost use Rattle.mq_process.specs.Questions.{IsQuestion, Puts};
+ghost use Rattle.mq_request.specs.Range.{IsHost, IsRun};
+ghost use Rattle.mq_process.specs.Questions.{IsQuestion, Puts, PutsHost, PutsInJson, PutsStatus};
+ghost use Rattle.mq_process.specs.Questions.{has_answered};
 
 use crate::asking::TIMEOUT;
 use crate::dialing::Dial;
 use crate::fault::ProcessFault;
 use log::sink::Console;
 use log::{LevelFilter, Log, Logged};
-use mq_command::{ProbeEnd, run_check, run_host_probe, run_probe};
+use mq_command::{ProbeEnd, print_status, print_taken, run_check, run_host_probe, run_probe};
 use mq_link::{Link, LoggedLink};
 use mq_request::Host;
 use std::io;
@@ -100,6 +102,96 @@ pub fn ask_once<R: Print + Eprint + AllocGlobal, D: Dial, E: Write>(
     let logged = Logged::new(rt, LEVEL, Console(rt));
     let mut link = link_once(dial, address, timeout, &logged);
     Ok(put(rt, &mut link, server.as_str(), question, errors))
+}
+
+/// Asks the server at this address once, and prints what comes of it as a JSON object. The status is
+/// as that of [`probe`]. It fails with `Memory` before it asks.
+pub fn probe_in_json<R: Print + Eprint + AllocGlobal, D: Dial, E: Write>(
+    rt: &R,
+    dial: &D,
+    address: SocketAddr,
+    question: Question<'_>,
+    errors: &mut E,
+) -> Result<u8, ProcessFault>
+    requires { IsQuestion question }
+    ensures asks { IfOk result (λ status. AsksOver D.leads D.Link.told address TIMEOUT
+        (PutsInJson (socket_text address) question.entry status)) }
+    ensures memory { IfErr result (λ fault. fault ≡ ProcessFault.Memory) }
+{
+    let named = address.to_string(rt.alloc())?;
+    let logged = Logged::new(rt, LEVEL, Console(rt));
+    let link = &mut link_once(dial, address, TIMEOUT, &logged);
+    Ok(put_in_json(rt, link, named.as_str(), question, errors))
+}
+
+/// Puts a question once over a link, and prints what comes of it as a JSON object.
+fn put_in_json<R: Print + AllocGlobal, K: Link, E: Write>(
+    rt: &R,
+    link: &mut K,
+    server: &str,
+    question: Question<'_>,
+    errors: &mut E,
+) -> u8
+    requires { IsQuestion question }
+    ensures { (before after : Option (List ℕ)) × PutsInJson server.now question.entry result
+        (K.told link.old) (K.told link.new) before after }
+{
+    match question {
+        Question::Status => put_status(rt, link, server, errors),
+        Question::Host(host, now) => put_host(rt, link, server, host, now, errors),
+        Question::Check(host, now) => put_host(rt, link, server, host, now, errors),
+    }
+}
+
+/// Asks once over a link whether the server answers, and prints it as a JSON object.
+fn put_status<R: Print + AllocGlobal, K: Link, E: Write>(
+    rt: &R,
+    link: &mut K,
+    server: &str,
+    errors: &mut E,
+) -> u8
+    ensures { (before after : Option (List ℕ)) × PutsStatus server.now result (K.told link.old)
+        (K.told link.new) before after }
+{
+    let end = run_probe(rt.alloc(), link, server, &mut io::sink(), errors);
+    let printed = print_status(
+        rt.alloc(),
+        server,
+        has_answered(end),
+        &mut io::writer(rt),
+        errors,
+    );
+    end.status().max(printed)
+}
+
+/// Whether a server answered.
+fn has_answered(end: ProbeEnd) -> bool
+    ensures { result ≡ has_answered end }
+{
+    matches!(end, ProbeEnd::Answered(_))
+}
+
+/// Asks once over a link whether the server takes a host's requests, and prints it as a JSON
+/// object.
+fn put_host<R: Print + AllocGlobal, K: Link, E: Write>(
+    rt: &R,
+    link: &mut K,
+    server: &str,
+    host: &Host,
+    now: u64,
+    errors: &mut E,
+) -> u8
+    requires host { IsHost host.now }
+    requires now { IsRun now }
+    ensures { (before after : Option (List ℕ)) × PutsHost server.now host.now now result
+        (K.told link.old)
+        (K.told link.new) before after }
+{
+    let alloc = rt.alloc();
+    let said = run_host_probe(alloc, link, server, host, now, &mut io::sink(), errors);
+    let output = &mut io::writer(rt);
+    let printed = print_taken(alloc, server, host.as_slice(), said == 0, output, errors);
+    said.max(printed)
 }
 
 /// Puts a question once over a link, and prints what comes of it. `server` is how the server is

@@ -29,7 +29,7 @@ pub fn ask_each<R: Print + Eprint + AllocGlobal, E: Write, F: FnMut(SocketAddr, 
     rt: &R,
     servers: &[&str],
     errors: &mut E,
-    mut ask: F,
+    ask: F,
 ) -> u8
     requires callable { F.IsAlwaysCallable ask }
     requires addresses { ¬ HasNoAddress (map (λ s. s.now) servers.now) }
@@ -37,20 +37,38 @@ pub fn ask_each<R: Print + Eprint + AllocGlobal, E: Write, F: FnMut(SocketAddr, 
         × F.step f address old said new g)
         (length servers.now == 1) last result ask (map (λ s. s.now) servers.now) 0 }
 {
-    let is_alone = servers.len() == 1;
+    ask_in_turn(rt, servers, servers.len() == 1, errors, ask)
+}
+
+/// Asks the server at each of these addresses in turn, whatever came of those before. Unless that is
+/// left out, its address is printed above what it answers, and said again on `errors` where it
+/// didn't do what was asked. The result is the exit status, 0 where each did.
+pub fn ask_in_turn<R: Print + Eprint + AllocGlobal, E: Write, F: FnMut(SocketAddr, &mut E) -> u8>(
+    rt: &R,
+    servers: &[&str],
+    is_bare: bool,
+    errors: &mut E,
+    mut ask: F,
+) -> u8
+    requires callable { F.IsAlwaysCallable ask }
+    requires addresses { ¬ HasNoAddress (map (λ s. s.now) servers.now) }
+    ensures { (last : F) × AsksEach (λ f address said g. (old new : _)
+        × F.step f address old said new g)
+        is_bare last result ask (map (λ s. s.now) servers.now) 0 }
+{
     let mut status = 0;
     for server in servers {
         let Ok(address) = address_of(rt, server) else {
             unreachable!();
         };
-        let told = if is_alone {
+        let told = if is_bare {
             0
         } else {
             tell_server(rt, server, errors)
         };
         let said = ask(address, errors);
         let ended = told.max(said);
-        if !is_alone {
+        if !is_bare {
             say_undone(server, ended, errors);
         }
         status = status.max(ended);

@@ -1,5 +1,5 @@
 -- What the servers of a command were asked.
-use Rattle.std.proofs.Common.{◌≡◌, ◌==◌, ℕ, List, Bool, [], ◌∷◌, length, map, Option, None, Some, Result, Ok, Err, is_some, ap, inl, inr, refl, sym, ◌∙◌, subst}
+use Rattle.std.proofs.Common.{◌≡◌, ◌==◌, ℕ, List, Bool, [], ◌∷◌, length, map, Option, None, Some, Result, Ok, Err, ap, inl, inr, refl, sym, ◌∙◌, subst}
 use Rattle.std.specs.Prelude.{IfSome, IfOk, IfErr, MatchOption, MatchResult}
 use Rattle.std.proofs.lemmas.List.{length-map}
 use Rattle.std.specs.Borrow.{Bor}
@@ -7,7 +7,9 @@ use Rattle.std.specs.Net.Text.{socket_text}
 use Rattle.std.specs.declared.net.SocketAddr.{SocketAddr}
 use Rattle.std.specs.declared.time.SystemTime.{SystemTime}
 use Rattle.mq_client.specs.declared.spans.Spans.{Spans}
-use Rattle.mq_process.specs.declared.arguments.LimitArguments.{LimitArguments}
+use Rattle.mq_process.specs.declared.arguments.LimitArgument.{LimitArgument}
+use Rattle.mq_process.specs.declared.arguments.OutputArgument.{OutputArgument}
+use Rattle.mq_command.specs.declared.allow.Setter.{Setter}
 use Rattle.mq_link.specs.declared.link.ReportedExchange.{ReportedExchange}
 use Rattle.mq_request.specs.Range.{IsRun}
 use Rattle.mq_request.specs.declared.message.Request.{Request}
@@ -20,7 +22,7 @@ use Rattle.mq_process.specs.Whom.{FindsServers, IsWhom, servers_or}
 use Rattle.mq_process.specs.declared.asking.TheConstants.{TIMEOUT}
 use Rattle.mq_process.specs.declared.fault.ProcessFault.{ProcessFault}
 use Rattle.mq_process.specs.declared.fault.ProcessFault.TheVariants.{Memory}
-use Rattle.mq_remote.specs.Asked.{AsksAt, IsLimitBy, IsRunBy, IsTarget, SendsLimit, SendsLimitBy, words_of}
+use Rattle.mq_remote.specs.Asked.{AsksAt, IsRunBy, IsTarget, LimitsBy, ResumesBy, SendsLimit, is_bare, words_of}
 use Rattle.mq_remote.specs.declared.subcommands.retire.Target.{Target}
 use Rattle.mq_command.specs.Orders.{PrintsLine}
 use Rattle.mq_remote.specs.Servers.{AsksAll, asks_one, none_left}
@@ -34,6 +36,12 @@ all_asked {Asks = Asks} state each before texts so_far is (server before' after 
     let one = each address said after (subst (λ b. Asks b address said after) is asked) in
     asks_one text others address so_far told said spelled alone one.0 (all_asked state each after others _ one.1 rest)
 
+-- the same of all servers, whether one is asked alone or not
+pub asked_in_turn : {F : Type 0} {Asks : F → SocketAddr → ℕ → F → Type 0} {At : SocketAddr → ℕ → Type 0} {last : F} {status : ℕ} (is_alone : Bool) (state : F) (texts : List (Bor (List ℕ)))
+    → ((address : SocketAddr) (said : ℕ) (after : F) → Asks state address said after → At address said × (after ≡ state))
+    → AsksEach Asks is_alone last status state (map (λ s. s.now) texts) 0 → AsksAll At is_alone status (map (λ s. s.now) texts) 0
+asked_in_turn is_alone state texts each asked = all_asked state each state _ _ refl asked
+
 -- the same of all servers
 pub servers_asked : {F : Type 0} {Asks : F → SocketAddr → ℕ → F → Type 0} {At : SocketAddr → ℕ → Type 0} {last : F} {status : ℕ} (state : F) (texts : List (Bor (List ℕ)))
     → ((address : SocketAddr) (said : ℕ) (after : F) → Asks state address said after → At address said × (after ≡ state))
@@ -41,6 +49,13 @@ pub servers_asked : {F : Type 0} {Asks : F → SocketAddr → ℕ → F → Type
     → AsksAll At (length (map (λ s. s.now) texts) == 1) status (map (λ s. s.now) texts) 0
 servers_asked {At = At} {status = status} state texts each asked =
     subst (λ n. AsksAll At (n == 1) status (map (λ s. s.now) texts) 0) (sym (length-map texts (λ s. s.now))) (all_asked state each state _ _ refl asked)
+
+-- the same by how many are asked, and whether as JSON
+pub bare_so : (At : SocketAddr → ℕ → Type 0) (output : OutputArgument) (bare : Bool) (count status : ℕ) (texts : List (Bor (List ℕ))) → bare ≡ is_bare output count → count ≡ length texts
+    → AsksAll At bare status (map (λ s. s.now) texts) 0 → AsksAll At (is_bare output (length (map (λ s. s.now) texts))) status (map (λ s. s.now) texts) 0
+bare_so At output bare count status texts is counted asked =
+    subst (λ n. AsksAll At (is_bare output n) status (map (λ s. s.now) texts) 0) (counted ∙ sym (length-map texts (λ s. s.now)))
+    (subst (λ b. AsksAll At b status (map (λ s. s.now) texts) 0) is asked)
 
 -- the servers of the words, or those that were found
 pub whom_of : {F X : Type 0} (remaining : F → Option (List ℕ)) (named : Option X) (words given asked servers found shown : List (List ℕ)) → words ≡ given → shown ≡ found
@@ -75,18 +90,28 @@ pub asked_or_not : {L : Type 0} (leads : L → SocketAddr → ℕ → Type 0) (t
 asked_or_not leads told Asks address (Ok status) said over memory is = inr (subst (λ s. AsksOver leads told address TIMEOUT (Asks s)) (sym is) over)
 asked_or_not leads told Asks address (Err fault) said over memory is = inl (is ∙ ap (λ f. process_status f) memory)
 
--- the limit of the words was sent, over a link that leads there
-pub limit_asked : {L : Type 0} (leads : L → SocketAddr → ℕ → Type 0) (told : L → Option (List ReportedExchange)) (address : SocketAddr) (given : LimitArguments) (day run : ℕ) (request : Request)
-    (is_given : Bool) (status : ℕ) → is_given ≡ is_some given.run → IsLimitBy given day run request → AsksOver leads told address TIMEOUT (SendsLimit is_given request status)
-    → AsksOver leads told address TIMEOUT (SendsLimitBy given day run status)
-limit_asked leads told address given day run request is_given status is by asked = record {
-  link = asked.link;
-  after = asked.after;
-  output = asked.output;
-  output' = asked.output';
-  is_led = asked.is_led;
-  asked = (request, by, subst (λ b. SendsLimit b request status (told asked.link) (told asked.after) asked.output asked.output') is asked.asked);
-}
+-- the run of the setter is that one
+pub run_set : (Shows : SystemTime → Type 0) (given : Option ℕ) (set run : ℕ) → set ≡ run → IsRunBy Shows given run → IsRunBy Shows given set
+run_set Shows given set run is by = subst (λ r. IsRunBy Shows given r) (sym is) by
+
+-- a limit was sent that is this one
+pub limit_sent : {L : Type 0} (leads : L → SocketAddr → ℕ → Type 0) (told : L → Option (List ReportedExchange)) (is_given same : Bool) (request other : Request) (address : SocketAddr)
+    (status : ℕ) → is_given ≡ same → request ≡ other → AsksAt leads told (SendsLimit same request) address status → AsksAt leads told (SendsLimit is_given other) address status
+limit_sent leads told is_given same request other address status is are asked =
+    subst (λ b. AsksAt leads told (SendsLimit b other) address status) (sym is) (subst (λ r. AsksAt leads told (SendsLimit same r) address status) are asked)
+
+-- a limit was set by the words that were given
+pub limit_words : {L : Type 0} (leads : L → SocketAddr → ℕ → Type 0) (told : L → Option (List ReportedExchange)) (is_given given : Bool) (setter : Setter) (day : ℕ) (cap : LimitArgument)
+    (words same servers : List (List ℕ)) (status : ℕ) → is_given ≡ given → words ≡ same → LimitsBy leads told is_given setter day cap words servers status
+    → LimitsBy leads told given setter day cap same servers status
+limit_words leads told is_given given setter day cap words same servers status is are asked =
+    subst (λ w. LimitsBy leads told given setter day cap w servers status) are (subst (λ b. LimitsBy leads told b setter day cap words servers status) is asked)
+
+-- a login was to have more again by the words that were given
+pub resume_words : {L : Type 0} (leads : L → SocketAddr → ℕ → Type 0) (told : L → Option (List ReportedExchange)) (setter : Setter) (day : ℕ) (more : Option ℕ)
+    (words same servers : List (List ℕ)) (status : ℕ) → words ≡ same → ResumesBy leads told setter day more words servers status
+    → ResumesBy leads told setter day more same servers status
+resume_words leads told setter day more words same servers status are asked = subst (λ w. ResumesBy leads told setter day more w servers status) are asked
 
 -- another link that is this one leads there too
 pub led_by : {L : Type 0} (leads : L → SocketAddr → ℕ → Type 0) (link same : L) (address : SocketAddr) (timeout given : ℕ) → same ≡ link → timeout ≡ given → leads link address timeout

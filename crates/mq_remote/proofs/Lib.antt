@@ -1,4 +1,5 @@
 pub mod AskedSteps
 pub mod RefusalSteps
+pub mod ShareSteps
 pub mod StopSteps
 pub mod TotalSteps

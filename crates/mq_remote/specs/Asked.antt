@@ -11,13 +11,17 @@ use Rattle.mq_request.specs.declared.message.Request.{Request}
 use Rattle.mq_request.specs.declared.message.Request.TheVariants as asks
 use Rattle.mq_link.specs.declared.link.ReportedExchange.{ReportedExchange}
 use Rattle.mq_process.specs.declared.arguments.LoginArgument.{LoginArgument}
+use Rattle.mq_process.specs.declared.arguments.LimitArgument.{LimitArgument}
+use Rattle.mq_process.specs.declared.arguments.LimitArgument.TheVariants.{Recipients, Default}
 use Rattle.mq_process.specs.declared.arguments.LimitArguments.{LimitArguments}
+use Rattle.mq_process.specs.declared.arguments.OutputArgument.{OutputArgument}
+use Rattle.mq_process.specs.declared.arguments.OutputArgument.TheVariants as outputs
 use Rattle.mq_process.specs.declared.arguments.ProbeArguments.{ProbeArguments}
 use Rattle.mq_process.specs.declared.arguments.ReportArguments.{ReportArguments}
 use Rattle.mq_process.specs.declared.arguments.ResumeArguments.{ResumeArguments}
 use Rattle.mq_process.specs.declared.arguments.RetireArguments.{RetireArguments}
 use Rattle.mq_process.specs.declared.arguments.StopArguments.{StopArguments}
-use Rattle.mq_command.specs.Allowing.{resumed_line}
+use Rattle.mq_command.specs.Allowing.{limit_of, resumed_line}
 use Rattle.mq_command.specs.Asking.{status_of}
 use Rattle.mq_command.specs.Orders.{Orders, OrdersFresh, Prints, PrintsLine, word}
 use Rattle.mq_command.specs.Report.{Reports}
@@ -26,7 +30,7 @@ use Rattle.mq_command.specs.Top.{ReportsTop, columns_line}
 use Rattle.mq_command.specs.declared.allow.Setter.{Setter}
 use Rattle.mq_command.specs.declared.order.OrderFault.{OrderFault}
 use Rattle.mq_command.specs.declared.form.Form.{Form}
-use Rattle.mq_command.specs.declared.form.Form.TheVariants.{Plain, Shown}
+use Rattle.mq_command.specs.declared.form.Form.TheVariants.{Json, Shown}
 use Rattle.mq_command.specs.declared.report.ReportFault.{ReportFault}
 use Rattle.mq_command.specs.declared.stop.StopOrder.{StopOrder}
 use Rattle.mq_command.specs.declared.totals.ReportOrder.{ReportOrder}
@@ -34,7 +38,8 @@ use Rattle.mq_command.specs.declared.totals.ReportedLogins.{ReportedLogins}
 use Rattle.mq_command.specs.declared.totals.ReportedLogins.TheVariants.{One, Top, All}
 use Rattle.mq_process.specs.Clocks.{IsRunAt}
 use Rattle.mq_process.specs.Links.{AsksOver}
-use Rattle.mq_process.specs.Questions.{Puts}
+use Rattle.mq_process.specs.Outputs.{form_of}
+use Rattle.mq_process.specs.Questions.{Puts, PutsInJson}
 use Rattle.mq_process.specs.Refusals.{Names}
 use Rattle.mq_process.specs.Settings.{ReadsFilter, ReadsServers}
 use Rattle.mq_process.specs.Today.{NamesDay, StopsFrom}
@@ -43,9 +48,13 @@ use Rattle.mq_process.specs.declared.asking.TheConstants.{TIMEOUT}
 use Rattle.mq_process.specs.declared.probing.Question.{Question}
 use Rattle.mq_process.specs.declared.probing.Question.TheVariants.{Status, Host}
 use Rattle.mq_remote.specs.Servers.{AsksAll}
+use Rattle.mq_remote.specs.Shares.{AreSeveral, SharesAmong, SharesNumber}
 use Rattle.mq_remote.specs.Stops.{AsksUse, StopsAll, UseAt}
 use Rattle.mq_remote.specs.Totals.{AsksTogether}
 use Rattle.mq_remote.specs.declared.subcommands.retire.Target.{Target}
+use Rattle.mq_remote.specs.declared.subcommands.shares.ShareOrder.{ShareOrder}
+use Rattle.mq_remote.specs.declared.subcommands.shares.ShareOrder.TheVariants.{Numbered, Fresh, More}
+use Rattle.mq_remote.specs.declared.subcommands.shares.ShareRule.TheVariants.{Default as ByDefault}
 use Rattle.mq_settings.specs.declared.settings.FilterSettings.{FilterSettings}
 
 -- the run that is given, or where none is the milliseconds of a time that a clock showed, in range
@@ -75,6 +84,16 @@ abbrev pub AsksAbout : Option (List ℕ) → Question → Type 0
 AsksAbout None question = question ≡ Status
 AsksAbout (Some host) question = (lent : Bor (List ℕ)) × (now : ℕ) × (question ≡ Host lent now) × (lent.now ≡ host) × IsRun now
 
+-- the question was put, and what came of it printed as text or as JSON
+abbrev pub PutsAs : OutputArgument → List ℕ → Question → ℕ → Option (List ReportedExchange) → Option (List ReportedExchange) → Option (List ℕ) → Option (List ℕ) → Type 0
+PutsAs outputs.Text = Puts
+PutsAs outputs.Json = PutsInJson
+
+-- whether no line stands above what each server answers: JSON has none, and one server alone
+abbrev pub is_bare : OutputArgument → ℕ → Bool
+is_bare outputs.Text count = count == 1
+is_bare outputs.Json count = true
+
 -- what `status` of addresses asks: each server the same, once
 pub record AsksProbe {L F : Type 0} (leads : L → SocketAddr → ℕ → Type 0) (told : L → Option (List ReportedExchange))
     (remaining : F → Option (List ℕ)) (given : ProbeArguments) (status : ℕ) : Type 0 where
@@ -82,46 +101,51 @@ pub record AsksProbe {L F : Type 0} (leads : L → SocketAddr → ℕ → Type 0
   pub whom : IsWhom {X = Bor (List ℕ)} remaining None given.servers servers
   pub question : Question
   pub about : AsksAbout (option_map (λ host. host.now) given.host) question
-  pub asked : AsksAll (λ address. AsksAt leads told (Puts (socket_text address) question) address)
-      (length servers == 1) status servers 0
+  pub asked : AsksAll (λ address. AsksAt leads told (PutsAs given.output (socket_text address) question) address)
+      (is_bare given.output (length servers)) status servers 0
 
 -- ---- `limit`
 
--- the limit that the words ask for, from this day on, under the first number of this run
-pub record IsLimitBy (given : LimitArguments) (day run : ℕ) (request : Request) : Type 0 where
-  pub login : List ℕ
-  pub named : Names given.login login
-  pub is : request ≡ asks.Limit (record { host = given.host.now; run = run; number = 1 }) day given.cap login
-
--- it was sent: under its number alone where the words give that, else under the first one that isn't used
+-- a limit was sent: under its number alone where the words give that, else under the first one that isn't used
 abbrev pub SendsLimit : Bool → Request → ℕ → Option (List ReportedExchange) → Option (List ReportedExchange) → Option (List ℕ) → Option (List ℕ) → Type 0
 SendsLimit true request status old new output output' = SendsOrder request status old new output output'
 SendsLimit false request status old new output output' =
     (sent : Result (Unit {0}) OrderFault) × OrdersFresh request old new sent × Prints (λ _. word request) output output' sent status
 
--- that of the words was sent
-abbrev pub SendsLimitBy : LimitArguments → ℕ → ℕ → ℕ → Option (List ReportedExchange) → Option (List ReportedExchange) → Option (List ℕ) → Option (List ℕ) → Type 0
-SendsLimitBy given day run status old new output output' =
-    (request : Request) × IsLimitBy given day run request × SendsLimit (is_some given.run) request status old new output output'
+-- under which numbers shares are sent
+abbrev pub order_of : Bool → ShareOrder
+order_of true = Numbered
+order_of false = Fresh
 
--- what `limit` asks: of each server the same
-pub record AsksLimit {L F : Type 0} (leads : L → SocketAddr → ℕ → Type 0) (told : L → Option (List ReportedExchange))
-    (remaining : F → Option (List ℕ)) (Shows : SystemTime → Type 0) (given : LimitArguments) (status : ℕ) : Type 0 where
-  pub servers : List (List ℕ)
-  pub whom : IsWhom remaining given.config given.servers servers
-  pub day : ℕ
-  pub from : NamesDay remaining given.from day
-  pub run : ℕ
-  pub is_run : IsRunBy Shows given.run run
-  pub asked : AsksEachOf leads told (SendsLimitBy given day run) servers status
-
--- ---- `stop` and `resume`
+-- How a limit is set at these servers, under the first number of the run: each default, or a number, of which each of several that
+-- settings name gets its share.
+abbrev pub LimitsBy : {L : Type 0} → (L → SocketAddr → ℕ → Type 0) → (L → Option (List ReportedExchange)) → Bool → Setter → ℕ → LimitArgument
+    → List (List ℕ) → List (List ℕ) → ℕ → Type 0
+LimitsBy leads told is_given setter day Default words servers status =
+    SharesAmong leads told (order_of is_given) setter day ByDefault servers status
+LimitsBy leads told is_given setter day (Recipients number) words servers status =
+    (AreSeveral words servers × SharesNumber leads told (order_of is_given) setter day number servers status)
+    ⊎ ((AreSeveral words servers → ⊥) × AsksEachOf leads told (SendsLimit is_given (limit_of setter 1 day number)) servers status)
 
 -- the login of the words, the host of the words, and a run
 pub record IsSetterBy (host : List ℕ) (login : LoginArgument) (setter : Setter) : Type 0 where
   pub by_host : setter.host ≡ host
   pub in_run : IsRun setter.run
   pub named : Names login setter.login
+
+-- what `limit` asks
+pub record AsksLimit {L F : Type 0} (leads : L → SocketAddr → ℕ → Type 0) (told : L → Option (List ReportedExchange))
+    (remaining : F → Option (List ℕ)) (Shows : SystemTime → Type 0) (given : LimitArguments) (status : ℕ) : Type 0 where
+  pub servers : List (List ℕ)
+  pub whom : IsWhom remaining given.config given.servers servers
+  pub day : ℕ
+  pub from : NamesDay remaining given.from day
+  pub setter : Setter
+  pub is_setter : IsSetterBy given.host.now given.login setter
+  pub is_run : IsRunBy Shows given.run setter.run
+  pub asked : LimitsBy leads told (is_some given.run) setter day given.cap given.servers servers status
+
+-- ---- `stop` and `resume`
 
 -- Whether a login is meant at each of these servers: it is said so, or several were asked, and one knows that it used something on
 -- this day or one of the two before, or else one gives no answer. Of one server alone nothing is asked beforehand.
@@ -153,7 +177,15 @@ ResumesThere setter day None status old new output output' =
     (ended : _) × Restores setter day old new ended
     × Prints (λ restored. restored_lines setter.login restored day) output output' ended status
 
--- what `resume` asks: of each server the same
+-- How a login is to have more again at these servers: so many, of which each of several that settings name gets its share, or at
+-- each the limit that it had.
+abbrev pub ResumesBy : {L : Type 0} → (L → SocketAddr → ℕ → Type 0) → (L → Option (List ReportedExchange)) → Setter → ℕ → Option ℕ
+    → List (List ℕ) → List (List ℕ) → ℕ → Type 0
+ResumesBy leads told setter day more words servers status =
+    ((number : ℕ) × (more ≡ Some number) × AreSeveral words servers × SharesNumber leads told More setter day number servers status)
+    ⊎ ((AreSeveral words servers → more ≡ None) × AsksEachOf leads told (ResumesThere setter day more) servers status)
+
+-- what `resume` asks
 pub record AsksResume {L F : Type 0} (leads : L → SocketAddr → ℕ → Type 0) (told : L → Option (List ReportedExchange))
     (remaining : F → Option (List ℕ)) (given : ResumeArguments) (status : ℕ) : Type 0 where
   pub servers : List (List ℕ)
@@ -162,7 +194,7 @@ pub record AsksResume {L F : Type 0} (leads : L → SocketAddr → ℕ → Type 
   pub is_setter : IsSetterBy given.host.now given.login setter
   pub day : ℕ
   pub from : NamesDay remaining given.day day
-  pub asked : AsksEachOf leads told (ResumesThere setter day given.cap) servers status
+  pub asked : ResumesBy leads told setter day given.cap given.servers servers status
 
 -- ---- `retire`
 
@@ -231,25 +263,32 @@ ReportsThere day reported true status old new output output' =
     ((headed : Option (List ℕ)) × PrintsLine columns_line output headed 0 × ReportsRows day reported status old new headed output')
     ⊎ ((status ≡ 1) × PrintsLine columns_line output output' 1 × (new ≡ old))
 
--- the form of sums, by whether there is a line of columns
-abbrev pub form_of : Bool → Form
-form_of true = Shown
-form_of false = Plain
+-- the sums of servers are reported: as JSON, or of several that settings name, unless they are to be shown apart
+abbrev pub AreSummed : Form → Bool → List (List ℕ) → List (List ℕ) → Type 0
+AreSummed Json each words servers = ⊤
+AreSummed form each words servers = (each ≡ false) × AreSeveral words servers
 
--- how servers are reported: the sums of several that settings name, where the words name none, and else what each has
+-- whether what a server has stands below a line of columns
+abbrev pub is_headed : Form → Bool
+is_headed Shown = true
+is_headed form = false
+
+-- how servers are reported: their sums, or what each has
 abbrev pub ReportsBy : {L : Type 0} → (L → SocketAddr → ℕ → Type 0) → (L → Option (List ReportedExchange)) → ReportOrder → Bool → List (List ℕ)
     → List (List ℕ) → ℕ → Type 0
-ReportsBy leads told order columns [] (server ∷ next ∷ others) status = AsksTogether leads told order (server ∷ next ∷ others) status
-ReportsBy leads told order columns words servers status =
-    AsksEachOf leads told (ReportsThere order.day order.logins columns) servers status
+ReportsBy leads told order each words servers status =
+    (AreSummed order.form each words servers × AsksTogether leads told order servers status)
+    ⊎ ((AreSummed order.form each words servers → ⊥)
+    × AsksEachOf leads told (ReportsThere order.day order.logins (is_headed order.form)) servers status)
 
--- what `report` asks: of each server the same, whether for itself or for the sums
+-- what `report` asks
 pub record AsksReport {L F : Type 0} (leads : L → SocketAddr → ℕ → Type 0) (told : L → Option (List ReportedExchange))
-    (remaining : F → Option (List ℕ)) (given : ReportArguments) (columns : Bool) (status : ℕ) : Type 0 where
+    (remaining : F → Option (List ℕ)) (given : ReportArguments) (on_terminal : Bool) (status : ℕ) : Type 0 where
   pub servers : List (List ℕ)
   pub whom : IsWhom remaining given.config given.servers servers
   pub day : ℕ
   pub on : NamesDay remaining given.day day
   pub reported : ReportedLogins
   pub named : NamesReported given.login given.top reported
-  pub asked : ReportsBy leads told (record { day = day; logins = reported; form = form_of columns }) columns given.servers servers status
+  pub asked : ReportsBy leads told (record { day = day; logins = reported; form = form_of given.output on_terminal }) given.is_each
+      given.servers servers status

@@ -1,15 +1,12 @@
 -- How several servers are asked for the sums of what logins used.
-use Rattle.std.specs.Prelude.{◌≡◌, ◌<◌, ℕ, List, [], ◌∷◌, length, map, Option, ⊤}
+use Rattle.std.specs.Prelude.{ℕ, List, [], ◌∷◌, map, Option, ⊤}
 use Rattle.std.specs.Net.Grammar.{IsSocketText}
 use Rattle.std.specs.declared.net.SocketAddr.{SocketAddr}
 use Rattle.mq_link.specs.declared.link.ReportedExchange.{ReportedExchange}
 use Rattle.mq_command.specs.Totals.{ReportsTotals}
+use Rattle.mq_dates.specs.Dates.{IsDateText}
 use Rattle.mq_command.specs.declared.totals.ReportOrder.{ReportOrder}
 use Rattle.mq_process.specs.declared.asking.TheConstants.{TIMEOUT}
-
--- the words name no server, and there are several
-abbrev pub AreSummed : List (List ℕ) → List (List ℕ) → Type 0
-AreSummed words servers = (words ≡ []) × (1 < length servers)
 
 -- these are as many as the others, and each is so to the other in its place
 abbrev pub InStep : {A B : Type 0} → (A → B → Type 0) → List A → List B → Type 0
@@ -28,4 +25,6 @@ pub record AsksTogether {L : Type 0} (leads : L → SocketAddr → ℕ → Type 
   pub are_led : InStep (λ address link. leads link address TIMEOUT) addresses links
   pub output : Option (List ℕ)
   pub output' : Option (List ℕ)
-  pub asked : ReportsTotals order [] (map told links) (map told after) output output' status
+  pub date : List ℕ
+  pub is_date : IsDateText order.day date
+  pub asked : ReportsTotals order date (map told links) (map told after) output output' status

@@ -6,9 +6,9 @@
 //!
 //!     Arguments::Limit(given) => end_process(limit(rt, dial, given, errors), errors),
 //!
-//! It stands on `mq_request`, `mq_stream`, `mq_link`, `mq_client`, `mq_settings`, `mq_command` and
-//! `mq_process`, and knows no store, so that it is proved while the tables of the ledger are. Begin
-//! with `subcommands/filter.rt`, where the filter is put together.
+//! It stands on `mq_request`, `mq_dates`, `mq_stream`, `mq_link`, `mq_client`, `mq_settings`,
+//! `mq_command` and `mq_process`, and knows no store, so that it is proved while the tables of the
+//! ledger are. Begin with `subcommands/filter.rt`, where the filter is put together.
 #![tactic(auto)]
 
 mod fault;

@@ -5,6 +5,7 @@ pub mod limit;
 pub mod probe;
 pub mod report;
 pub mod retire;
+mod shares;
 pub mod stop;
 mod stopping;
 mod sums;

@@ -1,3 +1,4 @@
 pub mod Printing
 pub mod Days
+pub mod Limits
 pub mod Meaning

@@ -19,6 +19,7 @@ use Rattle.mq_process.specs.declared.arguments.LoginArgument.TheVariants.{Report
 use Rattle.mq_process.specs.declared.arguments.FilterArguments.{FilterArguments}
 use Rattle.mq_process.specs.declared.arguments.ServerArguments.{ServerArguments}
 use Rattle.mq_process.specs.declared.arguments.ProbeArguments.{ProbeArguments}
+use Rattle.mq_process.specs.declared.arguments.LimitArgument.{LimitArgument}
 use Rattle.mq_process.specs.declared.arguments.LimitArguments.{LimitArguments}
 use Rattle.mq_process.specs.declared.arguments.StopArguments.{StopArguments}
 use Rattle.mq_process.specs.declared.arguments.ResumeArguments.{ResumeArguments}
@@ -26,7 +27,10 @@ use Rattle.mq_process.specs.declared.arguments.DayArguments.{DayArguments}
 use Rattle.mq_process.specs.declared.arguments.RetireArguments.{RetireArguments}
 use Rattle.mq_process.specs.declared.arguments.ReportArguments.{ReportArguments}
 use Rattle.mq_process.specs.declared.arguments.ForgetWords.{ForgetWords}
+use Rattle.mq_process.specs.declared.arguments.OutputArgument.{OutputArgument}
+use Rattle.mq_process.specs.declared.arguments.OutputArgument.TheVariants.{Text, Json}
 use Rattle.mq_words.specs.Days.{WritesDay}
+use Rattle.mq_words.specs.Limits.{WritesLimit}
 use Rattle.mq_process.specs.declared.arguments.ReplayArguments.{ReplayArguments}
 
 -- the text that an option has, by the words or by default
@@ -68,10 +72,15 @@ pub record HasConnections (found : Found) (asked : ConnectionsArgument) : Type 0
   pub count : one_text found (codes "endless") ≡ Some (codes "false")
       → (text : List ℕ) (spelled : ℕ) → one_text found (codes "connections") ≡ Some text → Spells 1 1000000 text spelled → asked ≡ Count spelled
 
--- the limit: the word, or else the option
-pub record HasCap (found : Found) (cap : ℕ) : Type 0 where
-  pub word : HasNumber found (codes "CAP") 0 1000000 cap
-  pub named : one_text found (codes "CAP") ≡ None → HasNumber found (codes "cap") 0 1000000 cap
+-- the limit: that of the word's text, or else of the option's
+pub record HasCap (found : Found) (cap : LimitArgument) : Type 0 where
+  pub word : (text : List ℕ) → first_value found (codes "CAP") ≡ Some text → WritesLimit text cap
+  pub named : (text : List ℕ) → first_value found (codes "CAP") ≡ None → first_value found (codes "cap") ≡ Some text → WritesLimit text cap
+
+-- how it is printed: as JSON where that is asked for
+pub record HasOutput (found : Found) (output : OutputArgument) : Type 0 where
+  pub json : one_text found (codes "json") ≡ Some (codes "true") → output ≡ Json
+  pub as_text : one_text found (codes "json") ≡ Some (codes "false") → output ≡ Text
 
 -- the day that was so many days ago, or else today
 pub record HasDayAgo (found : Found) (day : DayArgument) : Type 0 where
@@ -114,6 +123,7 @@ pub record MeansServer (found : Found) (given : ServerArguments) : Type 0 where
 pub record MeansProbe (found : Found) (given : ProbeArguments) : Type 0 where
   pub servers : given.servers ≡ texts_of found (codes "server")
   pub host : HasTextOrNone found (codes "host") given.host
+  pub output : HasOutput found given.output
 
 pub record MeansLimit (found : Found) (given : LimitArguments) : Type 0 where
   pub servers : given.servers ≡ texts_of found (codes "server")
@@ -146,6 +156,7 @@ pub record MeansDay (found : Found) (given : DayArguments) : Type 0 where
   pub config : HasText found (codes "config") given.config.now
   pub named : HasDayWord found given.named
   pub moment : HasNumberOrNone found (codes "at") 86400 32503680000 given.moment
+  pub output : HasOutput found given.output
 
 pub record MeansRetire (found : Found) (given : RetireArguments) : Type 0 where
   pub server : HasTextOrNone found (codes "server") given.server
@@ -159,6 +170,8 @@ pub record MeansReport (found : Found) (given : ReportArguments) : Type 0 where
   pub day : HasDay found (codes "day") 376200 given.day
   pub login : HasLoginOrNone found given.login
   pub top : HasNumberOrNone found (codes "top") 1 1000000 given.top
+  pub each : HasFlag found (codes "each") given.is_each
+  pub output : HasOutput found given.output
 
 pub record MeansForget (found : Found) (given : ForgetWords) : Type 0 where
   pub config : HasText found (codes "config") given.config.now

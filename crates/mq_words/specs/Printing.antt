@@ -17,5 +17,5 @@ pub record EndsErring (error : Error) (ended : Result ℕ PrintFault) : Type 0 w
 -- where memory runs out nothing is printed
 abbrev pub EndsPrinted : WordsFault → Result ℕ PrintFault → Type 0
 EndsPrinted words.Memory ended = ended ≡ Err unprinted.Memory
-EndsPrinted (words.Day text) ended = ended ≡ Ok 2
+EndsPrinted (words.Text text) ended = ended ≡ Ok 2
 EndsPrinted (words.Words error) ended = EndsErring error ended

@@ -4,7 +4,7 @@ ghost use Rattle.mq_request.specs.Range.{IsDay};
 ghost use Rattle.mq_process.specs.Arguments.{IsDayUpTo};
 ghost use Rattle.mq_words.specs.Days.{WritesDay, WritesNumber};
 
-use crate::fault::WordsFault;
+use crate::fault::{WordsFault, fault_of};
 use crate::subcommands::Range;
 use mq_dates::day_of_text;
 use mq_process::DayArgument;
@@ -59,12 +59,4 @@ fn no_day(alloc: Global, option: &str, text: &str) -> WordsFault {
     fault_of(format!(in alloc;
         "error: invalid value '{shown}' for '{option}': no day number, no date as 2026-11-30, and none of yesterday, today and tomorrow"
     ))
-}
-
-/// The fault with this text.
-fn fault_of(text: Result<String, AllocError>) -> WordsFault {
-    match text {
-        Ok(text) => WordsFault::Day(text),
-        Err(_) => WordsFault::Memory,
-    }
 }

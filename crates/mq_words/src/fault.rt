@@ -10,8 +10,8 @@ use std::alloc::AllocError;
 pub enum WordsFault {
     /// They ask for help, or are no usage of the program.
     Words(Error),
-    /// An option's text names no day that it takes: what is printed of it.
-    Day(String),
+    /// The text of an option or a word names no day or limit that it takes: what is printed of it.
+    Text(String),
     Memory,
 }
 
@@ -31,5 +31,13 @@ impl From<Error> for WordsFault {
             ErrorKind::OutOfMemory => WordsFault::Memory,
             _ => WordsFault::Words(error),
         }
+    }
+}
+
+/// The fault with this text.
+pub fn fault_of(text: Result<String, AllocError>) -> WordsFault {
+    match text {
+        Ok(text) => WordsFault::Text(text),
+        Err(_) => WordsFault::Memory,
     }
 }

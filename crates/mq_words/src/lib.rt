@@ -15,6 +15,7 @@
 
 mod days;
 mod fault;
+mod limits;
 mod meaning;
 mod printing;
 mod subcommands;

@@ -4,10 +4,11 @@ ghost use Rattle.clap.specs.Matches.{found_of};
 ghost use Rattle.mq_request.specs.Range.{IsAmount, IsRun, IsWithin};
 ghost use Rattle.mq_process.specs.Arguments.{IsArguments, IsConnections, IsDayArguments};
 ghost use Rattle.mq_process.specs.Arguments.{IsDayUpTo};
-ghost use Rattle.mq_process.specs.Arguments.{IsLimitArguments, IsReplayArguments};
+ghost use Rattle.mq_process.specs.Arguments.{IsLimitArgument, IsLimitArguments};
+ghost use Rattle.mq_process.specs.Arguments.{IsReplayArguments};
 ghost use Rattle.mq_process.specs.Arguments.{IsReportArguments, IsResumeArguments, IsStopArguments};
 ghost use Rattle.mq_words.specs.Meaning.{HasCap, HasConnections, HasDay, HasDayAgo, HasDayWord};
-ghost use Rattle.mq_words.specs.Meaning.{HasLogin, HasLoginOrNone};
+ghost use Rattle.mq_words.specs.Meaning.{HasLogin, HasLoginOrNone, HasOutput};
 ghost use Rattle.mq_words.specs.Meaning.{HasNumber, HasNumberOrNone, HasText, IsUnknown};
 ghost use Rattle.mq_words.specs.Meaning.{Means, MeansDay, MeansFilter, MeansForget, MeansLimit};
 ghost use Rattle.mq_words.specs.Meaning.{MeansReplay, MeansReport, MeansResume};
@@ -16,15 +17,16 @@ ghost use Rattle.mq_words.specs.Meaning.{texts_of};
 
 use crate::days::read_day;
 use crate::fault::WordsFault;
+use crate::limits::read_limit;
 use crate::subcommands::{
     AMOUNTS, CROWDS, DAYS, EARLIER_DAYS, MINUTES, MOMENTS, RUNS, Range, TOPS,
 };
 use clap::ArgMatches;
 use mq_process::{
     Arguments, AuditArguments, ConnectionsArgument, DayArgument, DayArguments, FilterArguments,
-    ForgetWords, InitArguments, LimitArguments, LimitsArguments, LoginArgument, ProbeArguments,
-    ReplayArguments, ReportArguments, ResumeArguments, RetireArguments, ServerArguments, Servers,
-    StatusArguments, StopArguments,
+    ForgetWords, InitArguments, LimitArgument, LimitArguments, LimitsArguments, LoginArgument,
+    OutputArgument, ProbeArguments, ReplayArguments, ReportArguments, ResumeArguments,
+    RetireArguments, ServerArguments, Servers, StatusArguments, StopArguments,
 };
 use std::alloc::{AllocError, Global};
 
@@ -124,14 +126,25 @@ fn connections_of(found: &ArgMatches<'_>) -> ConnectionsArgument
     }
 }
 
-/// The limit, in recipients a day: the word, or the option.
-fn cap_of(found: &ArgMatches<'_>) -> u32
-    ensures in_range { IsAmount result }
-    ensures meant { HasCap (found_of found.now) result }
+/// The limit: the word, or the option.
+fn cap_of(alloc: Global, found: &ArgMatches<'_>) -> Result<LimitArgument, WordsFault>
+    ensures in_range { IfOk result IsLimitArgument }
+    ensures meant { IfOk result (HasCap (found_of found.now)) }
 {
-    match number_if_given(found, "CAP", AMOUNTS) {
-        Some(cap) => cap,
-        None => number_of(found, "cap", AMOUNTS),
+    match found.get_str("CAP") {
+        Some(text) => read_limit(alloc, "[CAP]", text),
+        None => read_limit(alloc, "--cap <N>", text_of(found, "cap")),
+    }
+}
+
+/// How what is asked for is printed.
+fn output_of(found: &ArgMatches<'_>) -> OutputArgument
+    ensures { HasOutput (found_of found.now) result }
+{
+    if found.get_flag("json") {
+        OutputArgument::Json
+    } else {
+        OutputArgument::Text
     }
 }
 
@@ -238,6 +251,7 @@ fn status_of<'a>(alloc: Global, found: &ArgMatches<'a>) -> Result<Arguments<'a>,
         None => Arguments::Probe(ProbeArguments {
             servers: servers_of(alloc, found)?,
             host: found.get_str("host"),
+            output: output_of(found),
         }),
     })
 }
@@ -252,7 +266,7 @@ fn limit_of<'a>(alloc: Global, found: &ArgMatches<'a>) -> Result<LimitArguments<
         host: text_of(found, "host"),
         login: login_of(found),
         from: day_of(alloc, found, "from", "--from <DAY>", DAYS)?,
-        cap: cap_of(found),
+        cap: cap_of(alloc, found)?,
         run: run_of(found),
     })
 }
@@ -295,6 +309,7 @@ fn asked_day_of<'a>(alloc: Global, found: &ArgMatches<'a>) -> Result<DayArgument
         config: text_of(found, "config"),
         named: day_word_of(alloc, found)?,
         moment: long_number_if_given(found, "at", MOMENTS),
+        output: output_of(found),
     })
 }
 
@@ -320,6 +335,8 @@ fn report_of<'a>(alloc: Global, found: &ArgMatches<'a>) -> Result<ReportArgument
         day: day_of(alloc, found, "day", "--day <DAY>", DAYS)?,
         login: one_login_of(found),
         top: number_if_given(found, "top", TOPS),
+        is_each: found.get_flag("each"),
+        output: output_of(found),
     })
 }
 

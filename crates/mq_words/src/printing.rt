@@ -22,7 +22,7 @@ pub fn print_fault<R: Print + Eprint>(rt: &R, fault: WordsFault) -> Result<u8, P
 {
     match fault {
         WordsFault::Memory => Err(PrintFault::Memory),
-        WordsFault::Day(text) => {
+        WordsFault::Text(text) => {
             let _ = eprintln!(rt; "{text}\n\nFor more information, try '--help'.");
             Ok(2)
         }

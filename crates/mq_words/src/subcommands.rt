@@ -69,6 +69,8 @@ pub enum Takes {
     Texts,
     /// A day, by its number or its date, or one of yesterday, today and tomorrow.
     Day(Range<u32>),
+    /// A number of recipients, or `default`.
+    Limit,
     Number(Range<u32>),
     LongNumber(Range<u64>),
 }
@@ -326,8 +328,8 @@ const AGO: CommandOption = CommandOption {
 const CAP_WORD: CommandOption = CommandOption {
     name: "CAP",
     value: "CAP",
-    help: "Recipients a day",
-    takes: Takes::Number(AMOUNTS),
+    help: "Recipients a day, or default",
+    takes: Takes::Limit,
     need: Need::OneOf(CAPPED),
     default: None,
 };
@@ -336,7 +338,7 @@ const CAP: CommandOption = CommandOption {
     name: "cap",
     value: "N",
     help: "Recipients a day, in place of CAP",
-    takes: Takes::Number(AMOUNTS),
+    takes: Takes::Limit,
     need: Need::OneOf(CAPPED),
     default: None,
 };
@@ -392,6 +394,42 @@ const MORE: CommandOption = CommandOption {
     help: "Recipients more, each day; else the limit it had",
     takes: Takes::Number(AMOUNTS),
     need: Need::Optional,
+    default: None,
+};
+
+const EACH: CommandOption = CommandOption {
+    name: "each",
+    value: "",
+    help: "Show several servers apart, not their sums",
+    takes: Takes::Nothing,
+    need: Need::Optional,
+    default: None,
+};
+
+const JSON: CommandOption = CommandOption {
+    name: "json",
+    value: "",
+    help: "Print JSON",
+    takes: Takes::Nothing,
+    need: Need::Optional,
+    default: None,
+};
+
+const REPORT_JSON: CommandOption = CommandOption {
+    name: "json",
+    value: "",
+    help: "Print JSON; of several servers the sums",
+    takes: Takes::Nothing,
+    need: Need::Without("each"),
+    default: None,
+};
+
+const PROBE_JSON: CommandOption = CommandOption {
+    name: "json",
+    value: "",
+    help: "Print JSON, an object a line",
+    takes: Takes::Nothing,
+    need: Need::Without("config"),
     default: None,
 };
 
@@ -516,7 +554,7 @@ pub const SUBCOMMANDS: [Subcommand; 14] = [
         about: "Say whether the quota server answers",
         usage: None,
         words: &[],
-        options: &[ANY_SERVER, PROBED_HOST, ITS_SETTINGS],
+        options: &[ANY_SERVER, PROBED_HOST, ITS_SETTINGS, PROBE_JSON],
         groups: &[],
     },
     Subcommand {
@@ -578,7 +616,7 @@ pub const SUBCOMMANDS: [Subcommand; 14] = [
         about: "Print a day's number and, on a terminal, its date",
         usage: None,
         words: &[DAY_WORD],
-        options: &[CONFIG, AT],
+        options: &[CONFIG, AT, JSON],
         groups: &[],
     },
     Subcommand {
@@ -594,7 +632,17 @@ pub const SUBCOMMANDS: [Subcommand; 14] = [
         about: "Print what logins used on a day",
         usage: None,
         words: &[LOGIN_WORD],
-        options: &[SERVERS, ASKED_CONFIG, DAY, AGO, LOGIN, LOGIN_TEXT, TOP],
+        options: &[
+            SERVERS,
+            ASKED_CONFIG,
+            DAY,
+            AGO,
+            LOGIN,
+            LOGIN_TEXT,
+            TOP,
+            EACH,
+            REPORT_JSON,
+        ],
         groups: &[],
     },
     Subcommand {

@@ -81,7 +81,7 @@ fn argument_of<'a>(alloc: Global, option: &CommandOption) -> Result<Arg<'a>, All
     };
     let argument = match option.takes {
         Takes::Nothing => return Ok(argument.action(ArgAction::SetTrue)),
-        Takes::Text | Takes::Day(_) => argument,
+        Takes::Text | Takes::Day(_) | Takes::Limit => argument,
         Takes::Texts => argument.action(ArgAction::Append),
         Takes::Number(range) => argument.value_parser(value_parser!(u64).range(
             i64::from(range.least)..=i64::from(range.most),

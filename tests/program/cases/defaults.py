@@ -1,5 +1,6 @@
 """Whom a command asks, and which day it means, where its words don't say: by the settings in
 /etc/mailquota, which a mount namespace of its own has."""
+import json
 import os
 import subprocess
 import time
@@ -74,6 +75,7 @@ def run(world, checks):
     retires(world, checks)
     by_a_list(world, checks)
     sums_of_a_list(world, checks)
+    shares_of_a_list(world, checks)
     before_a_list(world, checks)
     retires_at_each(world, checks)
     wrong_lists(world, checks)
@@ -631,6 +633,11 @@ def by_a_list(world, checks):
                 "filter_": filter_settings("127.0.0.1:1"),
             }
             login = "u" + "".join("12"[it is second] for it in servers)
+            checks.equal(
+                f"limit {login} 7, by a list of {len(servers)}",
+                with_settings(world, "limit", login, "7", **found),
+                (0, set_at([7] * len(servers), servers) if len(servers) > 1 else b"set\n", ""),
+            )
             for name, words, done in [
                 ("status", [], "quota server {} answers\n"),
                 (
@@ -638,7 +645,6 @@ def by_a_list(world, checks):
                     ["--host", "mx1"],
                     "quota server {} answers\nrequests of host mx1 are taken\n",
                 ),
-                ("limit", [login, "7"], "set\n"),
                 ("report", [login], None),
                 (
                     "stop",
@@ -650,10 +656,12 @@ def by_a_list(world, checks):
                 ("retire", [], "retired\n"),
             ]:
                 sums = b"      0       0 %7d %s\n" % (7 * len(servers), login.encode())
+                # (a number is shared out)
+                in_all = in_all_of(5 * len(servers)) if name == "resume" and servers[1:] else b""
                 checks.equal(
                     f"{' '.join([name, *words])}, by a list of {len(servers)}",
                     with_settings(world, name, *words, **found),
-                    (0, at_each(done, *servers) if done else sums, ""),
+                    (0, at_each(done, *servers) + in_all if done else sums, ""),
                 )
             checks.equal(
                 f"the limits of {login}",
@@ -672,6 +680,36 @@ def by_a_list(world, checks):
                 "mailquota: not done by server 127.0.0.1:1",
             ),
         )
+        for host, wanted in [
+            ([], [{"answers": False}, {"answers": True}]),
+            (
+                ["--host", "mx1"],
+                [{"host": "mx1", "taken": False}, {"host": "mx1", "taken": True}],
+            ),
+        ]:
+            status, output, errors = with_settings(world, "status", "--json", *host, **found)
+            servers = ("127.0.0.1:1", first.address)
+            checks.equal(
+                f"status {' '.join(host)} in JSON by a list, of which one is away",
+                (status, [json.loads(it) for it in output.splitlines()], errors.splitlines()[-1]),
+                (
+                    1,
+                    [{"server": server, **it} for server, it in zip(servers, wanted)],
+                    "mailquota: quota service unavailable",
+                ),
+            )
+        checks.equal(
+            "status in JSON of one server",
+            world.run("status", "--server", first.address, "--json"),
+            (0, f'{{"server":"{first.address}","answers":true}}\n'.encode(), ""),
+        )
+        checks.equal(
+            "day in JSON",
+            with_settings(
+                world, "day", "2026-11-30", "--json", server=server_settings("127.0.0.1:1")
+            ),
+            (0, b'{"day":20787,"date":"2026-11-30"}\n', ""),
+        )
         checks.equal(
             "a report by a list alone, without a day",
             with_settings(world, "report", servers=listed(first.address)),
@@ -681,6 +719,139 @@ def by_a_list(world, checks):
             "a report of a day by a list alone",
             with_settings(world, "report", "u12", "--day", "1", servers=listed(first.address)),
             (0, b"      0       0       9 u12\n", ""),
+        )
+
+
+def in_all_of(number):
+    return f"in all at most {number} a day\n".encode()
+
+
+def set_at(numbers, servers):
+    """What is printed where each of these servers sets its share."""
+    lines = [f"set {number} at {it.address}\n" for number, it in zip(numbers, servers)]
+    return "".join(lines).encode() + in_all_of(sum(numbers))
+
+
+def shares_of_a_list(world, checks):
+    """Of a number each server of a list gets its share, by its default beside the first's, and so
+    do those that the words name where it's the default that is set."""
+    wait_past_midnight()
+    today = int(time.time()) // 86_400
+    with Server(world, default=1000) as first, Server(world, default=101) as second:
+        both = (first, second)
+        found = {
+            "servers": listed(*(it.address for it in both)),
+            "server": server_settings("127.0.0.1:1"),
+        }
+        named = [it for server in both for it in ("--server", server.address)]
+
+        def limits(login):
+            return [caps(it, login, today, today + 1) for it in both]
+
+        for words, shares in [
+            (["a", "2000"], [2000, 202]),
+            (["a", "1"], [1, 1]),
+            (["a", "0"], [0, 0]),
+            (["a", "999999", "--run", "5"], [999999, 101000]),
+            (["a", "1000000", "--run", "6"], [1000000, 101000]),
+            (["a", "default"], [1000, 101]),
+            (["--cap", "default", "--login", "a"], [1000, 101]),
+        ]:
+            checks.equal(
+                f"limit {' '.join(words)} by a list of two",
+                with_settings(world, "limit", *words, **found),
+                (0, set_at(shares, both), ""),
+            )
+            checks.equal("its limits at both", limits(b"a"), [[it, it] for it in shares])
+        checks.equal(
+            "limit of a run whose number was used with another",
+            with_settings(world, "limit", "a", "7", "--run", "5", **found),
+            (
+                1,
+                b"",
+                "".join(
+                    "mailquota: number used with another limit\n"
+                    f"mailquota: not done by server {it.address}\n"
+                    for it in both
+                ),
+            ),
+        )
+        checks.equal(
+            "limit a 2000 at both by the words",
+            with_settings(world, "limit", "a", "2000", *named, **found),
+            (0, at_each("set\n", *both), ""),
+        )
+        checks.equal("its limits at both", limits(b"a"), [[2000, 2000], [2000, 2000]])
+        for more, servers, shares in [
+            (named, both, [1000, 101]),
+            (named[2:], [second], [101]),
+        ]:
+            lines = set_at(shares, servers)
+            checks.equal(
+                f"limit a default at {len(servers)} by the words",
+                with_settings(world, "limit", "a", "default", *more, **found),
+                (0, lines if servers[1:] else b"".join(lines.splitlines(True)[:1]), ""),
+            )
+        checks.equal("its limits at both", limits(b"a"), [[1000, 1000], [101, 101]])
+        first.ask(reserve(1, count=2, at=today * 86_400, login=b"a"))
+        with_settings(world, "stop", "a", **found)
+        checks.equal("its limits while it is stopped", limits(b"a"), [[2, 0], [0, 0]])
+        checks.equal(
+            "resume a --cap 500 by a list of two",
+            with_settings(world, "resume", "a", "--cap", "500", **found),
+            (
+                0,
+                f"server {first.address}:\nresumed: a may use 502 on day {today}\n"
+                f"server {second.address}:\nresumed: a may use 51 on day {today}\n".encode()
+                + in_all_of(551),
+                "",
+            ),
+        )
+        checks.equal("its limits then", limits(b"a"), [[502, 500], [51, 51]])
+        with_settings(world, "stop", "a", **found)
+        status, output, errors = with_settings(world, "resume", "a", **found)
+        checks.equal(
+            "resume without a number gives each its own",
+            (status, output.count(b"limit after: "), b"in all" in output, errors),
+            (0, 2, False, ""),
+        )
+        shares_with_one_away(world, checks, first, today)
+
+
+def shares_with_one_away(world, checks, first, today):
+    """Where the first server is away no other is asked, since shares go by its default; where
+    another is, that one has nothing."""
+    away = "127.0.0.1:1"
+    settings = server_settings("127.0.0.1:1")
+    for words in (["limit", "b", "9"], ["resume", "b", "--cap", "9"]):
+        *came, errors = with_settings(
+            world, *words, servers=listed(away, first.address), server=settings
+        )
+        checks.equal(
+            f"{words[0]} by a list whose first server is away",
+            (*came, [it for it in errors.splitlines() if it.startswith("mailquota: ")]),
+            (
+                1,
+                b"",
+                [
+                    "mailquota: quota service unavailable",
+                    f"mailquota: not done by any server: shares go by the default of {away};"
+                    " use --server",
+                ],
+            ),
+        )
+        checks.equal("the limits at the other", caps(first, b"b", today, today + 1), [1000, 1000])
+    for words, shown in [
+        (["limit", "b", "9"], f"set 9 at {first.address}\n"),
+        (["limit", "b", "default"], f"set 1000 at {first.address}\n"),
+    ]:
+        *came, errors = with_settings(
+            world, *words, servers=listed(first.address, away), server=settings
+        )
+        checks.equal(
+            f"{' '.join(words)} by a list whose second server is away",
+            (*came, errors.splitlines()[-1]),
+            (1, shown.encode(), f"mailquota: not done by server {away}"),
         )
 
 
@@ -735,6 +906,52 @@ def sums_of_a_list(world, checks):
                 ),
                 "",
             ),
+        )
+        heads = b"".join(
+            f"server {server.address}:\n".encode() + lines
+            for server, lines in zip((first, second), apart)
+        )
+        checks.equal(
+            "a report by a list of two, each apart",
+            with_settings(world, *words, "--each", **found),
+            (0, heads, ""),
+        )
+        rows = [("both", 2, 3, 12), ("here", 0, 4, 12), ("there", 0, 1, 103)]
+        for what, more, wanted in [
+            ("a list of two", [], rows),
+            ("one login", ["there"], rows[2:]),
+            ("those that used most", ["--top", "1"], rows[:1]),
+            ("two servers of the words", named, rows),
+            ("one server", named[2:], [("both", 0, 3, 3), ("there", 0, 1, 3)]),
+            ("a name with a quote", ['a"b'], [('a"b', 0, 0, 12)]),
+        ]:
+            status, output, errors = with_settings(world, *words, "--json", *more, **found)
+            checks.equal(
+                f"a report in JSON of {what}",
+                (status, output.count(b"\n"), json.loads(output), errors),
+                (
+                    0,
+                    1,
+                    {
+                        "day": 1,
+                        "date": "1970-01-02",
+                        "logins": [
+                            dict(zip(("login", "settled", "reserved", "limit"), it))
+                            for it in wanted
+                        ],
+                    },
+                    "",
+                ),
+            )
+        *came, _ = with_settings(world, *words, "--json", 'a"\\x5cb\\xff', **found)
+        checks.equal(
+            "a report in JSON of a login that isn't UTF-8",
+            came,
+            [
+                0,
+                b'{"day":1,"date":"1970-01-02","logins":[{"login":"a\\"\\\\x5cb\\\\xff","settled":0,'
+                b'"reserved":0,"limit":12}]}\n',
+            ],
         )
         checks.equal(
             "a report by a list of one",

@@ -92,6 +92,7 @@ Options:
       --server <ADDRESS>  Numeric address and port of a server; may be repeated
       --host <HOST>       Also ask whether this mail host's requests are taken
       --config <FILE>     Settings of the server: read its file if it's silent
+      --json              Print JSON, an object a line
   -h, --help              Print help
 """,
     ),
@@ -127,7 +128,7 @@ Usage: mailquota limit [OPTIONS] <LOGIN> <CAP>
 
 Arguments:
   [LOGIN]  Login, as a report prints it
-  [CAP]    Recipients a day
+  [CAP]    Recipients a day, or default
 
 Options:
       --server <ADDRESS>   Numeric address and port of a server; repeatable
@@ -198,6 +199,7 @@ Arguments:
 Options:
       --config <FILE>  Settings [default: /etc/mailquota/server.toml]
       --at <SECONDS>   Second since 1970-01-01 UTC; else now
+      --json           Print JSON
   -h, --help           Print help
 """,
     ),
@@ -232,6 +234,8 @@ Options:
       --login <LOGIN>      Login as smtpd reports it, in place of LOGIN
       --login-text <TEXT>  Login as a report prints it, in place of LOGIN
       --top <N>            The N logins that used most, most first
+      --each               Show several servers apart, not their sums
+      --json               Print JSON; of several servers the sums
   -h, --help               Print help
 """,
     ),
@@ -380,7 +384,7 @@ For more information, try '--help'.
     ),
     (
         ["limit", "u", "many"],
-        """error: invalid value 'many' for '[CAP]': invalid digit found in string
+        """error: invalid value 'many' for '[CAP]': no number of recipients, and not default
 
 For more information, try '--help'.
 """,

@@ -41,6 +41,7 @@ from wire import (
     usage,
 )
 
+NO_LIMIT = "no number of recipients, and not default"
 NO_DAY = "no day number, no date as 2026-11-30, and none of yesterday, today and tomorrow"
 MORE = "\n\nFor more information, try '--help'.\n"
 MOST_RUN = 281_474_976_710_655
@@ -201,6 +202,8 @@ def ranges_of_numbers(world, checks):
                 if given >= 0
                 else NO_DAY
                 if value == "DAY"
+                else NO_LIMIT
+                if (words[0], option) == ("limit", "cap")
                 else "invalid digit found in string"
             )
             refused = (

@@ -1,14 +1,16 @@
 //! `status --server`: whether quota servers answer, and whether they take a host's requests.
-ghost use Rattle.std.specs.Prelude.{◌≡◌, Err, IfOk, IfSome, option_map};
+ghost use Rattle.std.specs.Prelude.{◌≡◌, Err, IfErr, IfOk, IfSome, option_map};
 ghost use Rattle.std.specs.Net.Text.{socket_text};
 ghost use Rattle.mq_request.specs.Range.{IsHost};
-ghost use Rattle.mq_process.specs.Questions.{IsQuestion, Puts};
+ghost use Rattle.mq_process.specs.Links.{AsksOver};
+ghost use Rattle.mq_process.specs.Questions.{IsQuestion};
 ghost use Rattle.mq_process.specs.Refusals.{ProbeRefuses};
-ghost use Rattle.mq_remote.specs.Asked.{AsksAbout, AsksAt, AsksProbe};
+ghost use Rattle.mq_process.specs.declared.asking.TheConstants.{TIMEOUT};
+ghost use Rattle.mq_remote.specs.Asked.{AsksAbout, AsksAt, AsksProbe, PutsAs, is_bare};
 
 use mq_process::{
-    Dial, ProbeArguments, ProcessFault, Question, ask_each, check_addresses, end_process,
-    found_servers, probe, run_number, servers_or,
+    Dial, OutputArgument, ProbeArguments, ProcessFault, Question, ask_in_turn, check_addresses,
+    end_process, found_servers, probe, probe_in_json, run_number, servers_or,
 };
 use mq_request::{Host, is_host};
 use std::alloc::{AllocError, Global};
@@ -62,11 +64,13 @@ pub fn probe_servers<R: Files + Clock + Print + Eprint + AllocGlobal, D: Dial, E
     let servers = chosen.as_slice();
     let host = host_of(rt.alloc(), given.host)?;
     let question = question_of(rt, host.as_ref())?;
-    Ok(ask_each(
+    let output = given.output;
+    Ok(ask_in_turn(
         rt,
         servers,
+        is_bare(output, servers.len()),
         errors,
-        |address, errors| probe_at(rt, dial, address, question, errors),
+        |address, errors| probe_at(rt, dial, address, question, output, errors),
     ))
 }
 
@@ -77,10 +81,42 @@ fn probe_at<R: Print + Eprint + AllocGlobal, D: Dial, E: Write>(
     dial: &D,
     address: SocketAddr,
     question: Question<'_>,
+    output: OutputArgument,
     errors: &mut E,
 ) -> u8
     requires { IsQuestion question }
-    ensures { AsksAt D.leads D.Link.told (Puts (socket_text address) question.entry) address result }
+    ensures { AsksAt D.leads D.Link.told (PutsAs output (socket_text address) question.entry)
+        address result }
 {
-    end_process(probe(rt, dial, address, question, errors), errors)
+    end_process(put_at(rt, dial, address, question, output, errors), errors)
+}
+
+/// The same, where memory doesn't run out before it asks.
+fn put_at<R: Print + Eprint + AllocGlobal, D: Dial, E: Write>(
+    rt: &R,
+    dial: &D,
+    address: SocketAddr,
+    question: Question<'_>,
+    output: OutputArgument,
+    errors: &mut E,
+) -> Result<u8, ProcessFault>
+    requires { IsQuestion question }
+    ensures asks { IfOk result (λ status. AsksOver D.leads D.Link.told address TIMEOUT
+        (PutsAs output (socket_text address) question.entry status)) }
+    ensures memory { IfErr result (λ fault. fault ≡ ProcessFault.Memory) }
+{
+    match output {
+        OutputArgument::Text => probe(rt, dial, address, question, errors),
+        OutputArgument::Json => probe_in_json(rt, dial, address, question, errors),
+    }
+}
+
+/// Whether no line stands above what each of so many servers answers.
+fn is_bare(output: OutputArgument, count: usize) -> bool
+    ensures { result ≡ is_bare output count }
+{
+    match output {
+        OutputArgument::Text => count == 1,
+        OutputArgument::Json => true,
+    }
 }

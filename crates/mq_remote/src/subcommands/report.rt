@@ -1,14 +1,14 @@
 //! `report`: prints what logins used on a day.
-ghost use Rattle.std.specs.Prelude.{◌≡◌, ◌≤◌, [], Err, IfErr, IfOk, IfSome, MatchBool, length, map};
-ghost use Rattle.mq_request.specs.Range.{IsDay, IsLogin, IsWithin};
+ghost use Rattle.std.specs.Prelude.{◌≡◌, Err, IfErr, IfOk, IfSome, MatchBool, map};
+ghost use Rattle.mq_request.specs.Range.{IsDay};
 ghost use Rattle.mq_command.specs.Totals.{IsMeant};
 ghost use Rattle.mq_process.specs.Arguments.{IsReportArguments};
 ghost use Rattle.mq_process.specs.Links.{AsksOver};
 ghost use Rattle.mq_process.specs.Refusals.{HasNoAddress, NamesLogin, ReportRefuses};
-ghost use Rattle.mq_remote.specs.Asked.{AsksAt, AsksReport, NamesReported, ReportsBy, ReportsRows};
-ghost use Rattle.mq_remote.specs.Asked.{ReportsThere, form_of};
-ghost use Rattle.mq_remote.specs.Totals.{AreSummed};
+ghost use Rattle.mq_remote.specs.Asked.{AreSummed, AsksAt, AsksEachOf, AsksReport, NamesReported};
+ghost use Rattle.mq_remote.specs.Asked.{ReportsBy, ReportsRows, ReportsThere, is_headed};
 
+use crate::subcommands::shares::{are_several, check_few};
 use crate::subcommands::sums::report_together;
 use log::sink::Console;
 use log::{LevelFilter, Logged};
@@ -18,7 +18,7 @@ use mq_command::{
 use mq_link::Link;
 use mq_process::{
     Dial, LoginArgument, ProcessFault, ReportArguments, TIMEOUT, ask_each, check_addresses,
-    day_named, end_process, found_servers, link_to, login_of, names_login, refused_login,
+    day_named, end_process, form_of, found_servers, link_to, login_of, names_login, refused_login,
     servers_or, tell_note,
 };
 use mq_request::bounds::LAST_DAY;
@@ -67,27 +67,20 @@ fn tell_note_of<E: Write>(
     }
 }
 
-/// In which form sums are printed: below a line that says what the columns are, or without one.
-fn form_of(is_headed: bool) -> Form
-    ensures { result ≡ form_of is_headed }
-{
-    if is_headed { Form::Shown } else { Form::Plain }
-}
-
-/// `report`: prints what one login, or all, or those that used most, used on a day. With
-/// `has_columns` a line above says what the columns are. Of several servers that settings name it
-/// prints the sums, in one table.
+/// `report`: prints what one login, or all, or those that used most, used on a day; on a terminal
+/// below a line that says what the columns are. Of several servers that settings name it prints the
+/// sums, in one table, unless each is to be shown, and as JSON always the sums.
 pub fn report<R: Files + Clock + Print + Eprint + AllocGlobal, D: Dial, E: Write>(
     rt: &R,
     dial: &D,
     given: ReportArguments<'_>,
-    has_columns: bool,
+    is_on_terminal: bool,
     errors: &mut E,
 ) -> Result<u8, ProcessFault>
     requires { IsReportArguments given }
     ensures refuses { ReportRefuses given.entry (λ fault. result ≡ Err fault) }
     ensures asks { IfOk result (AsksReport D.leads D.Link.told R.File.remaining given.entry
-        has_columns) }
+        is_on_terminal) }
 {
     if !given.login.is_none_or(|login| names_login(login)) {
         return Err(no_login(rt, given.login));
@@ -100,17 +93,29 @@ pub fn report<R: Files + Clock + Print + Eprint + AllocGlobal, D: Dial, E: Write
     let day = day_named(rt, given.day, given.config, LAST_DAY)?;
     let logins = reported_of(rt.alloc(), given.login, given.top)?;
     tell_note_of(rt.alloc(), &logins, errors)?;
-    let form = form_of(has_columns);
+    let form = form_of(given.output, is_on_terminal);
     let order = ReportOrder { day, logins, form };
-    report_by(rt, dial, words, servers, &order, has_columns, errors)
+    report_by(rt, dial, words, servers, &order, given.is_each, errors)
 }
 
-/// Whether the sums of servers are reported: of several, where the words name none.
-fn are_summed(words: &[&str], servers: &[&str]) -> bool
-    ensures { MatchBool result (AreSummed (map (λ s. s.now) words.now) (map (λ s. s.now) servers.now))
-        (¬ AreSummed (map (λ s. s.now) words.now) (map (λ s. s.now) servers.now)) }
+/// Whether the sums of servers are reported: as JSON, or of several where the words name none, unless
+/// they are to be shown apart.
+fn are_summed(form: Form, is_each: bool, words: &[&str], servers: &[&str]) -> bool
+    ensures { MatchBool result (AreSummed form is_each (map (λ s. s.now) words.now)
+        (map (λ s. s.now) servers.now)) (¬ AreSummed form is_each (map (λ s. s.now) words.now)
+        (map (λ s. s.now) servers.now)) }
 {
-    words.is_empty() && servers.len() > 1
+    match form {
+        Form::Json => true,
+        Form::Plain | Form::Shown => !is_each && are_several(words, servers),
+    }
+}
+
+/// Whether what a server has stands below a line of columns.
+fn is_headed(form: Form) -> bool
+    ensures { result ≡ is_headed form }
+{
+    matches!(form, Form::Shown)
 }
 
 /// Asks these servers what logins used on a day, and prints it: the sums of it, or what each has.
@@ -120,26 +125,44 @@ fn report_by<R: Print + Eprint + AllocGlobal, D: Dial, E: Write>(
     words: &[&str],
     servers: &[&str],
     order: &ReportOrder,
-    has_columns: bool,
+    is_each: bool,
     errors: &mut E,
 ) -> Result<u8, ProcessFault>
     requires servers { ¬ HasNoAddress (map (λ s. s.now) servers.now) }
-    requires few { map (λ s. s.now) words.now ≡ [] → length (map (λ s. s.now) servers.now) ≤ 4000 }
     requires day { IsDay order.now.day }
     requires logins { IsMeant order.now.logins }
-    ensures { IfOk result (ReportsBy D.leads D.Link.told order.now has_columns
+    ensures { IfOk result (ReportsBy D.leads D.Link.told order.now is_each
         (map (λ s. s.now) words.now) (map (λ s. s.now) servers.now)) }
 {
-    if are_summed(words, servers) {
+    if are_summed(order.form, is_each, words, servers) {
+        check_few(servers)?;
         return report_together(rt, dial, servers, order, errors);
     }
+    Ok(report_apart(rt, dial, servers, order, errors))
+}
+
+/// Asks these servers what logins used on a day, and prints what each has.
+fn report_apart<R: Print + Eprint + AllocGlobal, D: Dial, E: Write>(
+    rt: &R,
+    dial: &D,
+    servers: &[&str],
+    order: &ReportOrder,
+    errors: &mut E,
+) -> u8
+    requires servers { ¬ HasNoAddress (map (λ s. s.now) servers.now) }
+    requires day { IsDay order.now.day }
+    requires logins { IsMeant order.now.logins }
+    ensures { AsksEachOf D.leads D.Link.told (ReportsThere order.now.day order.now.logins
+        (is_headed order.now.form)) (map (λ s. s.now) servers.now) result }
+{
     let (day, reported) = (order.day, &order.logins);
-    Ok(ask_each(
+    let has_columns = is_headed(order.form);
+    ask_each(
         rt,
         servers,
         errors,
         |address, errors| report_at(rt, dial, address, day, reported, has_columns, errors),
-    ))
+    )
 }
 
 /// Asks the server at this address what these logins used on a day, and prints it. Where memory

@@ -5,9 +5,10 @@ ghost use Rattle.mq_command.specs.Allowing.{IsSetter};
 ghost use Rattle.mq_process.specs.Arguments.{IsResumeArguments, IsStopArguments, last_stop_day};
 ghost use Rattle.mq_process.specs.Refusals.{HasNoAddress, NamesLogin, OrderRefuses};
 ghost use Rattle.mq_remote.specs.Asked.{AsksAt, AsksEachOf, AsksResume, AsksStop, IsMeant};
-ghost use Rattle.mq_remote.specs.Asked.{IsSetterBy, ResumesThere};
+ghost use Rattle.mq_remote.specs.Asked.{IsSetterBy, ResumesBy, ResumesThere};
 ghost use Rattle.mq_remote.specs.Stops.{AsksUse, UseAt};
 
+use crate::subcommands::shares::{ShareOrder, ShareTask, are_several, check_few, share_number};
 use crate::subcommands::stopping::{ask_use, stop_everywhere};
 use log::sink::Console;
 use log::{LevelFilter, Logged};
@@ -26,7 +27,7 @@ use std::net::SocketAddr;
 use std::rt::{Clock, Files};
 
 /// The login whose limits are set, and the run of the host that sets them.
-fn setter_of(
+pub fn setter_of(
     alloc: Global,
     host: &str,
     run: u64,
@@ -147,7 +148,8 @@ fn has_sent_at_one<R: Eprint + AllocGlobal, D: Dial, E: Write>(
     }
 }
 
-/// `resume`: lets a login have more again.
+/// `resume`: lets a login have more again: a number of the words, which of several servers of
+/// settings is the first one's, or at each the limit that it had.
 pub fn resume<R: Files + Clock + Print + Eprint + AllocGlobal, D: Dial, E: Write>(
     rt: &R,
     dial: &D,
@@ -168,7 +170,40 @@ pub fn resume<R: Files + Clock + Print + Eprint + AllocGlobal, D: Dial, E: Write
     let run = run_number(rt, None)?;
     let setter = setter_of(rt.alloc(), given.host, run, given.login)?;
     tell_note(rt.alloc(), &login_of(rt.alloc(), given.login)?, errors)?;
-    Ok(resume_at_each(rt, dial, servers, &setter, day, given.cap, errors))
+    resume_by(rt, dial, words, servers, &setter, day, given.cap, errors)
+}
+
+/// Lets a login have more again at these servers: of several of settings each gets its share of the
+/// number.
+fn resume_by<R: Print + Eprint + AllocGlobal, D: Dial, E: Write>(
+    rt: &R,
+    dial: &D,
+    words: &[&str],
+    servers: &[&str],
+    setter: &Setter,
+    day: u32,
+    more: Option<u32>,
+    errors: &mut E,
+) -> Result<u8, ProcessFault>
+    requires servers { ¬ HasNoAddress (map (λ s. s.now) servers.now) }
+    requires setter { IsSetter setter.now }
+    requires day { IsWithin 0 last_stop_day day }
+    requires more { IfSome more IsAmount }
+    ensures { IfOk result (ResumesBy D.leads D.Link.told setter.now day more
+        (map (λ s. s.now) words.now) (map (λ s. s.now) servers.now)) }
+{
+    match more {
+        Some(number) => {
+            if are_several(words, servers) {
+                check_few(servers)?;
+                let order = ShareOrder::More;
+                let task = ShareTask { setter, day, order };
+                return Ok(share_number(rt, dial, servers, task, number, errors));
+            }
+            Ok(resume_at_each(rt, dial, servers, setter, day, more, errors))
+        }
+        None => Ok(resume_at_each(rt, dial, servers, setter, day, more, errors)),
+    }
 }
 
 /// Lets a login have more again at each of these servers, or the limit that it had.

@@ -9,6 +9,7 @@ ghost use Rattle.mq_remote.specs.Totals.{AsksTogether, InStep};
 use log::sink::Console;
 use log::{LevelFilter, Log, Logged};
 use mq_command::{ReportOrder, run_totals};
+use mq_dates::date_of_day;
 use mq_link::LoggedLink;
 use mq_process::{Dial, ProcessFault, address_of, link_to};
 use std::alloc::{AllocError, Global};
@@ -48,8 +49,8 @@ fn links_to<'a, D: Dial, G: Log>(
     Ok(links)
 }
 
-/// Asks all these servers what logins used on a day, and prints the sums of it as one table. It
-/// fails before it asks the first.
+/// Asks all these servers what logins used on a day, and prints the sums of it together. It fails
+/// before it asks the first.
 pub fn report_together<R: Print + Eprint + AllocGlobal, D: Dial, E: Write>(
     rt: &R,
     dial: &D,
@@ -57,7 +58,7 @@ pub fn report_together<R: Print + Eprint + AllocGlobal, D: Dial, E: Write>(
     order: &ReportOrder,
     errors: &mut E,
 ) -> Result<u8, ProcessFault>
-    requires few { length (map (λ s. s.now) servers.now) ≤ 4000 }
+    requires few { length servers.now ≤ 4000 }
     requires day { IsDay order.now.day }
     requires logins { IsMeant order.now.logins }
     ensures { IfOk result (AsksTogether D.leads D.Link.told order.now (map (λ s. s.now) servers.now)) }
@@ -75,11 +76,12 @@ fn report_sums<R: Eprint + AllocGlobal, D: Dial, W: Write, E: Write>(
     output: &mut W,
     errors: &mut E,
 ) -> Result<u8, ProcessFault>
-    requires few { length (map (λ s. s.now) servers.now) ≤ 4000 }
+    requires few { length servers.now ≤ 4000 }
     requires day { IsDay order.now.day }
     requires logins { IsMeant order.now.logins }
     ensures { IfOk result (AsksTogether D.leads D.Link.told order.now (map (λ s. s.now) servers.now)) }
 {
+    let date = date_of_day(rt.alloc(), order.day)?;
     let spelled = addresses_of(rt, servers)?;
     let addresses = spelled.as_slice();
     let logged = Logged::new(rt, LevelFilter::Error, Console(rt));
@@ -89,7 +91,7 @@ fn report_sums<R: Eprint + AllocGlobal, D: Dial, W: Write, E: Write>(
         links.as_mut_slice(),
         addresses,
         order,
-        "",
+        date.as_str(),
         output,
         errors,
     ))

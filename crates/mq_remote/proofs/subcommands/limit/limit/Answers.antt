@@ -1,6 +1,7 @@
 use Rattle.std.proofs.Common.{ap, map, rules, string_bytes}
-use Rattle.mq_remote.proofs.AskedSteps.{run_by, servers_asked, whom_of}
+use Rattle.mq_remote.proofs.AskedSteps.{limit_words, run_by, run_set, whom_of}
 use Rattle.mq_remote.proofs.RefusalSteps.{order_refused}
+use Rattle.mq_remote.proofs.TotalSteps.{if_ok}
 use Rattle.mq_remote.proofs.subcommands.limit.limit.Goals as goal
 
 pub returns-in_err-checked-clause-refuses : goal.returns-in_err-checked-clause-refuses
@@ -8,12 +9,13 @@ returns-in_err-checked-clause-refuses g c =
     order_refused c.args.given.host.now c.args.given.login _ c.args.given.servers c.checked.result c.in_err-checked.field-0.0 _ c.as_slice-words.ensures c.in_err-checked.was c.from_residual.ensures.1 c.checked.ensures.refuses
 
 pub returns-clause-asks : goal.returns-clause-asks
-returns-clause-asks g c = record {
+returns-clause-asks g c = if_ok c.limit_by.result (λ status asked. record {
   servers = (map (λ s. s.now) c.as_slice-servers.result.now);
   whom = whom_of _ _ _ _ _ _ _ _ c.as_slice-words.ensures (ap (map string_bytes) c.as_slice.ensures.value) c.in_ok-found.ensures.found c.in_ok-chosen.ensures.servers (ap (map (λ s. s.now)) c.as_slice-servers.ensures.value);
-  day = c.in_ok-from_day.from_day;
-  from = c.in_ok-from_day.ensures.day;
-  run = c.in_ok-run.run';
-  is_run = run_by _ c.args.given.run c.in_ok-run.run' _ c.in_ok-run.was (search rules) c.in_ok-run.ensures.run c.in_ok-run.ensures.clock;
-  asked = servers_asked _ _ (λ address said after k. let called = k.2 in search rules) c.ask_each.ensures.1;
-}
+  day = c.in_ok-day.day;
+  from = c.in_ok-day.ensures.day;
+  setter = c.in_ok-setter.setter;
+  is_setter = c.in_ok-setter.ensures.setter;
+  is_run = run_set _ c.args.given.run c.in_ok-setter.setter.run c.in_ok-run.run' c.in_ok-setter.ensures.run (run_by _ c.args.given.run c.in_ok-run.run' _ c.in_ok-run.was (search rules) c.in_ok-run.ensures.run c.in_ok-run.ensures.clock);
+  asked = limit_words _ _ _ _ _ _ _ _ _ _ _ (search rules) c.as_slice-words.ensures asked;
+}) c.limit_by.ensures

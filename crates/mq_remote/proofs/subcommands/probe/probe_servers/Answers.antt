@@ -2,7 +2,7 @@ use Rattle.std.proofs.Common.{Bor, List, None, ap, map, rules, string_bytes, sub
 use Rattle.mq_process.specs.Refusals.{HasNoAddress}
 use Rattle.mq_remote.specs.Asked.{AsksAbout}
 use Rattle.mq_remote.proofs.RefusalSteps.{probe_right}
-use Rattle.mq_remote.proofs.AskedSteps.{servers_asked, whom_of}
+use Rattle.mq_remote.proofs.AskedSteps.{asked_in_turn, bare_so, whom_of}
 use Rattle.mq_remote.proofs.subcommands.probe.probe_servers.Goals as goal
 
 pub returns-clause-asks : goal.returns-clause-asks
@@ -11,7 +11,7 @@ returns-clause-asks g c = record {
   whom = whom_of {X = Bor (List ℕ)} g.R.File.Read.remaining None _ _ _ _ _ _ c.as_slice-words.ensures (ap (map string_bytes) c.as_slice.ensures.value) c.in_ok-found.ensures.found c.in_ok-chosen.ensures.servers (ap (map (λ s. s.now)) c.as_slice-servers.ensures.value);
   question = c.in_ok-question.question;
   about = subst (λ h. AsksAbout h c.in_ok-question.question) (search rules) c.in_ok-question.ensures.about;
-  asked = servers_asked _ _ (λ address said after k. let called = k.2 in search rules) c.ask_each.ensures.1;
+  asked = bare_so _ _ _ _ _ _ c.is_bare.ensures (search rules) (asked_in_turn _ _ _ (λ address said after k. let called = k.2 in search rules) c.ask_in_turn.ensures.1);
 }
 
 pub returns-in_err-host-clause-refuses : goal.returns-in_err-host-clause-refuses

@@ -1,12 +1,9 @@
-use Rattle.std.proofs.Common.{ap, map, refl, rules, string_bytes, subst}
+use Rattle.std.proofs.Common.{ap, map, rules, string_bytes, subst}
 use Rattle.mq_process.specs.Refusals.{HasNoAddress}
 use Rattle.mq_remote.proofs.RefusalSteps.{report_right}
 use Rattle.mq_remote.proofs.AskedSteps.{whom_of}
-use Rattle.mq_remote.proofs.TotalSteps.{few_asked, if_ok, reported_so}
+use Rattle.mq_remote.proofs.TotalSteps.{if_ok, reported_so}
 use Rattle.mq_remote.proofs.subcommands.report.report.Goals as goal
-
-pub report_by-requires-clause-few : goal.report_by-requires-clause-few
-report_by-requires-clause-few g c = few_asked _ _ _ _ (whom_of _ _ _ _ _ _ _ _ refl (ap (map string_bytes) c.as_slice.ensures.value) c.in_ok-found.ensures.found c.in_ok-chosen.ensures.servers (ap (map (λ s. s.now)) c.as_slice-servers.ensures.value))
 
 pub returns-clause-asks : goal.returns-clause-asks
 returns-clause-asks g c = if_ok c.report_by.result (λ status asked. record {
@@ -16,7 +13,7 @@ returns-clause-asks g c = if_ok c.report_by.result (λ status asked. record {
   on = c.in_ok-day.ensures.day;
   reported = _;
   named = c.in_ok-logins.ensures.named;
-  asked = reported_so _ _ _ _ _ _ _ _ _ _ c.form_of-form.ensures c.as_slice-words.ensures asked;
+  asked = reported_so _ _ _ _ _ _ _ _ _ _ _ c.form_of-form.ensures c.as_slice-words.ensures asked;
 }) c.report_by.ensures
 
 pub returns-in_err-day-clause-refuses : goal.returns-in_err-day-clause-refuses

@@ -1,5 +1,0 @@
-use Rattle.mq_remote.proofs.AskedSteps.{asked_or_not}
-use Rattle.mq_remote.proofs.subcommands.limit.limit_at.Goals as goal
-
-pub returns : goal.returns
-returns g c = asked_or_not _ _ _ _ _ _ c.ask_limit.ensures.asks c.ask_limit.ensures.memory c.end_process.ensures

@@ -1,0 +1,125 @@
+-- Limits that each server gets by its own default: its share of a number, or the default itself.
+use Rattle.std.specs.Prelude.{◌≡◌, ◌⊎◌, ◌<◌, ◌+◌, ◌==◌, ℕ, List, [], ◌∷◌, Bool, true, false, Option, None, Some, Result, Ok, Err, length, max, ⊤}
+use Rattle.std.specs.Io.KnownBytes.{Keeps}
+use Rattle.std.specs.Net.Grammar.{IsSocketText}
+use Rattle.std.specs.declared.net.SocketAddr.{SocketAddr}
+use Rattle.mq_request.specs.Range.{IsAmount}
+use Rattle.mq_request.specs.declared.message.Request.{Request}
+use Rattle.mq_link.specs.declared.link.ReportedExchange.{ReportedExchange}
+use Rattle.mq_command.specs.Allowing.{limit_of, resumed_line}
+use Rattle.mq_command.specs.Orders.{Orders, OrdersFresh, Prints, PrintsLine}
+use Rattle.mq_command.specs.Printed.{heading_line}
+use Rattle.mq_command.specs.Shares.{AsksDefault, cap_of, set_line, share_of, sum_line}
+use Rattle.mq_command.specs.Stopping.{GivesMore}
+use Rattle.mq_command.specs.declared.allow.Setter.{Setter}
+use Rattle.mq_command.specs.declared.ask.NoAnswer.{NoAnswer}
+use Rattle.mq_command.specs.declared.order.OrderFault.{OrderFault}
+use Rattle.mq_process.specs.Links.{AsksOver}
+use Rattle.mq_process.specs.declared.asking.TheConstants.{TIMEOUT}
+use Rattle.mq_remote.specs.declared.subcommands.shares.ShareOrder.{ShareOrder}
+use Rattle.mq_remote.specs.declared.subcommands.shares.ShareOrder.TheVariants.{Numbered, Fresh, More}
+use Rattle.mq_remote.specs.declared.subcommands.shares.ShareRule.{ShareRule}
+use Rattle.mq_remote.specs.declared.subcommands.shares.ShareRule.TheVariants.{Part, Default}
+
+-- the words name no server, and there are several
+abbrev pub AreSeveral : List (List ℕ) → List (List ℕ) → Type 0
+AreSeveral words servers = (words ≡ []) × (1 < length servers)
+
+-- the numbers of a rule are 0 to 1,000,000
+abbrev pub IsRule : ShareRule → Type 0
+IsRule (Part number first) = IsAmount number × IsAmount first
+IsRule Default = ⊤
+
+-- a server's share by its default: as large a part of the number as that is of the first server's default, or the default itself
+abbrev pub share_by : ShareRule → ℕ → ℕ
+share_by (Part number first) default = share_of number default first
+share_by Default default = default
+
+-- a limit was sent to the server of this name, under its number alone or under the first one that isn't used, and printed with it
+abbrev pub SetsShare : Bool → Request → List ℕ → ℕ → Option (List ReportedExchange) → Option (List ReportedExchange) → Option (List ℕ) → Option (List ℕ) → Type 0
+SetsShare true request server status old new output output' =
+    (sent : Result (Unit {0}) OrderFault) × Orders request old new sent × Prints (λ _. set_line (cap_of request) server) output output' sent status
+SetsShare false request server status old new output output' =
+    (sent : Result (Unit {0}) OrderFault) × OrdersFresh request old new sent × Prints (λ _. set_line (cap_of request) server) output output' sent status
+
+-- the login was to have so many more from this day on, and that was printed below a line that names the server
+abbrev pub GivesMoreAt : Setter → ℕ → List ℕ → ℕ → ℕ → Option (List ReportedExchange) → Option (List ReportedExchange) → Option (List ℕ) → Option (List ℕ) → Type 0
+GivesMoreAt setter day server more status old new output output' =
+    (headed : Option (List ℕ)) × (told said : ℕ) × (ended : Result ℕ OrderFault) × PrintsLine (heading_line server) output headed told
+    × GivesMore setter day more old new ended × Prints (λ cap. resumed_line setter.login cap day) headed output' ended said
+    × (status ≡ max told said)
+
+-- the server of this name was asked for a share of a login's
+abbrev pub GivesShare : ShareOrder → Setter → ℕ → List ℕ → ℕ → ℕ → Option (List ReportedExchange) → Option (List ReportedExchange) → Option (List ℕ) → Option (List ℕ) → Type 0
+GivesShare Numbered setter day server share = SetsShare true (limit_of setter 1 day share) server
+GivesShare Fresh setter day server share = SetsShare false (limit_of setter 1 day share) server
+GivesShare More setter day server share = GivesMoreAt setter day server share
+
+-- The server was asked for its default, and then for the share by it, which it gave, or for which the status isn't 0; or it gave no
+-- answer to the first.
+abbrev pub SharesThere : ShareOrder → Setter → ℕ → ShareRule → List ℕ → Option ℕ → Option (List ReportedExchange) → Option (List ReportedExchange) → Option (List ℕ) → Option (List ℕ) → Type 0
+SharesThere order setter day rule server (Some share) old new output output' =
+    (default : ℕ) × (asked : Option (List ReportedExchange)) × AsksDefault day old asked (Ok default) × (share ≡ share_by rule default)
+    × GivesShare order setter day server share 0 asked new output output'
+SharesThere order setter day rule server None old new output output' =
+    ((fault : NoAnswer) × AsksDefault day old new (Err fault) × Keeps output output')
+    ⊎ ((default status : ℕ) × (asked : Option (List ReportedExchange)) × AsksDefault day old asked (Ok default) × (0 < status)
+    × GivesShare order setter day server (share_by rule default) status asked new output output')
+
+-- the server at an address was asked so
+abbrev pub SharesAt : {L : Type 0} → (L → SocketAddr → ℕ → Type 0) → (L → Option (List ReportedExchange)) → ShareOrder → Setter → ℕ → ShareRule
+    → List ℕ → SocketAddr → Option ℕ → Type 0
+SharesAt leads told order setter day rule server address share =
+    AsksOver leads told address TIMEOUT (SharesThere order setter day rule server share)
+
+-- 1 where a server gave no share, and else as before
+abbrev pub status_with : Option ℕ → ℕ → ℕ
+status_with (Some share) status = status
+status_with None status = 1
+
+-- with the share of a server that gave it
+abbrev pub sum_with : Option ℕ → ℕ → ℕ
+sum_with (Some share) sum = sum + share
+sum_with None sum = sum
+
+-- The servers at these addresses were asked so in turn, each once, in this order, whatever the ones before said, which led to this
+-- status and to this sum of what they gave.
+pub data SharesEach (At : List ℕ → SocketAddr → Option ℕ → Type 0) (status sum : ℕ) : List (List ℕ) → ℕ → ℕ → Type 0 where
+  all_shared : SharesEach At status sum [] status sum
+  one_shared : (text : List ℕ) (texts : List (List ℕ)) (address : SocketAddr) (share : Option ℕ) (so_far so_much : ℕ)
+      → IsSocketText text address → At text address share → SharesEach At status sum texts (status_with share so_far) (sum_with share so_much)
+      → SharesEach At status sum (text ∷ texts) so_far so_much
+
+-- the sum is printed where several servers gave their shares
+abbrev pub EndsShares : Bool → ℕ → ℕ → ℕ → Type 0
+EndsShares is_alone so_far sum status =
+    ((is_alone ≡ true) × (status ≡ so_far))
+    ⊎ (((0 < so_far) × (status ≡ so_far))
+    ⊎ ((so_far ≡ 0) × (output output' : Option (List ℕ)) × PrintsLine (sum_line sum) output output' status))
+
+-- What asking servers for their shares leads to.
+abbrev pub SharesAmong : {L : Type 0} → (L → SocketAddr → ℕ → Type 0) → (L → Option (List ReportedExchange)) → ShareOrder → Setter → ℕ → ShareRule
+    → List (List ℕ) → ℕ → Type 0
+SharesAmong leads told order setter day rule servers status =
+    (so_far sum : ℕ) × SharesEach (SharesAt leads told order setter day rule) so_far sum servers 0 0
+    × EndsShares (length servers == 1) so_far sum status
+
+-- a server's default, or none where it gave no answer
+abbrev pub DefaultAt : ℕ → Option ℕ → Option (List ReportedExchange) → Option (List ReportedExchange) → Option (List ℕ) → Option (List ℕ) → Type 0
+DefaultAt day (Some default) old new output output' = AsksDefault day old new (Ok default)
+DefaultAt day None old new output output' = (fault : NoAnswer) × AsksDefault day old new (Err fault)
+
+-- what follows, by the default of the first server
+abbrev pub SharesBy : {L : Type 0} → (L → SocketAddr → ℕ → Type 0) → (L → Option (List ReportedExchange)) → ShareOrder → Setter → ℕ → ℕ
+    → List (List ℕ) → Option ℕ → ℕ → Type 0
+SharesBy leads told order setter day number servers (Some first) status = SharesAmong leads told order setter day (Part number first) servers status
+SharesBy leads told order setter day number servers None status = status ≡ 1
+
+-- What asking servers for their shares of a number leads to: the first is asked for its default, and where it gives none no other
+-- is asked.
+abbrev pub SharesNumber : {L : Type 0} → (L → SocketAddr → ℕ → Type 0) → (L → Option (List ReportedExchange)) → ShareOrder → Setter → ℕ → ℕ
+    → List (List ℕ) → ℕ → Type 0
+SharesNumber leads told order setter day number [] status = status ≡ 1
+SharesNumber leads told order setter day number (server ∷ others) status =
+    (address : SocketAddr) × (first : Option ℕ) × IsSocketText server address × AsksOver leads told address TIMEOUT (DefaultAt day first)
+    × SharesBy leads told order setter day number (server ∷ others) first status
