@@ -10,18 +10,19 @@ use Rattle.mq_server.specs.Delivery.{HasGrown, arrivals}
 use Rattle.mq_server.specs.Held.{State}
 use Rattle.mq_chore.specs.Choring.{HasCome, Fitted}
 use Rattle.mq_server.proofs.Deliveries.{taken}
+use Rattle.mq_connections.specs.Gained.{Callers}
 use Rattle.mq_connections.specs.Sessions.{GoesOn, GoesOnOrStops, Outside}
 use Rattle.mq_connections.specs.Wires.{Wire}
 
-pub goes_alongside : (old : Outside) (a b : Book) (told told' : Option (List ReportedCall)) (wires : ℕ → Wire) (last : ℕ) (held : ℕ → Option State) (failed : Option Request)
+pub goes_alongside : {who : Callers} (old : Outside) (a b : Book) (told told' : Option (List ReportedCall)) (wires : ℕ → Wire) (last : ℕ) (held : ℕ → Option State) (failed : Option Request)
     → b.zone ≡ a.zone → b.default ≡ a.default → b.history ≡ a.history → told' ≡ told
-    → GoesOn old (record { book = a; told = told; wires = wires }) last held failed
-    → GoesOn old (record { book = b; told = told'; wires = wires }) last held failed
-goes_alongside old a b told told' wires last held failed zone default history same goes =
+    → GoesOn who old (record { book = a; told = told; wires = wires }) last held failed
+    → GoesOn who old (record { book = b; told = told'; wires = wires }) last held failed
+goes_alongside {who} old a b told told' wires last held failed zone default history same goes =
     let book : b ≡ a = λ i. record { zone = zone i; default = default i; history = history i } in
     let out : Outside = record { book = b; told = told'; wires = wires } in
     let path : out ≡ record { book = a; told = told; wires = wires } = λ i. record { book = book i; told = same i; wires = wires } in
-    subst (λ (o : Outside). GoesOn old o last held failed) (sym path) goes
+    subst (λ (o : Outside). GoesOn who old o last held failed) (sym path) goes
 
 abbrev fault_of : (A : Type 0) {E : Type 0} → E → Result A E
 fault_of A x = Err x
@@ -30,8 +31,8 @@ err_inj : (A : Type 0) {E : Type 0} (x y : E) → fault_of A x ≡ fault_of A y 
 err_inj A x y is = cc
 
 -- an end by a fault is one whatever would have been answered
-pub goes_at : {A B E : Type 0} (old new : Outside) (last : ℕ) (held : ℕ → Option State) (store fault : E)
-    → GoesOnOrStops old new last held store (fault_of A fault) → GoesOnOrStops old new last held store (fault_of B fault)
+pub goes_at : {A B E : Type 0} {who : Callers} (old new : Outside) (last : ℕ) (held : ℕ → Option State) (store fault : E)
+    → GoesOnOrStops who old new last held store (fault_of A fault) → GoesOnOrStops who old new last held store (fault_of B fault)
 goes_at {A} {B} {E} old new last held store fault g = record {
   failed = g.failed;
   goes = g.goes;

@@ -1,6 +1,6 @@
 -- What histories gain, one after the other.
 use Rattle.std.proofs.Common.{◌≡◌, ℕ, List, [], ◌∷◌, ◌++◌, refl, sym, ap, subst, ◌∙◌, append-nil, append_assoc, Bool, true, false, IsTrue}
-use Rattle.std.specs.Prelude.{Option, Some, None, Result, Ok, Err, OnOk, OnErr, map, if◌then◌else◌}
+use Rattle.std.specs.Prelude.{Option, Some, None, Result, Ok, Err, OnOk, OnErr, cond, filter, if◌then◌else◌}
 use Rattle.std.specs.Borrow.{Bor}
 use Rattle.std.specs.List.{AllByRecursion}
 use Rattle.mq_lemmas.proofs.Booleans.{both_parts}
@@ -18,13 +18,12 @@ use Rattle.mq_ledger.proofs.Numbers.{legal_again, one_more}
 use Rattle.mq_permits.specs.declared.peer.Peer.{Peer}
 use Rattle.mq_permits.specs.declared.permits.Permits.{Permits}
 use Rattle.mq_watch.specs.Allowed.{may_each_ask}
+use Rattle.mq_server.specs.Delivery.{Delivery, arrivals, asked}
 use Rattle.mq_server.specs.Held.{State}
-use Rattle.std.specs.BTreeMap.{BTreeMap, get}
-use Rattle.std.specs.Option.{option_map}
-use Rattle.std.specs.Ordering.{nat_cmp}
-use Rattle.mq_connections.specs.Asking.{StandEach, peer_of}
-use Rattle.mq_connections.specs.declared.opened.OpenConnection.{OpenConnection}
-use Rattle.mq_connections.specs.Gained.{Gains, OneMayAsk, SomebodyMayAsk}
+use Rattle.mq_server.specs.Life.{AreAnswered, Exchange, deliveries}
+use Rattle.mq_connections.specs.Asking.{ArePeers, MayEachCome, StandEach}
+use Rattle.mq_connections.specs.Gained.{Gains, IsAmong, callers}
+use Rattle.mq_connections.specs.Wires.{IsKnownAs}
 
 pub gains_none : {Is : Request → Type 0} (H : List Entry) → Gains Is H H
 gains_none H = record { gained = []; is = sym (append-nil H); each = tt }
@@ -79,38 +78,78 @@ pub gains_answered : {Is : Request → Type 0} (b : Book) (H : List Entry) (r : 
 gains_answered {Is} b H r (Ok a) legal taken lost may = subst (λ (q : List Entry). Gains Is b.history q) (sym taken) (gains_all b (r ∷ []) legal (may, tt))
 gains_answered {Is} b H r (Err e) legal taken lost may = subst (λ (q : List Entry). Gains Is b.history q) (sym lost) (gains_none b.history)
 
--- ---- requests that were taken together
+-- ---- what was gained of exchanges
 
-no_pair : (o : Option Peer) (os : List (Option Peer)) → o ∷ os ≡ [] → ⊥
-no_pair o os same = cc
+abbrev rest_of : List Entry → List Entry
+rest_of [] = []
+rest_of (x ∷ xs) = xs
 
-abbrev head_or : Option Peer → List (Option Peer) → Option Peer
-head_or d [] = d
-head_or d (x ∷ xs) = x
+same_end : (a g h : List Entry) → a ++ g ≡ a ++ h → g ≡ h
+same_end [] g h is = is
+same_end (x ∷ a) g h is = same_end a g h (ap rest_of is)
 
-abbrev tail_of : List (Option Peer) → List (Option Peer)
-tail_of [] = []
-tail_of (x ∷ xs) = xs
+each_both : (P Q : Request → Type 0) (xs : List Entry) → AllByRecursion (λ e. P e.request) xs → AllByRecursion (λ e. Q e.request) xs → AllByRecursion (λ e. P e.request × Q e.request) xs
+each_both P Q [] p q = tt
+each_both P Q (x ∷ xs) p q = ((p.0, q.0), each_both P Q xs p.1 q.1)
+
+gains_both : {P Q : Request → Type 0} (a b : List Entry) → Gains P a b → Gains Q a b → Gains (λ r. P r × Q r) a b
+gains_both {P} {Q} a b g h = record {
+  gained = g.gained;
+  is = g.is;
+  each = each_both P Q g.gained g.each (subst (λ (q : List Entry). AllByRecursion (λ e. Q e.request) q) (same_end a h.gained g.gained (sym h.is ∙ g.is)) h.each);
+}
+
+-- each request that was taken is one of those that came
+each_front : (r : Request) (rs xs : List Request) → AllByRecursion (IsAmong rs) xs → AllByRecursion (IsAmong (r ∷ rs)) xs
+each_front r rs [] all = tt
+each_front r rs (x ∷ xs) all = ((r ∷ all.0.0, all.0.1, ap (λ (q : List Request). r ∷ q) all.0.2), each_front r rs xs all.1)
+
+among_more : (d : Delivery) (ds : List Delivery) (b : Bool) → AllByRecursion (IsAmong (asked ds)) (arrivals ds) → AllByRecursion (IsAmong (d.request ∷ asked ds)) (asked (cond b (d ∷ filter (λ x. x.taken) ds) (filter (λ x. x.taken) ds)))
+among_more d ds true all = (([], asked ds, refl), each_front d.request (asked ds) (arrivals ds) all)
+among_more d ds false all = each_front d.request (asked ds) (arrivals ds) all
+
+each_among : (ds : List Delivery) → AllByRecursion (IsAmong (asked ds)) (arrivals ds)
+each_among [] = tt
+each_among (d ∷ ds) = among_more d ds d.taken (each_among ds)
+
+pub gains_among : {Is : Request → Type 0} (b : Book) (H : List Entry) (xs : List Exchange) → IsLegalBook b → AreAnswered b xs H → Gains Is b.history H → Gains (λ r. Is r × IsAmong (asked (deliveries xs)) r) b.history H
+gains_among b H xs legal answered g = gains_both b.history H g (gains_as b.history _ H (sym answered.after) (gains_all b (arrivals (deliveries xs)) legal (each_among (deliveries xs))))
+
+-- one of a part is one of all
+asked_both : (xs ys : List Exchange) → asked (deliveries (xs ++ ys)) ≡ asked (deliveries xs) ++ asked (deliveries ys)
+asked_both [] ys = refl
+asked_both (x ∷ xs) ys = ap (λ (q : List Request). x.delivery.request ∷ q) (asked_both xs ys)
+
+pub came_later : (before more all : List Exchange) → all ≡ before ++ more → (r : Request) → IsAmong (asked (deliveries before)) r → IsAmong (asked (deliveries all)) r
+came_later before more all is r a =
+    let rs = asked (deliveries more) in
+    (a.0, a.1 ++ rs, ap (λ (q : List Exchange). asked (deliveries q)) is ∙ asked_both before more ∙ ap (λ (q : List Request). q ++ rs) a.2 ∙ append_assoc a.0 (r ∷ a.1) rs)
+
+pub came_now : (before more all : List Exchange) → all ≡ before ++ more → (r : Request) → IsAmong (asked (deliveries more)) r → IsAmong (asked (deliveries all)) r
+came_now before more all is r a =
+    let rs = asked (deliveries before) in
+    (rs ++ a.0, a.1, ap (λ (q : List Exchange). asked (deliveries q)) is ∙ asked_both before more ∙ ap (λ (q : List Request). rs ++ q) a.2 ∙ sym (append_assoc rs a.0 (r ∷ a.1)))
+
+-- ---- requests that are taken together
 
 -- each of them is one that the peer of its connection may ask
-pub each_asked : (permits : Option (Bor Permits)) (peers : ℕ → Option Peer) (connections : ℕ → Option State) (ns : List ℕ) (ps : List Peer) (rs : List Request)
-    → map peers ns ≡ map Some ps → StandEach connections ns rs → IsTrue (may_each_ask permits ps rs) → AllByRecursion (OneMayAsk permits peers) rs
-each_asked permits peers connections ns ps [] same stand may = tt
-each_asked permits peers connections [] ps (r ∷ rs) same stand may = absurd stand
-each_asked None peers connections (n ∷ ns) [] (r ∷ rs) same stand may = absurd (no_pair (peers n) (map peers ns) same)
-each_asked None peers connections (n ∷ ns) (p ∷ ps) (r ∷ rs) same stand may =
-    ((n, p, ap (head_or None) same, refl), each_asked None peers connections ns ps rs (ap tail_of same) stand.2 refl)
-each_asked (Some permits) peers connections (n ∷ ns) [] (r ∷ rs) same stand may = absurd (no_pair (peers n) (map peers ns) same)
-each_asked (Some permits) peers connections (n ∷ ns) (p ∷ ps) (r ∷ rs) same stand may =
-    ((n, p, ap (head_or None) same, (both_parts _ _ may).0), each_asked (Some permits) peers connections ns ps rs (ap tail_of same) stand.2 (both_parts _ _ may).1)
+pub may_each_come : (permits : Option (Bor Permits)) (peers : ℕ → Option Peer) (connections : ℕ → Option State) (ns : List ℕ) (ps : List Peer) (rs : List Request)
+    → ArePeers peers ns ps → StandEach connections ns rs → IsTrue (may_each_ask permits ps rs) → MayEachCome (callers permits peers) ns rs
+may_each_come permits peers connections [] ps [] are stand may = tt
+may_each_come permits peers connections (n ∷ ns) ps [] are stand may = absurd stand
+may_each_come permits peers connections [] ps (r ∷ rs) are stand may = absurd stand
+may_each_come permits peers connections (n ∷ ns) [] (r ∷ rs) are stand may = absurd are
+may_each_come None peers connections (n ∷ ns) (p ∷ ps) (r ∷ rs) are stand may =
+    ((p, are.0, refl), may_each_come None peers connections ns ps rs are.1 stand.2 refl)
+may_each_come (Some permits) peers connections (n ∷ ns) (p ∷ ps) (r ∷ rs) are stand may =
+    ((p, are.0, (both_parts _ _ may).0), may_each_come (Some permits) peers connections ns ps rs are.1 stand.2 (both_parts _ _ may).1)
 
--- whoever one of them is, there is one
-pub somebody : (permits : Option (Bor Permits)) (peers : ℕ → Option Peer) (r : Request) → OneMayAsk permits peers r → SomebodyMayAsk permits r
-somebody permits peers r one = (one.1, one.3)
-
--- the peer of a connection that is open
-pub peer_here : (connections : BTreeMap ℕ OpenConnection) (n : ℕ) (o : OpenConnection) → Some o ≡ get nat_cmp connections n → peer_of connections n ≡ Some o.peer
-peer_here connections n o found = ap (option_map (λ (x : OpenConnection). x.peer)) (sym found)
+-- the peers of connections, and that of one more
+pub peers_more : (peers : ℕ → Option Peer) (ns : List ℕ) (ps : List Peer) (n : ℕ) (p : Peer) → IsKnownAs (peers n) p → ArePeers peers ns ps → ArePeers peers (ns ++ n ∷ []) (ps ++ p ∷ [])
+peers_more peers [] [] n p is are = (is, tt)
+peers_more peers [] (q ∷ ps) n p is are = absurd are
+peers_more peers (m ∷ ns) [] n p is are = absurd are
+peers_more peers (m ∷ ns) (q ∷ ps) n p is are = (are.0, peers_more peers ns ps n p is are.1)
 
 pub ok_so : {A E P Q : Type 0} (answer : Result A E) → (P → Q) → OnOk answer P → OnOk answer Q
 ok_so (Ok a) f p = f p

@@ -30,10 +30,12 @@ use Rattle.mq_server.specs.Delivery.{failed_call}
 use Rattle.mq_server.specs.Held.{State}
 use Rattle.mq_server.specs.Life.{AreAnswered, StandsNext, taken, told_of}
 use Rattle.mq_server.proofs.Deliveries.{history_none}
-use Rattle.mq_connections.specs.Asking.{Gives, GoesOnBy, Left, StandEach, StandsOn, book_with, out}
+use Rattle.mq_connections.specs.Gained.{Callers, MayCome}
+use Rattle.mq_connections.specs.Asking.{Gives, GoesOnBy, Left, MayEachCome, StandEach, StandsOn, book_with, out}
 use Rattle.mq_connections.specs.Sessions.{GoesOn, Outside, all_of}
 use Rattle.mq_connections.specs.Turns.{Turns}
 use Rattle.mq_connections.specs.Wires.{AreOffered, Wire}
+use Rattle.mq_connections.proofs.Gaining.{gains_all}
 use Rattle.mq_connections.proofs.Standing.{TurnOf, closed_turn, goes_on, goes_open}
 use Rattle.mq_connections.proofs.Turning.{Follow, Works, answered_room, answered_works, carries_none, none_few, shuts_none, turned}
 
@@ -101,13 +103,13 @@ given_turn b r a wire c now legal is stands closed by =
     (record { failed = None; told = tt; ends = λ some. absurd (false_true some); only = λ not end. absurd (answered_works end) })
     (λ l here. let it = by r stands l here in (it.0, it.1, tt)) (λ _. refl) none_few (λ _. refl) (Consumes-nil wire.remaining) (Appends-nil wire.contents) (shuts_none c now wire.remaining [] closed) (carries_none now)
 
-pub one_given : Follow → (old : Outside) (b : Book) (wires : ℕ → Wire) (last number : ℕ) (r : Request) (a : Reply) (held still : ℕ → Option State) (c now : State)
+pub one_given : {who : Callers} → Follow → (old : Outside) (b : Book) (wires : ℕ → Wire) (last number : ℕ) (r : Request) (a : Reply) (held still : ℕ → Option State) (c now : State)
     → IsLegalBook b → held number ≡ Some c → StandsNext (Some r) c.rest → a ≡ reply (day_of b.zone) b.default b.history r → now.is_closed ≡ c.is_closed → now.end ≢ Some (Err Store) → GoesOnBy c now a
-    → still number ≡ Some now → ((n : ℕ) → n ≢ number → still n ≡ held n)
-    → GoesOn old (out b wires) last held None → GoesOn old (out (book_with b (r ∷ [])) wires) last still None
-one_given follow old b wires last number r a held still c now legal here stands is closed works by there others g =
-    let turn : TurnOf (out b wires) (out (book_with b (r ∷ [])) wires) number Answered c now =
-    record { zone = refl; default = refl; legal = legal; turn = given_turn b r a (wires number) c now legal is stands closed by; others_same = λ n not. refl } in
+    → still number ≡ Some now → ((n : ℕ) → n ≢ number → still n ≡ held n) → MayCome who number r
+    → GoesOn who old (out b wires) last held None → GoesOn who old (out (book_with b (r ∷ [])) wires) last still None
+one_given {who} follow old b wires last number r a held still c now legal here stands is closed works by there others may g =
+    let turn : TurnOf who (out b wires) (out (book_with b (r ∷ [])) wires) number Answered c now =
+    record { zone = refl; default = refl; legal = legal; turn = given_turn b r a (wires number) c now legal is stands closed by; others_same = λ n not. refl; gains = gains_all b (r ∷ []) legal (may, tt) } in
     goes_open old (out b wires) (out (book_with b (r ∷ [])) wires) number last Answered c now held g here turn follow still answered_works answered_room (λ _. works) others there
 
 -- ---- all of them
@@ -144,11 +146,11 @@ stand_more connections (m ∷ ns) (x ∷ rs) n r none here (first, unlike, rest)
     (first, any_push ns m n unlike (eq_sym m n both.0), stand_more connections ns rs n r both.1 here rest)
 
 -- none is left
-left_end : (old : Outside) (wires : ℕ → Wire) (last : ℕ) (held : ℕ → Option State) (end b : Book) (rs : List Request) → IsLegalBook b → StandEach held [] rs → GoesOn old (out b wires) last held None → book_with b rs ≡ end → GoesOn old (out end wires) last held None
-left_end old wires last held end b [] legal e g is = subst (λ (k : Book). GoesOn old (out k wires) last held None) (sym (with_none b legal) ∙ is) g
+left_end : {who : Callers} (old : Outside) (wires : ℕ → Wire) (last : ℕ) (held : ℕ → Option State) (end b : Book) (rs : List Request) → IsLegalBook b → StandEach held [] rs → GoesOn who old (out b wires) last held None → book_with b rs ≡ end → GoesOn who old (out end wires) last held None
+left_end {who} old wires last held end b [] legal e g is = subst (λ (k : Book). GoesOn who old (out k wires) last held None) (sym (with_none b legal) ∙ is) g
 left_end old wires last held end b (r ∷ rs) legal e g is = absurd e
 
-pub left_none : (old : Outside) (wires : ℕ → Wire) (last : ℕ) (held : ℕ → Option State) (said : List Reply) (end : Book) → Left old wires last held [] said end → GoesOn old (out end wires) last held None
+pub left_none : {who : Callers} (old : Outside) (wires : ℕ → Wire) (last : ℕ) (held : ℕ → Option State) (said : List Reply) (end : Book) → Left who old wires last held [] said end → GoesOn who old (out end wires) last held None
 left_none old wires last held said end l = left_end old wires last held end l.book l.arrivals l.legal l.stand l.goes l.ends
 
 -- a reply is there for each
@@ -156,7 +158,7 @@ short_by : (day : ℕ → ℕ) (default : ℕ) (A rs : List Request) (held : ℕ
 short_by day default A [] held n ns e is = e
 short_by day default A (r ∷ rs) held n ns e is = cc
 
-pub left_short : (old : Outside) (wires : ℕ → Wire) (last : ℕ) (held : ℕ → Option State) (n : ℕ) (ns : List ℕ) (end : Book) → Left old wires last held (n ∷ ns) [] end → ⊥
+pub left_short : {who : Callers} (old : Outside) (wires : ℕ → Wire) (last : ℕ) (held : ℕ → Option State) (n : ℕ) (ns : List ℕ) (end : Book) → Left who old wires last held (n ∷ ns) [] end → ⊥
 left_short old wires last held n ns end l = short_by (day_of l.book.zone) l.book.default (requests l.book.history) l.arrivals held n ns l.stand l.replies
 
 -- the first of them is given its reply
@@ -166,10 +168,10 @@ head_is a b xs ys is = cc
 tail_is : (a b : Reply) (xs ys : List Reply) → a ∷ xs ≡ b ∷ ys → xs ≡ ys
 tail_is a b xs ys is = cc
 
-left_by : Follow → (old : Outside) (wires : ℕ → Wire) (last n : ℕ) (held still : ℕ → Option State) (ns : List ℕ) (a : Reply) (said : List Reply) (end b : Book) (rs : List Request) → IsLegalBook b → AllByRecursion IsRequest rs → StandEach held (n ∷ ns) rs
-    → (a ∷ said ≡ replies_after (day_of b.zone) b.default (requests b.history) rs) → GoesOn old (out b wires) last held None → book_with b rs ≡ end → Gives (held n) (still n) a → ((m : ℕ) → m ≢ n → still m ≡ held m) → Left old wires last still ns said end
-left_by follow old wires last n held still ns a said end b [] legal ranged e said_is g is gives others = absurd e
-left_by follow old wires last n held still ns a said end b (r ∷ rs) legal ranged (here, unlike, rest) said_is g is gives others =
+left_by : {who : Callers} → Follow → (old : Outside) (wires : ℕ → Wire) (last n : ℕ) (held still : ℕ → Option State) (ns : List ℕ) (a : Reply) (said : List Reply) (end b : Book) (rs : List Request) → IsLegalBook b → AllByRecursion IsRequest rs → StandEach held (n ∷ ns) rs → MayEachCome who (n ∷ ns) rs
+    → (a ∷ said ≡ replies_after (day_of b.zone) b.default (requests b.history) rs) → GoesOn who old (out b wires) last held None → book_with b rs ≡ end → Gives (held n) (still n) a → ((m : ℕ) → m ≢ n → still m ≡ held m) → Left who old wires last still ns said end
+left_by follow old wires last n held still ns a said end b [] legal ranged e may said_is g is gives others = absurd e
+left_by follow old wires last n held still ns a said end b (r ∷ rs) legal ranged (here, unlike, rest) may said_is g is gives others =
     let day = day_of b.zone in
     let (now, there, closed, works, by) = gives here.state here.is_open here.going in
     let first = head_is a _ said _ said_is ∙ ap (λ (H : List Entry). reply day b.default H r) (legal_again day b.default b.history legal.legal) in
@@ -179,15 +181,16 @@ left_by follow old wires last n held still ns a said end b (r ∷ rs) legal rang
       legal = legal_with b r legal ranged.0;
       ranged = All-from_recursion IsRequest rs ranged.1;
       stand = stand_beside held still n ns rs unlike others rest;
+      may = may.1;
       replies = tail_is a _ said _ said_is ∙ replies_more b r rs legal ranged.0;
-      goes = one_given follow old b wires last n r a held still here.state now legal here.is_open here.stands first closed works by there others g;
+      goes = one_given follow old b wires last n r a held still here.state now legal here.is_open here.stands first closed works by there others may.0 g;
       ends = with_more b r rs legal ranged.0 ∙ is;
     }
 
-pub left_more : Follow → (old : Outside) (wires : ℕ → Wire) (last n : ℕ) (held still : ℕ → Option State) (ns : List ℕ) (a : Reply) (said : List Reply) (end : Book) → Gives (held n) (still n) a → ((m : ℕ) → m ≢ n → still m ≡ held m)
-    → Left old wires last held (n ∷ ns) (a ∷ said) end → Left old wires last still ns said end
+pub left_more : {who : Callers} → Follow → (old : Outside) (wires : ℕ → Wire) (last n : ℕ) (held still : ℕ → Option State) (ns : List ℕ) (a : Reply) (said : List Reply) (end : Book) → Gives (held n) (still n) a → ((m : ℕ) → m ≢ n → still m ≡ held m)
+    → Left who old wires last held (n ∷ ns) (a ∷ said) end → Left who old wires last still ns said end
 left_more follow old wires last n held still ns a said end gives others l =
-    left_by follow old wires last n held still ns a said end l.book l.arrivals l.legal (recursion_from_All IsRequest l.arrivals l.ranged) l.stand l.replies l.goes l.ends gives others
+    left_by follow old wires last n held still ns a said end l.book l.arrivals l.legal (recursion_from_All IsRequest l.arrivals l.ranged) l.stand l.may l.replies l.goes l.ends gives others
 
 -- ---- what is reported
 
@@ -196,13 +199,14 @@ untold_by None xs = tt
 untold_by (Some before) xs = tt
 
 -- a ledger that reports no more
-pub untold : (old : Outside) (b : Book) (told : Option (List ReportedCall)) (wires : ℕ → Wire) (last : ℕ) (held : ℕ → Option State) → GoesOn old (record { book = b; told = told; wires = wires }) last held None → GoesOn old (out b wires) last held None
+pub untold : {who : Callers} (old : Outside) (b : Book) (told : Option (List ReportedCall)) (wires : ℕ → Wire) (last : ℕ) (held : ℕ → Option State) → GoesOn who old (record { book = b; told = told; wires = wires }) last held None → GoesOn who old (out b wires) last held None
 untold old b told wires last held g = record {
   served = record {
     placed = g.served.placed;
     zone = g.served.zone;
     default = g.served.default;
     answered = g.served.answered;
+    gains = g.served.gains;
     told = untold_by old.told (told_of (all_of g.served.placed) ++ map failed_call (option_to_list None));
     each = g.served.each;
   };
@@ -213,8 +217,8 @@ untold old b told wires last held g = record {
 }
 
 -- or that reports nothing further
-pub told_still : (old : Outside) (b : Book) (t u : Option (List ReportedCall)) (wires : ℕ → Wire) (last : ℕ) (held : ℕ → Option State) → Tells t u [] → GoesOn old (record { book = b; told = t; wires = wires }) last held None
-    → GoesOn old (record { book = b; told = u; wires = wires }) last held None
+pub told_still : {who : Callers} (old : Outside) (b : Book) (t u : Option (List ReportedCall)) (wires : ℕ → Wire) (last : ℕ) (held : ℕ → Option State) → Tells t u [] → GoesOn who old (record { book = b; told = t; wires = wires }) last held None
+    → GoesOn who old (record { book = b; told = u; wires = wires }) last held None
 told_still old b t u wires last held still g =
     let xs = told_of (all_of g.served.placed) ++ map failed_call (option_to_list None) in
     let P : List ReportedCall → Type 0 = λ q. Tells old.told u q in
@@ -224,6 +228,7 @@ told_still old b t u wires last held still g =
         zone = g.served.zone;
         default = g.served.default;
         answered = g.served.answered;
+        gains = g.served.gains;
         told = subst P (append-nil xs) (Tells-trans old.told t u xs [] g.served.told still);
         each = g.served.each;
       };
@@ -235,8 +240,8 @@ told_still old b t u wires last held still g =
 
 -- ---- a connection that failed at a read
 
-pub closed_works : (old new now : Outside) (number last : ℕ) (p : Progress) (c after : State) (held still : ℕ → Option State) (end : Result EndCause ServeFault) → GoesOn old new last held None → held number ≡ Some c → TurnOf new now number p c after → Follow
-    → p ≡ Ended end → Works p → ((n : ℕ) → n ≢ number → still n ≡ held n) → still number ≡ None → AreOffered after (now.wires number) → GoesOn old now last still None
+pub closed_works : {who : Callers} (old new now : Outside) (number last : ℕ) (p : Progress) (c after : State) (held still : ℕ → Option State) (end : Result EndCause ServeFault) → GoesOn who old new last held None → held number ≡ Some c → TurnOf who new now number p c after → Follow
+    → p ≡ Ended end → Works p → ((n : ℕ) → n ≢ number → still n ≡ held n) → still number ≡ None → AreOffered after (now.wires number) → GoesOn who old now last still None
 closed_works old new now number last p c after held still end g here t follow is works others gone offered =
     let r : Result (Unit {0}) RoomFault = Ok tt in
     let ok : OnOk r (end ≢ Err Store) = λ e. works (is ∙ ap Ended e) in

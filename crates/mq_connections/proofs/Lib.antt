@@ -1,4 +1,5 @@
 pub mod Maps
+mod Places
 pub mod Standing
 pub mod Turning
 pub mod Choring

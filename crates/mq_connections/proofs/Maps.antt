@@ -1,5 +1,5 @@
 -- What is held of the connections as their map changes.
-use Rattle.std.proofs.Common.{◌≡◌, ◌≢◌, ◌⊎◌, ℕ, List, [], ◌∷◌, ◌++◌, map, refl, sym, ap, subst, ◌∙◌, true, false, Option, Some, None, inl, inr}
+use Rattle.std.proofs.Common.{◌≡◌, ◌≢◌, ◌⊎◌, ℕ, List, [], refl, sym, ap, subst, ◌∙◌, true, false, Option, Some, None, inl, inr}
 use Rattle.std.specs.Prelude.{eqb, option_map}
 use Rattle.std.specs.BTreeMap.{BTreeMap, UpdatesBy, get, is_at}
 use Rattle.std.specs.Cmp.{unsigned_tied}
@@ -10,8 +10,6 @@ use Rattle.std.proofs.lemmas.Bool.Decides.{eqb_tells}
 use Rattle.mq_lemmas.proofs.Options.{none_some, some_is}
 use Rattle.mq_server.specs.Held.{State, fresh}
 use Rattle.mq_connections.specs.declared.opened.OpenConnection.{OpenConnection}
-use Rattle.mq_permits.specs.declared.peer.Peer.{Peer}
-use Rattle.mq_connections.specs.Asking.{ArePeers, peer_of}
 use Rattle.mq_connections.specs.Sessions.{held}
 use Rattle.mq_connections.specs.Turns.{Closes, Offers}
 use Rattle.mq_connections.specs.Wires.{Wire}
@@ -64,16 +62,6 @@ not_none m k o found none = none_some o.connection (sym none ∙ held_here m k o
 
 pub none_here : (m : Map) (k : ℕ) → None ≡ get nat_cmp m k → held m k ≡ None
 none_here m k is = ap connection_of (sym is)
-
--- the peers of connections, and that of one more
-map_push : {X Y : Type 0} (f : X → Y) (xs : List X) (x : X) → map f (xs ++ x ∷ []) ≡ map f xs ++ f x ∷ []
-map_push f [] x = refl
-map_push f (y ∷ ys) x = ap (λ zs. f y ∷ zs) (map_push f ys x)
-
-pub peers_more : (m : Map) (k : ℕ) (o : OpenConnection) (ns : List ℕ) (ps : List Peer) → Some o ≡ get nat_cmp m k → ArePeers m ns ps → ArePeers m (ns ++ k ∷ []) (ps ++ o.peer ∷ [])
-peers_more m k o ns ps found are =
-    let here : peer_of m k ≡ Some o.peer = ap (λ (x : Option OpenConnection). option_map (λ y. y.peer) x) (sym found) in
-    rw (map_push (peer_of m) ns k, map_push Some ps o.peer, are, here) refl
 
 -- ---- a connection that is closed
 

@@ -22,16 +22,18 @@ use Rattle.mq_server.specs.declared.connection.EndCause.{EndCause}
 use Rattle.mq_server.specs.declared.fault.ServeFault.{ServeFault}
 use Rattle.mq_server.specs.declared.fault.ServeFault.TheVariants.{Memory, Store}
 use Rattle.mq_server.specs.declared.input.TheConstants.{PIECE}
-use Rattle.mq_server.specs.Delivery.{HasGrown, failed_call}
+use Rattle.mq_server.specs.Delivery.{HasGrown, asked, failed_call}
 use Rattle.mq_server.specs.Held.{State, fresh}
 use Rattle.mq_server.specs.Life.{AreAnswered, Exchange, Life, Lives, StandsNext, deliveries, told_of, unborn, with_taken}
 use Rattle.mq_server.proofs.Advance.{ended_same}
 use Rattle.mq_server.proofs.Telling.{Tells-all}
 use Rattle.mq_connections.specs.declared.fault.RoomFault.{RoomFault}
 use Rattle.mq_connections.specs.declared.fault.RoomFault.TheVariants as faults
-use Rattle.mq_connections.specs.Sessions.{EndsServing, GoesOn, GoesOnOrStops, HaveServed, Outside, Placed, Session, all_of, those_of}
+use Rattle.mq_connections.specs.Gained.{Callers, Gains, IsAmong, MayCome}
+use Rattle.mq_connections.specs.Sessions.{CameFromCaller, EndsServing, GoesOn, GoesOnOrStops, HaveServed, Outside, Placed, Session, all_of, those_of}
 use Rattle.mq_connections.specs.Turns.{Closes, Offers, Turns, lived}
 use Rattle.mq_connections.specs.Wires.{AreOffered, IsKnownAs, Wire}
+use Rattle.mq_connections.proofs.Gaining.{came_later, came_now, gains_among, gains_more, gains_none, gains_so}
 use Rattle.mq_connections.proofs.Turning.{Follow, Works, few_of, none_few, session_shuts, some_of, told_on, turned_out, worked_calls}
 
 -- ---- exchanges of one connection after those of all
@@ -154,12 +156,13 @@ picked_life m n ps qs old mid new each mine same P here there (inr (f, not)) = t
 
 -- ---- the start
 
-abbrev begun_served : (o : Outside) → ((room : ℕ) → Lives unborn (fresh room)) → AreAnswered o.book [] o.book.history → HaveServed o o None
+abbrev begun_served : {who : Callers} (o : Outside) → ((room : ℕ) → Lives unborn (fresh room)) → AreAnswered o.book [] o.book.history → HaveServed who o o None
 begun_served o lives none = record {
   placed = [];
   zone = refl;
   default = refl;
   answered = none;
+  gains = gains_none o.book.history;
   told = Tells-none o.told;
   each = λ n. session_new 0 n [] (o.wires n) (o.wires n) lives refl refl;
 }
@@ -167,7 +170,7 @@ begun_served o lives none = record {
 new_offered : (room : ℕ) (wire : Wire) → AreOffered (fresh room) wire
 new_offered room wire = λ some. absurd (some refl)
 
-pub begins : (o : Outside) (last : ℕ) (held : ℕ → Option State) → ((room : ℕ) → Lives unborn (fresh room)) → AreAnswered o.book [] o.book.history → ((n : ℕ) → held n ≡ None) → GoesOn o o last held None
+pub begins : {who : Callers} (o : Outside) (last : ℕ) (held : ℕ → Option State) → ((room : ℕ) → Lives unborn (fresh room)) → AreAnswered o.book [] o.book.history → ((n : ℕ) → held n ≡ None) → GoesOn who o o last held None
 begins o last held lives none empty = record {
   served = begun_served o lives none;
   beyond = λ n above. (refl, refl);
@@ -181,12 +184,13 @@ begins o last held lives none empty = record {
 abbrev pub with_wires : Outside → (ℕ → Wire) → Outside
 with_wires o wires = record { book = o.book; told = o.told; wires = wires }
 
-abbrev served_as : (old new : Outside) (wires : ℕ → Wire) (failed : Option Request) → ((n : ℕ) → wires n ≡ new.wires n) → HaveServed old new failed → HaveServed old (with_wires new wires) failed
+abbrev served_as : {who : Callers} (old new : Outside) (wires : ℕ → Wire) (failed : Option Request) → ((n : ℕ) → wires n ≡ new.wires n) → HaveServed who old new failed → HaveServed who old (with_wires new wires) failed
 served_as old new wires failed same s = record {
   placed = s.placed;
   zone = s.zone;
   default = s.default;
   answered = s.answered;
+  gains = s.gains;
   told = s.told;
   each = λ n. session_as n s.placed s.placed (old.wires n) (new.wires n) (wires n) (s.each n) (same n) refl;
 }
@@ -194,8 +198,8 @@ served_as old new wires failed same s = record {
 offered_as : (c : State) (w v : Wire) → v ≡ w → AreOffered c w → AreOffered c v
 offered_as c w v is offered = let P : Wire → Type 0 = λ x. AreOffered c x in subst P (sym is) offered
 
-pub rewired : (old new : Outside) (wires : ℕ → Wire) (last : ℕ) (held now : ℕ → Option State) (failed : Option Request) → ((n : ℕ) → wires n ≡ new.wires n) → ((n : ℕ) → now n ≡ held n)
-    → GoesOn old new last held failed → GoesOn old (with_wires new wires) last now failed
+pub rewired : {who : Callers} (old new : Outside) (wires : ℕ → Wire) (last : ℕ) (held now : ℕ → Option State) (failed : Option Request) → ((n : ℕ) → wires n ≡ new.wires n) → ((n : ℕ) → now n ≡ held n)
+    → GoesOn who old new last held failed → GoesOn who old (with_wires new wires) last now failed
 rewired old new wires last held now failed same holds g = record {
   served = served_as old new wires failed same g.served;
   beyond = λ n above. ((g.beyond n above).0, same n ∙ (g.beyond n above).1);
@@ -220,7 +224,7 @@ new_goes room e = cc
 abbrev pub Opens : ℕ → (ℕ → Option State) → (ℕ → Option State) → ℕ → Type 0
 Opens room was now number = (n : ℕ) → (now n ≡ was n) ⊎ ((n ≡ number) × (now n ≡ Some (fresh room)))
 
-opened_held : (room : ℕ) (old new : Outside) (wires : ℕ → Wire) (last number : ℕ) (held now : ℕ → Option State) (counted : number ≡ last + 1) (g : GoesOn old new last held None)
+opened_held : {who : Callers} (room : ℕ) (old new : Outside) (wires : ℕ → Wire) (last number : ℕ) (held now : ℕ → Option State) (counted : number ≡ last + 1) (g : GoesOn who old new last held None)
     (mine : Session number g.served.placed (old.wires number) (wires number)) (kept : (k : ℕ) → k ≢ number → (wires k ≡ new.wires k) × (those_of k g.served.placed ≡ those_of k g.served.placed)) → (mine.state ≡ fresh room) → (mine.lost ≡ [])
     → (n : ℕ) (c : State) → now n ≡ Some c → (now n ≡ held n) ⊎ ((n ≡ number) × (now n ≡ Some (fresh room)))
     → (let s = picks number g.served.placed g.served.placed old.wires new.wires wires g.served.each mine kept n in Held_so c n number s.state s.lost)
@@ -232,7 +236,7 @@ opened_held room old new wires last number held now counted g mine kept is none 
     let P : State → Type 0 = λ x. x.end ≢ Some (Err Store) in
     picked number n g.served.placed g.served.placed old.wires new.wires wires g.served.each mine kept (Held_so c n number) (λ _. (is ∙ sym same, none, subst P (sym same) (new_goes room), omega (arith, at))) (λ not. absurd (not at)) (eqb_tells n number)
 
-opened_offered : (room : ℕ) (old new : Outside) (wires : ℕ → Wire) (last number : ℕ) (held now : ℕ → Option State) (g : GoesOn old new last held None)
+opened_offered : {who : Callers} (room : ℕ) (old new : Outside) (wires : ℕ → Wire) (last number : ℕ) (held now : ℕ → Option State) (g : GoesOn who old new last held None)
     (mine : Session number g.served.placed (old.wires number) (wires number)) (kept : (k : ℕ) → k ≢ number → (wires k ≡ new.wires k) × (those_of k g.served.placed ≡ those_of k g.served.placed)) → (mine.state ≡ fresh room)
     → (n : ℕ) → now n ≡ None → (now n ≡ held n) ⊎ ((n ≡ number) × (now n ≡ Some (fresh room)))
     → (let s = picks number g.served.placed g.served.placed old.wires new.wires wires g.served.each mine kept n in AreOffered s.state (wires n))
@@ -242,8 +246,8 @@ opened_offered room old new wires last number held now g mine kept is n none (in
     (λ not. offered_as (g.served.each n).state (new.wires n) (wires n) (kept n not).0 (g.offered n (sym same ∙ none))) (eqb_tells n number)
 opened_offered room old new wires last number held now g mine kept is n none (inr (at, some)) = absurd (none_some (fresh room) (sym none ∙ some))
 
-pub opened : (room : ℕ) (old new : Outside) (wires : ℕ → Wire) (last number : ℕ) (held now : ℕ → Option State) → ((room : ℕ) → Lives unborn (fresh room)) → number ≡ last + 1 → ((n : ℕ) → wires n ≡ new.wires n) → Opens room held now number
-    → GoesOn old new last held None → GoesOn old (with_wires new wires) number now None
+pub opened : {who : Callers} (room : ℕ) (old new : Outside) (wires : ℕ → Wire) (last number : ℕ) (held now : ℕ → Option State) → ((room : ℕ) → Lives unborn (fresh room)) → number ≡ last + 1 → ((n : ℕ) → wires n ≡ new.wires n) → Opens room held now number
+    → GoesOn who old new last held None → GoesOn who old (with_wires new wires) number now None
 opened room old new wires last number held now lives counted same opens g =
     let ps = g.served.placed in
     let above : last < number = omega (arith, counted) in
@@ -255,6 +259,7 @@ opened room old new wires last number held now lives counted same opens g =
         zone = g.served.zone;
         default = g.served.default;
         answered = g.served.answered;
+        gains = g.served.gains;
         told = g.served.told;
         each = picks number ps ps old.wires new.wires wires g.served.each mine kept;
       };
@@ -292,17 +297,25 @@ turned_session number ps old mid new b history t u p c now s is none turn =
     }
 
 -- what a turn of one connection leaves outside
-pub record TurnOf (new now : Outside) (number : ℕ) (p : Progress) (c after : State) : Type 0 where
+pub record TurnOf (who : Callers) (new now : Outside) (number : ℕ) (p : Progress) (c after : State) : Type 0 where
   pub zone : now.book.zone ≡ new.book.zone
   pub default : now.book.default ≡ new.book.default
   pub legal : IsLegalBook new.book
   pub turn : Turns new.book now.book.history new.told now.told p (new.wires number) (now.wires number) c after
   pub others_same : (n : ℕ) → n ≢ number → now.wires n ≡ new.wires n
+  pub gains : Gains (MayCome who number) new.book.history now.book.history
+
+-- what came before, and what came in the turn
+came_before : (who : Callers) (ps : List Placed) (n : ℕ) (xs : List Exchange) (r : Request) → CameFromCaller who ps r → CameFromCaller who (ps ++ on n xs) r
+came_before who ps n xs r came = let m = came.0 in (m, came.1, came_later (those_of m ps) (those_of m (on n xs)) (those_of m (ps ++ on n xs)) (those_more m ps (on n xs)) r came.2)
+
+came_on : (who : Callers) (ps : List Placed) (n : ℕ) (xs : List Exchange) (r : Request) → MayCome who n r × IsAmong (asked (deliveries xs)) r → CameFromCaller who (ps ++ on n xs) r
+came_on who ps n xs r may = (n, may.0, came_now (those_of n ps) xs (those_of n (ps ++ on n xs)) (own_more ps n xs) r may.1)
 
 above_held : (n last number : ℕ) → last < n → n ≡ number → number ≤ last → ⊥
 above_held n last number above is within = omega (arith, above, is, within)
 
-module _ (old new now : Outside) (number last : ℕ) (p : Progress) (c after : State) (held : ℕ → Option State) (g : GoesOn old new last held None) (here : held number ≡ Some c) (t : TurnOf new now number p c after) where
+module _ {who : Callers} (old new now : Outside) (number last : ℕ) (p : Progress) (c after : State) (held : ℕ → Option State) (g : GoesOn who old new last held None) (here : held number ≡ Some c) (t : TurnOf who new now number p c after) where
   abbrev ps : List Placed
   ps = g.served.placed
 
@@ -321,7 +334,7 @@ module _ (old new now : Outside) (number last : ℕ) (p : Progress) (c after : S
   abbrev each : (n : ℕ) → Session n qs (old.wires n) (now.wires n)
   each = picks number ps qs old.wires new.wires now.wires g.served.each mine kept
 
-  abbrev served_turn : Follow → (failed : Option Request) → Tells new.told now.told (told_of xs ++ map failed_call (option_to_list failed)) → HaveServed old now failed
+  abbrev served_turn : Follow → (failed : Option Request) → Tells new.told now.told (told_of xs ++ map failed_call (option_to_list failed)) → HaveServed who old now failed
   served_turn follow failed told =
       let P : List Exchange → Type 0 = λ q. AreAnswered old.book q now.book.history in
       let Q : List Exchange → Type 0 = λ q. Tells old.told now.told (told_of q ++ map failed_call (option_to_list failed)) in
@@ -332,6 +345,8 @@ module _ (old new now : Outside) (number last : ℕ) (p : Progress) (c after : S
         zone = t.zone ∙ g.served.zone;
         default = t.default ∙ g.served.default;
         answered = subst P same (follow old.book new.book (all_of ps) xs now.book.history t.legal g.served.zone g.served.default g.served.answered t.turn.answered);
+        gains = gains_more old.book.history new.book.history now.book.history (gains_so (came_before who ps number xs) old.book.history new.book.history g.served.gains)
+            (gains_so (came_on who ps number xs) new.book.history now.book.history (gains_among new.book now.book.history xs t.legal t.turn.answered t.gains));
         told = subst Q same (told_on old.told new.told now.told (all_of ps) xs (map failed_call (option_to_list failed)) (subst R (append-nil (told_of (all_of ps))) g.served.told) told);
         each = each;
       }
@@ -359,7 +374,7 @@ module _ (old new now : Outside) (number last : ℕ) (p : Progress) (c after : S
       (λ not. offered_as (g.served.each n).state (new.wires n) (now.wires n) (t.others_same n not) (g.offered n (sym (others n not) ∙ none))) (eqb_tells n number)
 
   goes_turn : Follow → (still : ℕ → Option State) (failed : Option Request) → Tells new.told now.told (told_of xs ++ map failed_call (option_to_list failed)) → Others still → Here still → (still number ≡ None → AreOffered after (now.wires number))
-      → (IsSome failed → after.end ≡ Some (Err Store)) → StandsNext failed mine.life.rest → GoesOn old now last still failed
+      → (IsSome failed → after.end ≡ Some (Err Store)) → StandsNext failed mine.life.rest → GoesOn who old now last still failed
   goes_turn follow still failed told others hold gone end stands = record {
     served = served_turn follow failed told;
     beyond = λ n above.
@@ -384,7 +399,7 @@ module _ (old new now : Outside) (number last : ℕ) (p : Progress) (c after : S
       (t.turn.lives s.life (subst P (g.are_held number c here).0 s.lives)).2
 
   -- the connection is still open
-  pub goes_open : Follow → (still : ℕ → Option State) → Works p → p ≢ Ended (Err Memory) → (c.end ≢ Some (Err Store) → after.end ≢ Some (Err Store)) → Others still → still number ≡ Some after → GoesOn old now last still None
+  pub goes_open : Follow → (still : ℕ → Option State) → Works p → p ≢ Ended (Err Memory) → (c.end ≢ Some (Err Store) → after.end ≢ Some (Err Store)) → Others still → still number ≡ Some after → GoesOn who old now last still None
   goes_open follow still works room stays others stands =
       goes_turn follow still None (Tells-all new.told now.told (told_of xs) (worked_calls new.told now.told c.end p xs works t.turn.calls)) others
       (λ d is. (some_is d after (sym is ∙ stands), t.turn.whole room, stays (g.are_held number c here).2)) (λ none. absurd (none_some after (sym none ∙ stands))) (λ some. absurd (false_true some)) tt
@@ -401,9 +416,9 @@ only_so store (Ok x) end err is = absurd (ok_not x store is)
 only_so store (Err f) end err is = err.1
 
 -- a connection has ended, and was closed
-pub closed_turn : {A F : Type 0} (old new now : Outside) (number last : ℕ) (p : Progress) (c after : State) (held still : ℕ → Option State) (store : F) (r : Result A F) (end : Result EndCause ServeFault) → GoesOn old new last held None → held number ≡ Some c → TurnOf new now number p c after → Follow
+pub closed_turn : {A F : Type 0} {who : Callers} (old new now : Outside) (number last : ℕ) (p : Progress) (c after : State) (held still : ℕ → Option State) (store : F) (r : Result A F) (end : Result EndCause ServeFault) → GoesOn who old new last held None → held number ≡ Some c → TurnOf who new now number p c after → Follow
     → p ≡ Ended end → (p ≡ Ended (Err Store) → after.end ≡ Some (Err Store)) → OnOk r (end ≢ Err Store) → IfErr r (λ f. (f ≡ store) × (end ≡ Err Store)) → ((n : ℕ) → n ≢ number → still n ≡ held n) → still number ≡ None → AreOffered after (now.wires number)
-    → GoesOnOrStops old now last still store r
+    → GoesOnOrStops who old now last still store r
 closed_turn old new now number last p c after held still store r end g here t follow is at_end ok err others gone offered =
     let calls = t.turn.calls in record {
       failed = calls.failed;
@@ -412,7 +427,7 @@ closed_turn old new now number last p c after held still store r end g here t fo
       only = λ fault. calls.only (g.are_held number c here).2 (is ∙ ap Ended (only_so store r end err fault));
     }
 
-pub goes_so : {A E : Type 0} (old new : Outside) (last : ℕ) (held : ℕ → Option State) (store : E) (result : Result A E) → (result ≡ Err store → ⊥) → GoesOn old new last held None → GoesOnOrStops old new last held store result
+pub goes_so : {A E : Type 0} {who : Callers} (old new : Outside) (last : ℕ) (held : ℕ → Option State) (store : E) (result : Result A E) → (result ≡ Err store → ⊥) → GoesOn who old new last held None → GoesOnOrStops who old new last held store result
 goes_so old new last held store result not g = record {
   failed = None;
   goes = g;
@@ -421,16 +436,16 @@ goes_so old new last held store result not g = record {
 }
 
 -- it goes on where it says so
-went : (old new : Outside) (last : ℕ) (held : ℕ → Option State) (failed : Option Request) → (IsSome failed → ⊥) → GoesOn old new last held failed → GoesOn old new last held None
+went : {who : Callers} (old new : Outside) (last : ℕ) (held : ℕ → Option State) (failed : Option Request) → (IsSome failed → ⊥) → GoesOn who old new last held failed → GoesOn who old new last held None
 went old new last held None not g = g
 went old new last held (Some r) not g = absurd (not (some_of r))
 
-pub goes_on : {A E : Type 0} (old new : Outside) (last : ℕ) (held : ℕ → Option State) (store : E) (result : Result A E) (x : A) → result ≡ Ok x → GoesOnOrStops old new last held store result → GoesOn old new last held None
+pub goes_on : {A E : Type 0} {who : Callers} (old new : Outside) (last : ℕ) (held : ℕ → Option State) (store : E) (result : Result A E) (x : A) → result ≡ Ok x → GoesOnOrStops who old new last held store result → GoesOn who old new last held None
 goes_on old new last held store result x is g = went old new last held g.failed (λ some. ok_not x store (sym is ∙ g.stops some)) g.goes
 
 -- no connection is open any more
-pub ends_so : {A E : Type 0} (old new now : Outside) (last : ℕ) (held still : ℕ → Option State) (store : E) (result : Result A E) → ((n : ℕ) → still n ≡ None)
-    → ((failed : Option Request) → GoesOn old new last held failed → GoesOn old now last still failed) → GoesOnOrStops old new last held store result → EndsServing old now store result
+pub ends_so : {A E : Type 0} {who : Callers} (old new now : Outside) (last : ℕ) (held still : ℕ → Option State) (store : E) (result : Result A E) → ((n : ℕ) → still n ≡ None)
+    → ((failed : Option Request) → GoesOn who old new last held failed → GoesOn who old now last still failed) → GoesOnOrStops who old new last held store result → EndsServing who old now store result
 ends_so old new now last held still store result none closes g =
     let ended = closes g.failed g.goes in record {
       failed = g.failed;
@@ -441,7 +456,7 @@ ends_so old new now last held still store result none closes g =
       offered = λ n. ended.offered n (none n);
     }
 
-pub nothing_served : {A E : Type 0} (o : Outside) (store : E) (result : Result A E) → ((room : ℕ) → Lives unborn (fresh room)) → AreAnswered o.book [] o.book.history → (result ≡ Err store → ⊥) → EndsServing o o store result
+pub nothing_served : {A E : Type 0} {who : Callers} (o : Outside) (store : E) (result : Result A E) → ((room : ℕ) → Lives unborn (fresh room)) → AreAnswered o.book [] o.book.history → (result ≡ Err store → ⊥) → EndsServing who o o store result
 nothing_served o store result lives none not =
     let g = begins o 0 (λ n. None) lives none (λ n. refl) in record {
       failed = None;
@@ -452,7 +467,7 @@ nothing_served o store result lives none not =
       offered = λ n. g.offered n refl;
     }
 
-pub has_grown : {A E : Type 0} (old new : Outside) (store : E) (result : Result A E) → EndsServing old new store result → HasGrown old.book new.book
+pub has_grown : {A E : Type 0} {who : Callers} (old new : Outside) (store : E) (result : Result A E) → EndsServing who old new store result → HasGrown old.book new.book
 has_grown old new store result e = (deliveries (all_of e.served.placed), e.served.answered.after)
 
 -- ---- a connection that is closed
@@ -474,9 +489,9 @@ closed_session n ps old mid new c d bs written few read sent lives same s is non
       sent = Appends-trans old.contents mid.contents new.contents _ _ s.sent sent;
     }
 
-pub shut : (old new : Outside) (wires : ℕ → Wire) (number last : ℕ) (c d : State) (held still : ℕ → Option State) (failed : Option Request) (bs written : List ℕ) → held number ≡ Some c → length bs ≤ PIECE → Consumes (new.wires number).remaining (wires number).remaining bs
+pub shut : {who : Callers} (old new : Outside) (wires : ℕ → Wire) (number last : ℕ) (c d : State) (held still : ℕ → Option State) (failed : Option Request) (bs written : List ℕ) → held number ≡ Some c → length bs ≤ PIECE → Consumes (new.wires number).remaining (wires number).remaining bs
     → Appends (new.wires number).contents (wires number).contents written → ((l : Life) → Lives l c → Lives (with_taken l written) d) → d.is_closed ≡ c.is_closed → AreOffered d (wires number) → still number ≡ None → ((n : ℕ) → n ≢ number → (still n ≡ held n) × (wires n ≡ new.wires n))
-    → GoesOn old new last held failed → GoesOn old (with_wires new wires) last still failed
+    → GoesOn who old new last held failed → GoesOn who old (with_wires new wires) last still failed
 shut old new wires number last c d held still failed bs written here few read sent lives same off gone others g =
     let ps = g.served.placed in
     let h = g.are_held number c here in
@@ -489,6 +504,7 @@ shut old new wires number last c d held still failed bs written here few read se
         zone = g.served.zone;
         default = g.served.default;
         answered = g.served.answered;
+        gains = g.served.gains;
         told = g.served.told;
         each = picks number ps ps old.wires new.wires wires g.served.each mine kept;
       };
@@ -515,8 +531,8 @@ still_there : (wires was : ℕ → Wire) (held still : ℕ → Option State) (nu
 still_there wires was held still number n same stays others (inl (t, is)) = (ap wires is ∙ same ∙ ap was (sym is), ap still is ∙ stays ∙ ap held (sym is))
 still_there wires was held still number n same stays others (inr (f, not)) = ((others n not).1, (others n not).0)
 
-closes_at : (old new : Outside) (wires : ℕ → Wire) (number last : ℕ) (held still : ℕ → Option State) (failed : Option Request) (o : Option State) → held number ≡ o → Closes held still new.wires wires number
-    → GoesOn old new last held failed → GoesOn old (with_wires new wires) last still failed
+closes_at : {who : Callers} (old new : Outside) (wires : ℕ → Wire) (number last : ℕ) (held still : ℕ → Option State) (failed : Option Request) (o : Option State) → held number ≡ o → Closes held still new.wires wires number
+    → GoesOn who old new last held failed → GoesOn who old (with_wires new wires) last still failed
 closes_at old new wires number last held still failed None is e g =
     let all : (n : ℕ) → (wires n ≡ new.wires n) × (still n ≡ held n) = λ n. still_there wires new.wires held still number n (e.absent is) (e.gone ∙ sym is) e.others (eqb_tells n number) in
     rewired old new wires last held still failed (λ n. (all n).0) (λ n. (all n).1) g
@@ -525,18 +541,19 @@ closes_at old new wires number last held still failed (Some c) is e g =
     let P : Option (List ℕ) → Type 0 = λ w. Consumes (new.wires number).remaining w [] in
     shut old new wires number last c o.now held still failed [] o.written is none_few (subst P (sym o.remaining) (Consumes-nil (new.wires number).remaining)) o.sent o.lives o.closed o.offered e.gone e.others g
 
-pub closes : (old new : Outside) (wires : ℕ → Wire) (number last : ℕ) (held still : ℕ → Option State) (failed : Option Request) → Closes held still new.wires wires number → GoesOn old new last held failed → GoesOn old (with_wires new wires) last still failed
+pub closes : {who : Callers} (old new : Outside) (wires : ℕ → Wire) (number last : ℕ) (held still : ℕ → Option State) (failed : Option Request) → Closes held still new.wires wires number → GoesOn who old new last held failed → GoesOn who old (with_wires new wires) last still failed
 closes old new wires number last held still failed e g = closes_at old new wires number last held still failed (held number) refl e g
 
 -- a turn, and then it was closed
-pub turn_closed : (old mid : Outside) (wires : ℕ → Wire) (number : ℕ) (p : Progress) (c after : State) (t : TurnOf old mid number p c after) (o : Offers after (mid.wires number) (wires number)) → ((n : ℕ) → n ≢ number → wires n ≡ mid.wires n)
-    → TurnOf old (with_wires mid wires) number p c o.now
+pub turn_closed : {who : Callers} (old mid : Outside) (wires : ℕ → Wire) (number : ℕ) (p : Progress) (c after : State) (t : TurnOf who old mid number p c after) (o : Offers after (mid.wires number) (wires number)) → ((n : ℕ) → n ≢ number → wires n ≡ mid.wires n)
+    → TurnOf who old (with_wires mid wires) number p c o.now
 turn_closed old mid wires number p c after t o others = record {
   zone = t.zone;
   default = t.default;
   legal = t.legal;
   turn = turned_out old.book mid.book.history old.told mid.told p (old.wires number) (mid.wires number) (wires number) c after t.turn o;
   others_same = λ n not. others n not ∙ t.others_same n not;
+  gains = t.gains;
 }
 
 -- what a read gave
@@ -545,9 +562,9 @@ read_bytes a b (Ok n) buf few h = (take n buf, h.0, few_of n buf few)
 read_bytes a b (Err e) buf few h = ([], Consumes-kept a a b [] (Consumes-nil a) h, none_few)
 
 -- its replies were offered, and what came is read and of no use
-pub read_after : {E : Type 0} (old new : Outside) (mid read now : ℕ → Wire) (number last : ℕ) (c : State) (held still : ℕ → Option State) (failed : Option Request) (r : Result ℕ E) (buf : List ℕ) → held number ≡ Some c → Offers c (new.wires number) (mid number) → ((n : ℕ) → n ≢ number → mid n ≡ new.wires n)
+pub read_after : {E : Type 0} {who : Callers} (old new : Outside) (mid read now : ℕ → Wire) (number last : ℕ) (c : State) (held still : ℕ → Option State) (failed : Option Request) (r : Result ℕ E) (buf : List ℕ) → held number ≡ Some c → Offers c (new.wires number) (mid number) → ((n : ℕ) → n ≢ number → mid n ≡ new.wires n)
     → length buf ≤ PIECE → ReadConsumes (mid number).remaining (read number).remaining r buf → (read number).contents ≡ (mid number).contents → (read number).left ≡ (mid number).left → ((n : ℕ) → n ≢ number → read n ≡ mid n) → ((n : ℕ) → now n ≡ read n)
-    → still number ≡ None → ((n : ℕ) → n ≢ number → still n ≡ held n) → GoesOn old new last held failed → GoesOn old (with_wires new now) last still failed
+    → still number ≡ None → ((n : ℕ) → n ≢ number → still n ≡ held n) → GoesOn who old new last held failed → GoesOn who old (with_wires new now) last still failed
 read_after old new mid read now number last c held still failed r buf here o offered_others small bytes contents left others same gone stays g =
     let (bs, consumed, few) = read_bytes (mid number).remaining (read number).remaining r buf small bytes in
     let P : Option (List ℕ) → Type 0 = λ w. Consumes w (read number).remaining bs in
@@ -558,11 +575,11 @@ read_after old new mid read now number last c held still failed r buf here o off
 
 -- ---- ends under other names
 
-pub goes_last : (old new : Outside) (last number : ℕ) (held : ℕ → Option State) (failed : Option Request) → number ≡ last → GoesOn old new last held failed → GoesOn old new number held failed
-goes_last old new last number held failed is g = let P : ℕ → Type 0 = λ k. GoesOn old new k held failed in subst P (sym is) g
+pub goes_last : {who : Callers} (old new : Outside) (last number : ℕ) (held : ℕ → Option State) (failed : Option Request) → number ≡ last → GoesOn who old new last held failed → GoesOn who old new number held failed
+goes_last {who} old new last number held failed is g = let P : ℕ → Type 0 = λ k. GoesOn who old new k held failed in subst P (sym is) g
 
-pub goes_as : {A E : Type 0} (old new : Outside) (last : ℕ) (held : ℕ → Option State) (store : E) (r q : Result A E) → r ≡ q → GoesOnOrStops old new last held store r → GoesOnOrStops old new last held store q
-goes_as {A = A} {E = E} old new last held store r q is g = let P : Result A E → Type 0 = λ x. GoesOnOrStops old new last held store x in subst P is g
+pub goes_as : {A E : Type 0} {who : Callers} (old new : Outside) (last : ℕ) (held : ℕ → Option State) (store : E) (r q : Result A E) → r ≡ q → GoesOnOrStops who old new last held store r → GoesOnOrStops who old new last held store q
+goes_as {A = A} {E = E} {who = who} old new last held store r q is g = let P : Result A E → Type 0 = λ x. GoesOnOrStops who old new last held store x in subst P is g
 
 pub not_store : {A : Type 0} (r : Result A RoomFault) (y f : RoomFault) → r ≡ Err y → y ≡ f → f ≡ faults.Accept → r ≡ Err faults.Store → ⊥
 not_store r y f is same accept store = cc
@@ -579,5 +596,5 @@ not_memory r y is memory store = cc
 pub nothing_grown : (o : Outside) → AreAnswered o.book [] o.book.history → HasGrown o.book o.book
 nothing_grown o none = ([], none.after)
 
-pub goes_stop_last : {A E : Type 0} (old new : Outside) (last number : ℕ) (held : ℕ → Option State) (store : E) (result : Result A E) → number ≡ last → GoesOnOrStops old new last held store result → GoesOnOrStops old new number held store result
-goes_stop_last old new last number held store result is g = let P : ℕ → Type 0 = λ k. GoesOnOrStops old new k held store result in subst P (sym is) g
+pub goes_stop_last : {A E : Type 0} {who : Callers} (old new : Outside) (last number : ℕ) (held : ℕ → Option State) (store : E) (result : Result A E) → number ≡ last → GoesOnOrStops who old new last held store result → GoesOnOrStops who old new number held store result
+goes_stop_last {who = who} old new last number held store result is g = let P : ℕ → Type 0 = λ k. GoesOnOrStops who old new k held store result in subst P (sym is) g

@@ -1,6 +1,7 @@
 pub mod Asking
 pub mod Counting
 pub mod Gained
+pub mod Places
 pub mod Sessions
 pub mod Stays
 pub mod Turns

@@ -13,10 +13,10 @@ pub record Wire : Type 0 where
 abbrev pub unknown : ℕ → Wire
 unknown n = record { remaining = None; contents = None; left = None }
 
--- these bytes, where it is known which they are
-abbrev pub IsKnownAs : Option (List ℕ) → List ℕ → Type 0
-IsKnownAs None bs = ⊤
-IsKnownAs (Some xs) bs = xs ≡ bs
+-- this value, where it is known which it is
+abbrev pub IsKnownAs : {A : Type 0} → Option A → A → Type 0
+IsKnownAs None a = ⊤
+IsKnownAs (Some known) a = known ≡ a
 
 -- what a write leaves of the bytes that it was given: those that it didn't take, and all of them at an error
 abbrev pub Leaves : {E : Type 0} → Option (List ℕ) → Result ℕ E → List ℕ → Type 0

@@ -1,8 +1,8 @@
 //! The streams of connections, and what they report of the bytes that they carried.
-ghost use Rattle.std.specs.Prelude.{◌≡◌, ◌≢◌, ℕ, IfErr, IsTrue};
+ghost use Rattle.std.specs.Prelude.{◌≡◌, ◌≢◌, ℕ, IfErr, IfOk, IfSome, IsTrue};
 ghost use Rattle.std.specs.Io.{ReadsAtMost, WritesAtMost};
 ghost use Rattle.std.specs.Io.KnownBytes.{ReadConsumes, WriteAppends};
-ghost use Rattle.mq_connections.specs.Wires.{Leaves, Wire, unknown};
+ghost use Rattle.mq_connections.specs.Wires.{IsKnownAs, Leaves, Wire, unknown};
 
 use crate::accept::Connections;
 use crate::fault::RoomFault;
@@ -14,6 +14,12 @@ use std::time::{Duration, Instant};
 /// Connections that come, each under a number, and their streams, whose `read` and `write` mean
 /// what those of std mean. What a stream doesn't give or take now is an error `WouldBlock`.
 pub trait Network {
+    ghost use Rattle.std.specs.Prelude.{None, Option};
+    ghost use Rattle.mq_permits.specs.declared.peer.Peer.{Peer};
+
+    // Who is at the other end of each connection that comes, by its number, where that is known.
+    ghost peers: { ℕ → Option Peer } = { λ _. None };
+
     // The bytes that reads of a connection will give from here on, those that were written to it,
     // and what its peer left of the last write, where they are known.
     ghost wire: { Self → ℕ → Wire } = { λ _ n. unknown n };
@@ -25,10 +31,15 @@ pub trait Network {
     /// its peer is.
     fn accept(&mut self, number: usize) -> Result<Option<Peer>, RoomFault>
         ensures fault { IfErr result (λ fault. fault ≡ RoomFault.Accept) }
+        ensures peer { IfOk result (λ came. IfSome came (IsKnownAs (peers number))) }
         ensures same { (n : ℕ) → wire self.new n ≡ wire self.old n };
 
     /// The number of the connection that was accepted last, and 0 before the first.
     fn last(&self) -> usize;
+
+    /// Whose requests come on a connection that is open.
+    fn peer(&self, number: usize) -> Option<Peer>
+        ensures { IfSome result (IsKnownAs (peers number)) };
 
     /// Whether no further connection comes.
     fn is_done(&self) -> bool

@@ -46,6 +46,7 @@ const FIRST_TURNS: u32 = 2;
 /// A connection that is open.
 #[derive(Drop)]
 pub struct OpenConnection {
+    /// Who it is, as the log names it.
     pub peer: Peer,
     pub connection: Connection,
     pub stay: Stay,
@@ -395,12 +396,13 @@ fn take_lent_turns<'l, 'p, N: Network, C: Clock, L: Hear, K: Lending>(
 }
 
 /// Gives a connection turns, alone or as one of several. What the ledger gains by it is what the
-/// permits allow its peer.
+/// permits allow this peer.
 pub fn give_turns<N: Network, C: Clock, L: Hear>(
     clock: &C,
     alloc: Global,
     network: &mut N,
     number: usize,
+    peer: Peer,
     opened: &mut OpenConnection,
     times: Times,
     alone: bool,
@@ -420,10 +422,9 @@ pub fn give_turns<N: Network, C: Clock, L: Hear>(
         (N.wire network.old number) (N.wire network.new number) opened.old.connection
         opened.new.connection }
     ensures gains { L.has_kept ledger.new → L.is_sound ledger.old →
-        Gains (MayAsk permits.entry opened.old.peer) (L.book ledger.old).history
+        Gains (MayAsk permits.entry peer) (L.book ledger.old).history
         (L.book ledger.new).history }
 {
-    let peer = opened.peer;
     let lent = Lent {
         ledger,
         permits,

@@ -4,8 +4,7 @@ ghost use Rattle.mq_ledger.specs.Leaving.{LeavesLedger};
 ghost use Rattle.mq_ledger.specs.declared.ledger.ReportedCall.{ReportedCall};
 ghost use Rattle.mq_ledger.specs.Legal.{Book};
 ghost use Rattle.mq_server.specs.Delivery.{HasGrown};
-ghost use Rattle.mq_connections.specs.Asking.{peer_of};
-ghost use Rattle.mq_connections.specs.Gained.{Gains, OneMayAsk, SomebodyMayAsk};
+ghost use Rattle.mq_connections.specs.Gained.{Callers, callers};
 ghost use Rattle.mq_connections.specs.Sessions.{GoesOn, GoesOnOrStops, KeepsGoing, Outside, held};
 ghost use Rattle.mq_connections.specs.Turns.{Closes};
 
@@ -75,10 +74,11 @@ impl Room {
         times: Times,
     ) -> Result<(), RoomFault>
         ensures fault { IfErr result (λ fault. fault ≡ RoomFault.Accept) }
-        ensures goes { (old : Outside) (book : Book) (told : Option (List ReportedCall)) →
-            GoesOn old (record { book = book; told = told; wires = N.wire network.old })
+        ensures goes { (who : Callers) (old : Outside) (book : Book)
+            (told : Option (List ReportedCall)) →
+            GoesOn who old (record { book = book; told = told; wires = N.wire network.old })
             self.old.last (held self.old.opened) None →
-            GoesOn old (record { book = book; told = told; wires = N.wire network.new })
+            GoesOn who old (record { book = book; told = told; wires = N.wire network.new })
             self.new.last (held self.new.opened) None }
     {
         for _connection in 0..ACCEPTED {
@@ -104,11 +104,11 @@ impl Room {
         times: Times,
     )
         ensures last { self.new.last ≡ self.old.last }
-        ensures goes { (old : Outside) (book : Book) (told : Option (List ReportedCall))
-            (before : ℕ) → self.old.last ≡ before + 1 →
-            GoesOn old (record { book = book; told = told; wires = N.wire network.old }) before
+        ensures goes { (who : Callers) (old : Outside) (book : Book)
+            (told : Option (List ReportedCall)) (before : ℕ) → self.old.last ≡ before + 1 →
+            GoesOn who old (record { book = book; told = told; wires = N.wire network.old }) before
             (held self.old.opened) None →
-            GoesOn old (record { book = book; told = told; wires = N.wire network.new })
+            GoesOn who old (record { book = book; told = told; wires = N.wire network.new })
             self.old.last (held self.new.opened) None }
     {
         a_life_is_served();
@@ -173,11 +173,10 @@ impl Room {
               told = L.told ledger.new;
               wires = N.wire network.new;
             } in
-            GoesOn old before self.old.last (held self.old.opened) None →
-            GoesOnOrStops old after self.new.last (held self.new.opened) RoomFault.Store result) }
-        ensures gains { L.has_kept ledger.new → L.is_sound ledger.old →
-            Gains (SomebodyMayAsk permits.entry) (L.book ledger.old).history
-            (L.book ledger.new).history }
+            let who = callers permits.entry N.peers in
+            GoesOn who old before self.old.last (held self.old.opened) None →
+            GoesOnOrStops who old after self.new.last (held self.new.opened) RoomFault.Store
+            result) }
     {
         more_deliveries();
         self.serve_together(clock, log, network, ready, times, permits, ledger);
@@ -217,19 +216,20 @@ impl Room {
               told = L.told ledger.new;
               wires = N.wire network.new;
             } in
-            GoesOn old before self.old.last (held self.old.opened) None →
-            GoesOnOrStops old after self.new.last (held self.new.opened) RoomFault.Store result) }
-        ensures gains { L.has_kept ledger.new → L.is_sound ledger.old →
-            Gains (OneMayAsk permits.entry (peer_of self.old.opened)) (L.book ledger.old).history
-            (L.book ledger.new).history }
+            let who = callers permits.entry N.peers in
+            GoesOn who old before self.old.last (held self.old.opened) None →
+            GoesOnOrStops who old after self.new.last (held self.new.opened) RoomFault.Store
+            result) }
     {
         more_exchanges();
+        let Some(peer) = network.peer(number) else {
+            return Ok(());
+        };
         let Some(open) = self.opened.get_mut(&number) else {
             return Ok(());
         };
-        let peer = open.peer;
         match give_turns(
-            clock, self.alloc, network, number, open, times, is_alone, permits, ledger,
+            clock, self.alloc, network, number, peer, open, times, is_alone, permits, ledger,
         ) {
             Progress::Waits => Ok(()),
             Progress::Answered => {

@@ -4,7 +4,8 @@ ghost use Rattle.std.specs.Duration.{as_nanos};
 ghost use Rattle.mq_chore.specs.Choring.{Fitted};
 ghost use Rattle.mq_ledger.specs.Leaving.{LeavesLedger};
 ghost use Rattle.mq_server.specs.Delivery.{HasGrown};
-ghost use Rattle.mq_connections.specs.Gained.{Gains, SomebodyMayAsk};
+ghost use Rattle.mq_connections.specs.Gained.{Gains, callers};
+ghost use Rattle.mq_connections.specs.Places.{CameFromItsPlace};
 ghost use Rattle.mq_connections.specs.Sessions.{EndsServing, GoesOn, GoesOnOrStops, Outside, held};
 ghost use Rattle.mq_connections.specs.Waits.{idle_time, shorter};
 
@@ -59,16 +60,17 @@ pub fn serve_connections<N: Port, C: Clock, G: Log, L: Hear, K: Chore<L>>(
     ensures leaves { LeavesLedger L.book L.has_kept L.is_sound L.has_store ledger.old ledger.new }
     ensures over { result ≡ Ok ServingEnd.Over → connections.new ≡ Connections.Count 0 }
 
-    // Of a sound one that has kept its premise.
+    // Of a sound one that has kept its premise: it gained what these peers may ask by the permits.
     ensures serves { L.has_kept ledger.new → L.is_sound ledger.old → EndsServing
+        (callers permits.entry N.peers)
         (record { book = L.book ledger.old; told = L.told ledger.old; wires = N.wire network.old })
         (record { book = L.book ledger.new; told = L.told ledger.new; wires = N.wire network.new })
         RoomFault.Store result }
     ensures history { L.has_kept ledger.new → L.is_sound ledger.old →
         HasGrown (L.book ledger.old) (L.book ledger.new) }
-    // Each request that it gained is one that the permits allow.
+    // Each request that it gained came from an address of its host, or of an administrator.
     ensures gains { L.has_kept ledger.new → L.is_sound ledger.old →
-        Gains (SomebodyMayAsk permits.entry) (L.book ledger.old).history
+        Gains (CameFromItsPlace permits.entry N.peers) (L.book ledger.old).history
         (L.book ledger.new).history }
 
     // What the chore did fits the ledger with all that came.
@@ -106,12 +108,10 @@ pub fn serve_network<N: Network, C: Clock, G: Log, L: Hear, K: Chore<L>>(
 
     // Of a sound one that has kept its premise.
     ensures serves { L.has_kept ledger.new → L.is_sound ledger.old → EndsServing
+        (callers permits.entry N.peers)
         (record { book = L.book ledger.old; told = L.told ledger.old; wires = N.wire network.old })
         (record { book = L.book ledger.new; told = L.told ledger.new; wires = N.wire network.new })
         RoomFault.Store result }
-    ensures gains { L.has_kept ledger.new → L.is_sound ledger.old →
-        Gains (SomebodyMayAsk permits.entry) (L.book ledger.old).history
-        (L.book ledger.new).history }
     ensures fits { L.has_kept ledger.new → L.is_sound ledger.old →
         Fitted (K.fits chore.old) (L.book ledger.old) → Fitted (K.fits chore.new)
         (L.book ledger.new) }
@@ -156,11 +156,9 @@ fn serve_rounds<N: Network, C: Clock, G: Log, L: Hear, K: Chore<L>>(
           told = L.told ledger.new;
           wires = N.wire network.new;
         } in
-        GoesOn old before room.old.last (held room.old.opened) None →
-        GoesOnOrStops old after room.new.last (held room.new.opened) RoomFault.Store result) }
-    ensures gains { L.has_kept ledger.new → L.is_sound ledger.old →
-        Gains (SomebodyMayAsk permits.entry) (L.book ledger.old).history
-        (L.book ledger.new).history }
+        let who = callers permits.entry N.peers in
+        GoesOn who old before room.old.last (held room.old.opened) None →
+        GoesOnOrStops who old after room.new.last (held room.new.opened) RoomFault.Store result) }
     ensures fits { L.has_kept ledger.new → L.is_sound ledger.old →
         Fitted (K.fits chore.old) (L.book ledger.old) → Fitted (K.fits chore.new)
         (L.book ledger.new) }

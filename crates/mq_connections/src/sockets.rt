@@ -32,6 +32,13 @@ struct Reports {
     events: Events,
 }
 
+/// The socket of a connection that is open, and its peer.
+#[derive(Drop)]
+struct Socket {
+    stream: TcpStream,
+    peer: Peer,
+}
+
 /// A listener, and the sockets of the connections that are open.
 #[derive(Drop)]
 pub struct Sockets<'a, R, G> {
@@ -43,7 +50,7 @@ pub struct Sockets<'a, R, G> {
     /// There are some once a serving has begun.
     reports: Option<Reports>,
     acceptor: Acceptor,
-    streams: BTreeMap<usize, TcpStream>,
+    open: BTreeMap<usize, Socket>,
     /// The number of the connection that was accepted last.
     last: usize,
 }
@@ -58,7 +65,7 @@ impl<'a, R, G> Sockets<'a, R, G> {
             listener: None,
             reports: None,
             acceptor: Acceptor::new(Connections::Count(0)),
-            streams: BTreeMap::new(alloc),
+            open: BTreeMap::new(alloc),
             last: 0,
         }
     }
@@ -84,17 +91,17 @@ impl<R: Net, G> Sockets<'_, R, G> {
 
 impl<R, G> Sockets<'_, R, G> {
     /// Opens a connection that was accepted, and has the system report it.
-    fn register(&mut self, number: usize, stream: TcpStream) -> io::Result<()> {
+    fn register(&mut self, number: usize, socket: Socket) -> io::Result<()> {
         let Some(reports) = &self.reports else {
             return Err(io::Error::from(ErrorKind::NotConnected));
         };
-        stream.set_nonblocking(true)?;
-        let descriptor = stream.as_raw_fd();
+        socket.stream.set_nonblocking(true)?;
+        let descriptor = socket.stream.as_raw_fd();
         reports
             .poll
             .registry()
             .register(&mut SourceFd(&descriptor), Token(number), both_ways())?;
-        match self.streams.insert(number, stream) {
+        match self.open.insert(number, socket) {
             Ok(_) => {
                 self.last = number;
                 Ok(())
@@ -125,7 +132,7 @@ impl<R: Clock, G: Log> Network for Sockets<'_, R, G> {
             return Ok(None);
         };
         let peer = peer_of(&stream, address);
-        match self.register(number, stream) {
+        match self.register(number, Socket { stream, peer }) {
             Ok(()) => Ok(Some(peer)),
             Err(cause) => {
                 warn!(self.log; "connection of {peer}: {cause}");
@@ -136,6 +143,10 @@ impl<R: Clock, G: Log> Network for Sockets<'_, R, G> {
 
     fn last(&self) -> usize {
         self.last
+    }
+
+    fn peer(&self, number: usize) -> Option<Peer> {
+        self.open.get(&number).map(|socket| socket.peer)
     }
 
     fn is_done(&self) -> bool {
@@ -161,10 +172,10 @@ impl<R: Clock, G: Log> Network for Sockets<'_, R, G> {
     }
 
     fn watch_again(&mut self, number: usize) -> io::Result<()> {
-        let (Some(reports), Some(stream)) = (&self.reports, self.streams.get(&number)) else {
+        let (Some(reports), Some(socket)) = (&self.reports, self.open.get(&number)) else {
             return Ok(());
         };
-        let descriptor = stream.as_raw_fd();
+        let descriptor = socket.stream.as_raw_fd();
         reports
             .poll
             .registry()
@@ -172,21 +183,21 @@ impl<R: Clock, G: Log> Network for Sockets<'_, R, G> {
     }
 
     fn read(&mut self, number: usize, piece: &mut [u8]) -> io::Result<usize> {
-        match self.streams.get_mut(&number) {
-            Some(stream) => stream.read(piece),
+        match self.open.get_mut(&number) {
+            Some(socket) => socket.stream.read(piece),
             None => Err(io::Error::from(ErrorKind::NotConnected)),
         }
     }
 
     fn write(&mut self, number: usize, bytes: &[u8]) -> io::Result<usize> {
-        match self.streams.get_mut(&number) {
-            Some(stream) => stream.write(bytes),
+        match self.open.get_mut(&number) {
+            Some(socket) => socket.stream.write(bytes),
             None => Err(io::Error::from(ErrorKind::NotConnected)),
         }
     }
 
     fn close(&mut self, number: usize) {
-        let _ = self.streams.remove(&number);
+        let _ = self.open.remove(&number);
     }
 }
 

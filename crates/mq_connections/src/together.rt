@@ -5,8 +5,7 @@ ghost use Rattle.mq_ledger.specs.Leaving.{LeavesLedger};
 ghost use Rattle.mq_ledger.specs.Legal.{Book};
 ghost use Rattle.mq_server.specs.Delivery.{HasGrown};
 ghost use Rattle.mq_connections.specs.Asking.{AreAsked, ArePeers, Gives, KeepsServing, Left, out};
-ghost use Rattle.mq_connections.specs.Asking.{peer_of};
-ghost use Rattle.mq_connections.specs.Gained.{Gains, OneMayAsk, SomebodyMayAsk};
+ghost use Rattle.mq_connections.specs.Gained.{Callers, callers};
 ghost use Rattle.mq_connections.specs.Sessions.{GoesOn, Outside, held};
 ghost use Rattle.mq_connections.specs.Wires.{Wire};
 
@@ -77,20 +76,19 @@ impl Room {
         ensures leaves { LeavesLedger L.book L.has_kept L.is_sound L.has_store ledger.old ledger.new }
         ensures grows { L.has_kept ledger.new → L.is_sound ledger.old
             → HasGrown (L.book ledger.old) (L.book ledger.new) }
+        // What it gains came on these connections from peers that may ask for it.
         ensures goes { L.has_kept ledger.new → L.is_sound ledger.old → (old : Outside) →
-            GoesOn old (record {
+            let who = callers permits.entry N.peers in
+            GoesOn who old (record {
               book = L.book ledger.old;
               told = L.told ledger.old;
               wires = N.wire network.old;
             }) self.old.last (held self.old.opened) None →
-            GoesOn old (record {
+            GoesOn who old (record {
               book = L.book ledger.new;
               told = L.told ledger.new;
               wires = N.wire network.new;
             }) self.new.last (held self.new.opened) None }
-        ensures gains { L.has_kept ledger.new → L.is_sound ledger.old →
-            Gains (SomebodyMayAsk permits.entry) (L.book ledger.old).history
-            (L.book ledger.new).history }
     {
         more_deliveries();
         if ready.len() < 2 {
@@ -98,8 +96,8 @@ impl Room {
         }
         self.read_all(clock, log, network, ready, times);
         let mut asked = Asked::new(self.alloc);
-        match self.ask_all(ready, &mut asked) {
-            Ok(()) => self.take_together(asked, permits, ledger),
+        match self.ask_all(network, ready, &mut asked) {
+            Ok(()) => self.take_together::<N, L>(asked, permits, ledger),
             // There is no memory for them together.
             Err(_) => {}
         }
@@ -146,60 +144,75 @@ impl Room {
     }
 
     /// Adds the requests that stand next on these connections and may be taken together.
-    fn ask_all(&self, ready: &[usize], asked: &mut Asked) -> Result<(), AllocError>
+    fn ask_all<N: Network>(
+        &self,
+        network: &N,
+        ready: &[usize],
+        asked: &mut Asked,
+    ) -> Result<(), AllocError>
         ensures asked { AreAsked (held self.now.opened) asked.old.numbers.items asked.old.requests.items →
             OnOk result (AreAsked (held self.now.opened) asked.new.numbers.items
             asked.new.requests.items) }
-        ensures peers { ArePeers self.now.opened asked.old.numbers.items asked.old.peers.items →
-            OnOk result (ArePeers self.now.opened asked.new.numbers.items asked.new.peers.items) }
+        ensures peers { ArePeers N.peers asked.old.numbers.items asked.old.peers.items →
+            OnOk result (ArePeers N.peers asked.new.numbers.items asked.new.peers.items) }
     {
         for number in ready {
-            self.ask(*number, asked)?;
+            self.ask(network, *number, asked)?;
         }
         Ok(())
     }
 
     /// Adds the request that stands next on a connection, where it may be taken with others.
-    fn ask(&self, number: usize, asked: &mut Asked) -> Result<(), AllocError>
+    fn ask<N: Network>(
+        &self,
+        network: &N,
+        number: usize,
+        asked: &mut Asked,
+    ) -> Result<(), AllocError>
         ensures asked { AreAsked (held self.now.opened) asked.old.numbers.items asked.old.requests.items →
             OnOk result (AreAsked (held self.now.opened) asked.new.numbers.items
             asked.new.requests.items) }
-        ensures peers { ArePeers self.now.opened asked.old.numbers.items asked.old.peers.items →
-            OnOk result (ArePeers self.now.opened asked.new.numbers.items asked.new.peers.items) }
+        ensures peers { ArePeers N.peers asked.old.numbers.items asked.old.peers.items →
+            OnOk result (ArePeers N.peers asked.new.numbers.items asked.new.peers.items) }
     {
         if TOGETHER <= asked.numbers.len() || asked.numbers.contains(&number) {
             return Ok(());
         }
+        let Some(peer) = network.peer(number) else {
+            return Ok(());
+        };
         let Some(open) = self.opened.get(&number) else {
             return Ok(());
         };
         let Some(request) = open.connection.peek_request(self.alloc) else {
             return Ok(());
         };
-        asked.push(number, open.peer, request)?;
+        asked.push(number, peer, request)?;
         Ok(())
     }
 
     /// Has these requests taken together, and their replies held. Where they can't be, or there is
     /// one alone, each stands next still.
-    fn take_together<L: Hear>(&mut self, asked: Asked, permits: Option<&Permits>, ledger: &mut L)
+    fn take_together<N: Network, L: Hear>(
+        &mut self,
+        asked: Asked,
+        permits: Option<&Permits>,
+        ledger: &mut L,
+    )
         requires asked { AreAsked (held self.old.opened) asked.numbers.items asked.requests.items }
-        requires peers { ArePeers self.old.opened asked.numbers.items asked.peers.items }
-        // Each is one that its own connection's peer may ask.
-        ensures gains { L.has_kept ledger.new → L.is_sound ledger.old →
-            Gains (OneMayAsk permits.entry (peer_of self.old.opened)) (L.book ledger.old).history
-            (L.book ledger.new).history }
+        requires peers { ArePeers N.peers asked.numbers.items asked.peers.items }
         ensures leaves { LeavesLedger L.book L.has_kept L.is_sound L.has_store ledger.old ledger.new }
         ensures grows { L.has_kept ledger.new → L.is_sound ledger.old
             → HasGrown (L.book ledger.old) (L.book ledger.new) }
         ensures goes { L.has_kept ledger.new → L.is_sound ledger.old → (old : Outside)
             (wires : ℕ → Wire) →
-            GoesOn old (record {
+            let who = callers permits.entry N.peers in
+            GoesOn who old (record {
               book = L.book ledger.old;
               told = L.told ledger.old;
               wires = wires;
             }) self.old.last (held self.old.opened) None →
-            GoesOn old (record {
+            GoesOn who old (record {
               book = L.book ledger.new;
               told = L.told ledger.new;
               wires = wires;
@@ -227,9 +240,9 @@ impl Room {
     fn give_all(&mut self, numbers: &[usize], replies: &[Reply])
         requires { All IsReply replies.now }
         ensures last { self.new.last ≡ self.old.last }
-        ensures goes { (old : Outside) (wires : ℕ → Wire) (end : Book) →
-            Left old wires self.old.last (held self.old.opened) numbers.now replies.now end →
-            GoesOn old (out end wires) self.new.last (held self.new.opened) None }
+        ensures goes { (who : Callers) (old : Outside) (wires : ℕ → Wire) (end : Book) →
+            Left who old wires self.old.last (held self.old.opened) numbers.now replies.now end →
+            GoesOn who old (out end wires) self.new.last (held self.new.opened) None }
     {
         more_exchanges();
         for at in 0..numbers.len() {

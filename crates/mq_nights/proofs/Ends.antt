@@ -6,12 +6,13 @@ use Rattle.sqlite.specs.State.{State}
 use Rattle.mq_ledger.specs.declared.zone.Zone.{Zone}
 use Rattle.mq_store.specs.Forgetting.{IsRemembered}
 use Rattle.mq_store.specs.Soundness.{HasKept, book_in}
+use Rattle.mq_connections.specs.Gained.{Callers}
 use Rattle.mq_connections.specs.Sessions.{EndsServing, Outside}
 use Rattle.mq_nights.specs.Nights.{HasRenewed}
 
 -- a serving's end, where the store's failure may have another name
-pub ends_as : {A B E F : Type 0} (old new : Outside) (store : E) (r : Result A E) (failed : F) (q : Result B F)
-    → EndsServing old new store r → (r ≡ Err store → q ≡ Err failed) → (q ≡ Err failed → r ≡ Err store) → EndsServing old new failed q
+pub ends_as : {A B E F : Type 0} {who : Callers} (old new : Outside) (store : E) (r : Result A E) (failed : F) (q : Result B F)
+    → EndsServing who old new store r → (r ≡ Err store → q ≡ Err failed) → (q ≡ Err failed → r ≡ Err store) → EndsServing who old new failed q
 ends_as old new store r failed q ends to back = record {
   failed = ends.failed;
   served = ends.served;

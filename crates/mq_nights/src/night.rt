@@ -6,6 +6,7 @@ ghost use Rattle.sqlite.specs.Tree.{Trees};
 ghost use Rattle.mq_server.specs.Delivery.{HasGrown};
 ghost use Rattle.mq_store.specs.Forgetting.{IsRemembered};
 ghost use Rattle.mq_store.specs.Soundness.{book_in, HasKept, IsSound};
+ghost use Rattle.mq_connections.specs.Gained.{callers};
 ghost use Rattle.mq_connections.specs.Sessions.{EndsServing};
 ghost use Rattle.mq_nights.specs.Nights.{EndsNight, WasDue};
 
@@ -66,7 +67,7 @@ where
         (book_in ledger.new.zone ledger.new.default (state S.Store ledger.new.connection).now) }
     ensures serves { HasKept (state S.Store ledger.new.connection)
         → IsSound ledger.old.zone ledger.old.default (state S.Store ledger.old.connection)
-        → EndsServing
+        → EndsServing (callers permits.entry W.peers)
         (record {
           book = book_in ledger.old.zone ledger.old.default
               (state S.Store ledger.old.connection).now;
@@ -165,7 +166,7 @@ where
     ensures over { result ≡ Ok None → connections.new ≡ Connections.Count 0 }
 
     // Of a sound one that has kept its premise: it gained what was served over these wires, and
-    // nothing else.
+    // which these peers may ask by the permits, and nothing else.
     ensures sound { HasKept (state S.Store ledger.new.connection)
         → IsSound ledger.old.zone ledger.old.default (state S.Store ledger.old.connection)
         → IsSound ledger.new.zone ledger.new.default (state S.Store ledger.new.connection) }
@@ -176,7 +177,7 @@ where
         (book_in ledger.new.zone ledger.new.default (state S.Store ledger.new.connection).now) }
     ensures serves { HasKept (state S.Store ledger.new.connection)
         → IsSound ledger.old.zone ledger.old.default (state S.Store ledger.old.connection)
-        → EndsServing
+        → EndsServing (callers permits.entry W.peers)
         (record {
           book = book_in ledger.old.zone ledger.old.default
               (state S.Store ledger.old.connection).now;

@@ -18,6 +18,7 @@ use Rattle.mq_ledger.specs.Legal.{Book, IsLegal}
 use Rattle.mq_forget.specs.Remembered.{AreLaterOrLate, is_about, is_of_no_forgotten, remembered}
 use Rattle.mq_server.specs.Delivery.{Delivery, answer_to, answers_after, arrivals, asked, history_after}
 use Rattle.mq_server.specs.Life.{Exchange, deliveries, replies_of}
+use Rattle.mq_connections.specs.Gained.{Callers}
 use Rattle.mq_connections.specs.Sessions.{Outside, HaveServed, Placed, all_of, those_of}
 use Rattle.mq_program.specs.AfterForgetting.{AnswersAsWhole, grown}
 
@@ -132,7 +133,7 @@ module _ (alike : AnswerAlike) (one_more : OneMore) (again : Again) (built : Bui
         ∙ ap (λ (G : List Entry). reply (day_of zone) default G r) (sym e)
     answered_alike seen false r in_range late about number = refl
 
-    pub answers_as_whole : (old new : Outside) (failed : Option Request) → old.book ≡ less → (served : HaveServed old new failed) → AnswersAsWhole zone default D H came (all_of served.placed)
+    pub answers_as_whole : {who : Callers} (old new : Outside) (failed : Option Request) → old.book ≡ less → (served : HaveServed who old new failed) → AnswersAsWhole zone default D H came (all_of served.placed)
     answers_as_whole old new failed book served before after x split late about number =
         let xs = all_of served.placed in
         let ranges : AllByRecursion InRange xs = each_in_range served.placed (λ n.

@@ -9,6 +9,7 @@ use Rattle.mq_ledger.specs.declared.zone.Zone.{Zone}
 use Rattle.mq_ledger.specs.Legal.{IsLegalBook}
 use Rattle.mq_connections.specs.declared.fault.RoomFault.TheVariants.{Store}
 use Rattle.mq_connections.specs.Asking.{out}
+use Rattle.mq_connections.specs.Gained.{Callers}
 use Rattle.mq_connections.specs.Sessions.{EndsServing, Outside}
 use Rattle.mq_connections.specs.Wires.{Wire}
 use Rattle.mq_store.specs.Forgetting.{IsRemembered}
@@ -30,59 +31,59 @@ kept_before P (Some before) last new closes kept = all_but_last P before last (s
 kept_before P None last new closes kept = absurd (subst (AreKept P) closes kept)
 
 -- nights after nights
-nights_on : (start b c : Outside) → AfterNights start b → AfterNights b c → AfterNights start c
+nights_on : {who : Callers} (start b c : Outside) → AfterNights who start b → AfterNights who b c → AfterNights who start c
 nights_on start b c before Begun = before
 nights_on start b c before (Night m grown day after served) = Night m grown day (nights_on start b m before after) served
 nights_on start b c before (Stayed m grown after served) = Stayed m grown (nights_on start b m before after) served
 
-passed_on : (start b now : Outside) → AfterNights start b → ServesNights b now → ServesNights start now
+passed_on : {who : Callers} (start b now : Outside) → AfterNights who start b → ServesNights who b now → ServesNights who start now
 passed_on start b now before nights = record { dawn = nights.dawn; nights = nights_on start b nights.dawn before nights.nights; served = nights.served }
 
 -- nothing was served
-none_served : (o : Outside) → EndsServing {A = Unit {0}} o o Store (Ok tt) → AreServed o o
+none_served : {who : Callers} (o : Outside) → EndsServing {A = Unit {0}} who o o Store (Ok tt) → AreServed who o o
 none_served o ends = (ends.failed, ends.served)
 
 -- what holds of each ledger that a night may have left, of the one that it left
 pub dawn_of : {A E : Type 0} (o : Result (Option A) E) (f : Option A) (d : A) (P : A → Type 0) → o ≡ Ok f → f ≡ Some d → IfOk o (λ x. IfSome x P) → P d
 dawn_of o f d P a b p = subst (λ x. IfSome x P) b (subst (λ x. IfOk x (λ y. IfSome y P)) a p)
 
-module _ (zone z : Zone) (default d : ℕ) (zone_is : z ≡ zone) (default_is : d ≡ default) (start : Outside) (wires : ℕ → Wire) where
+module _ {who : Callers} (zone z : Zone) (default d : ℕ) (zone_is : z ≡ zone) (default_is : d ≡ default) (start : Outside) (wires : ℕ → Wire) where
   -- one night
-  pub one_night : (day : ℕ) (old : Database) (new : State) → AreServed start (out (book_in z d old) wires) → IsRemembered zone default day old new → AfterNights start (out (book_in zone default new.now) wires)
+  pub one_night : (day : ℕ) (old : Database) (new : State) → AreServed who start (out (book_in z d old) wires) → IsRemembered zone default day old new → AfterNights who start (out (book_in zone default new.now) wires)
   one_night day old new served has =
       let grown : Outside = out (book_in zone default old) wires in
-      let same : AreServed start grown = subst₂ (λ k n. AreServed start (out (book_in k n old) wires)) zone_is default_is served in
-      subst (λ h. AfterNights start (out (record { zone = zone; default = default; history = h }) wires)) (sym has.history) (Night start grown day Begun same)
+      let same : AreServed who start grown = subst₂ (λ k n. AreServed who start (out (book_in k n old) wires)) zone_is default_is served in
+      subst (λ h. AfterNights who start (out (record { zone = zone; default = default; history = h }) wires)) (sym has.history) (Night start grown day Begun same)
 
   -- a night in which the former ledger stayed
-  pub stayed : (new : State) → IsSound z d new → AreServed start (out (book_in z d new.now) wires) → HasDawned zone default start new wires
+  pub stayed : (new : State) → IsSound z d new → AreServed who start (out (book_in z d new.now) wires) → HasDawned who zone default start new wires
   stayed new sound served = (
     subst₂ (λ k n. IsSound k n new) zone_is default_is sound,
-    Stayed start (out (book_in zone default new.now) wires) Begun (subst₂ (λ k n. AreServed start (out (book_in k n new.now) wires)) zone_is default_is served),
+    Stayed start (out (book_in zone default new.now) wires) Begun (subst₂ (λ k n. AreServed who start (out (book_in k n new.now) wires)) zone_is default_is served),
   )
 
   -- a serving without a night
-  pub passed_at_once : (new : State) → IsSound z d new → AreServed start (out (book_in z d new.now) wires) → HasPassed zone default start new wires
+  pub passed_at_once : (new : State) → IsSound z d new → AreServed who start (out (book_in z d new.now) wires) → HasPassed who zone default start new wires
   passed_at_once new sound served = (
     subst₂ (λ k n. IsSound k n new) zone_is default_is sound,
-    record { dawn = start; nights = Begun; served = subst₂ (λ k n. AreServed start (out (book_in k n new.now) wires)) zone_is default_is served },
+    record { dawn = start; nights = Begun; served = subst₂ (λ k n. AreServed who start (out (book_in k n new.now) wires)) zone_is default_is served },
   )
 
 -- nights after which nothing was served
-pub passed_still : (zone : Zone) (default : ℕ) (start : Outside) (new : State) (wires : ℕ → Wire) → ((o : Outside) → IsLegalBook o.book → EndsServing {A = Unit {0}} o o Store (Ok tt)) → HasDawned zone default start new wires → HasPassed zone default start new wires
+pub passed_still : {who : Callers} (zone : Zone) (default : ℕ) (start : Outside) (new : State) (wires : ℕ → Wire) → ((o : Outside) → IsLegalBook o.book → EndsServing {A = Unit {0}} who o o Store (Ok tt)) → HasDawned who zone default start new wires → HasPassed who zone default start new wires
 passed_still zone default start new wires none (sound, nights) =
     let o : Outside = out (book_in zone default new.now) wires in
     (sound, record { dawn = o; nights = nights; served = none_served o (none o sound.legal) })
 
-module _ (zone z : Zone) (default d : ℕ) (zone_is : z ≡ zone) (default_is : d ≡ default) (start : Outside) (old : State) (wires : ℕ → Wire) (new : State) (after : ℕ → Wire) (before : AfterNights start (out (book_in zone default old.now) wires)) where
+module _ {who : Callers} (zone z : Zone) (default d : ℕ) (zone_is : z ≡ zone) (default_is : d ≡ default) (start : Outside) (old : State) (wires : ℕ → Wire) (new : State) (after : ℕ → Wire) (before : AfterNights who start (out (book_in zone default old.now) wires)) where
   -- one more night
-  pub dawn_on : HasDawned z d (out (book_in z d old.now) wires) new after → HasDawned zone default start new after
+  pub dawn_on : HasDawned who z d (out (book_in z d old.now) wires) new after → HasDawned who zone default start new after
   dawn_on has =
-      let (sound, nights) = subst₂ (λ k n. HasDawned k n (out (book_in k n old.now) wires) new after) zone_is default_is has in
+      let (sound, nights) = subst₂ (λ k n. HasDawned who k n (out (book_in k n old.now) wires) new after) zone_is default_is has in
       (sound, nights_on start (out (book_in zone default old.now) wires) (out (book_in zone default new.now) after) before nights)
 
   -- the last ones
-  pub end_on : HasPassed z d (out (book_in z d old.now) wires) new after → HasPassed zone default start new after
+  pub end_on : HasPassed who z d (out (book_in z d old.now) wires) new after → HasPassed who zone default start new after
   end_on has =
-      let (sound, nights) = subst₂ (λ k n. HasPassed k n (out (book_in k n old.now) wires) new after) zone_is default_is has in
+      let (sound, nights) = subst₂ (λ k n. HasPassed who k n (out (book_in k n old.now) wires) new after) zone_is default_is has in
       (sound, passed_on start (out (book_in zone default old.now) wires) (out (book_in zone default new.now) after) before nights)

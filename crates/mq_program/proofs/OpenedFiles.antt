@@ -15,6 +15,7 @@ use Rattle.mq_ledger.specs.Answer.{build}
 use Rattle.mq_ledger.specs.Day.{day_of}
 use Rattle.mq_ledger.specs.Legal.{Book, IsLegalBook}
 use Rattle.mq_connections.specs.Asking.{out}
+use Rattle.mq_connections.specs.Gained.{Callers}
 use Rattle.mq_connections.specs.Wires.{Wire}
 use Rattle.mq_rows.specs.Tables.{AreRows}
 use Rattle.mq_tables.specs.Ledger.{HasLedger}
@@ -73,21 +74,21 @@ module _ (image : Image) (s : State) (one : HaveOneSchema) (opens : Opens s) (li
   }
 
 -- what was served since is what was served
-module _ (zone : Zone) (default : ℕ) (old : State) (before : ℕ → Wire) (new : State) (after : ℕ → Wire) (outcome : Result ℕ ProgramFault) (sound_then : IsSound zone default old → IsSound zone default new)
-    (serves : IsSound zone default old → Serves (out (book_in zone default old.now) before) (out (book_in zone default new.now) after) outcome) where
-  served_after : (b : Book) → IsSound zone default old → book_in zone default old.now ≡ b → HasServed zone default (out b before) new after outcome
-  served_after b is book = (sound_then is, subst (λ (x : Book). Serves (out x before) (out (book_in zone default new.now) after) outcome) book (serves is))
+module _ {who : Callers} (zone : Zone) (default : ℕ) (old : State) (before : ℕ → Wire) (new : State) (after : ℕ → Wire) (outcome : Result ℕ ProgramFault) (sound_then : IsSound zone default old → IsSound zone default new)
+    (serves : IsSound zone default old → Serves who (out (book_in zone default old.now) before) (out (book_in zone default new.now) after) outcome) where
+  served_after : (b : Book) → IsSound zone default old → book_in zone default old.now ≡ b → HasServed who zone default (out b before) new after outcome
+  served_after b is book = (sound_then is, subst (λ (x : Book). Serves who (out x before) (out (book_in zone default new.now) after) outcome) book (serves is))
 
-  pub serves_from : (image : Image) → MeansFile zone default image old → ServesFrom zone default image before new after outcome
+  pub serves_from : (image : Image) → MeansFile zone default image old → ServesFrom who zone default image before new after outcome
   serves_from image means b keeps =
       let (of_zone, of_default, is, book) = means b keeps in
       (of_zone, of_default, served_after b is book)
 
   -- a new ledger means nothing
-  pub served_anew : IsNew zone default old → HasServed zone default (out (book_of zone default []) before) new after outcome
+  pub served_anew : IsNew zone default old → HasServed who zone default (out (book_of zone default []) before) new after outcome
   served_anew it = served_after (book_of zone default []) it.sound (ap (λ rs. book_of zone default (build (day_of zone) default rs)) it.blank)
 
-  pub serves_from_nothing : (image : Image) → IsMadeIn zone default image old → ServesFromNothing zone default image before new after outcome
+  pub serves_from_nothing : (image : Image) → IsMadeIn zone default image old → ServesFromNothing who zone default image before new after outcome
   serves_from_nothing image made none = served_anew (made.empty none)
 
 -- an audit leaves the ledger as it was

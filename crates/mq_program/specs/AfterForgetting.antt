@@ -15,6 +15,7 @@ use Rattle.mq_forget.specs.Remembered.{AreLaterOrLate, is_about, is_of_no_forgot
 use Rattle.mq_server.specs.Delivery.{answer_to, arrivals, history_after}
 use Rattle.mq_server.specs.Life.{Exchange, deliveries}
 use Rattle.mq_connections.specs.Asking.{out}
+use Rattle.mq_connections.specs.Gained.{Callers}
 use Rattle.mq_connections.specs.Sessions.{all_of}
 use Rattle.mq_connections.specs.Wires.{Wire}
 use Rattle.mq_store.specs.Taking.{book_of}
@@ -38,9 +39,9 @@ AnswersAsWhole zone default D H came xs =
 
 -- where the files hold the rows of what is remembered of a legal history, and of what came since, what was served is so
 -- answered
-abbrev pub ServesRemembered : {A : Type 0} → Zone → ℕ → Image → (before : ℕ → Wire) → State → (after : ℕ → Wire) → Result A ProgramFault → Type 0
-ServesRemembered zone default image before new after outcome =
+abbrev pub ServesRemembered : {A : Type 0} → Callers → Zone → ℕ → Image → (before : ℕ → Wire) → State → (after : ℕ → Wire) → Result A ProgramFault → Type 0
+ServesRemembered who zone default image before new after outcome =
     (D : ℕ) (H : List Entry) (came : List Request) → IsLegal (day_of zone) default H → All IsRequest came
     → KeepsBook image (grown zone default (remembered (day_of zone) D H) came)
-    → (served : HasServed zone default (out (grown zone default (remembered (day_of zone) D H) came) before) new after outcome)
+    → (served : HasServed who zone default (out (grown zone default (remembered (day_of zone) D H) came) before) new after outcome)
     × AnswersAsWhole zone default D H came (all_of served.1.served.placed)

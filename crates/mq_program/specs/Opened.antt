@@ -9,6 +9,7 @@ use Rattle.mq_ledger.specs.declared.zone.Zone.{Zone}
 use Rattle.mq_ledger.specs.Legal.{Book}
 use Rattle.mq_tables.specs.Making.{AreUnnamed}
 use Rattle.mq_connections.specs.Asking.{out}
+use Rattle.mq_connections.specs.Gained.{Callers}
 use Rattle.mq_connections.specs.Wires.{Wire}
 use Rattle.mq_settings.specs.declared.settings.value.Place.{Place}
 use Rattle.mq_settings.specs.declared.settings.value.Place.TheVariants as place
@@ -51,12 +52,12 @@ pub record IsMadeIn (zone : Zone) (default : ℕ) (image : Image) (new : State) 
 
 -- A legal history whose rows the files kept is of this zone and default; what was served after it over these wires, and nothing
 -- else, is what the sound store has gained.
-abbrev pub ServesFrom : {A : Type 0} → Zone → ℕ → Image → (before : ℕ → Wire) → State → (after : ℕ → Wire) → Result A ProgramFault → Type 0
-ServesFrom zone default image before new after outcome =
+abbrev pub ServesFrom : {A : Type 0} → Callers → Zone → ℕ → Image → (before : ℕ → Wire) → State → (after : ℕ → Wire) → Result A ProgramFault → Type 0
+ServesFrom who zone default image before new after outcome =
     (b : Book) → KeepsBook image b
-    → (b.zone ≡ zone) × (b.default ≡ default) × HasServed zone default (out b before) new after outcome
+    → (b.zone ≡ zone) × (b.default ≡ default) × HasServed who zone default (out b before) new after outcome
 
 -- where the database file was empty, what was served over these wires, and nothing else, is what the sound store means
-abbrev pub ServesFromNothing : {A : Type 0} → Zone → ℕ → Image → (before : ℕ → Wire) → State → (after : ℕ → Wire) → Result A ProgramFault → Type 0
-ServesFromNothing zone default image before new after outcome =
-    image.db ≡ [] → HasServed zone default (out (book_of zone default []) before) new after outcome
+abbrev pub ServesFromNothing : {A : Type 0} → Callers → Zone → ℕ → Image → (before : ℕ → Wire) → State → (after : ℕ → Wire) → Result A ProgramFault → Type 0
+ServesFromNothing who zone default image before new after outcome =
+    image.db ≡ [] → HasServed who zone default (out (book_of zone default []) before) new after outcome

@@ -6,6 +6,7 @@ ghost use Rattle.mq_server.specs.Delivery.{HasGrown};
 ghost use Rattle.mq_store.specs.Forgetting.{IsRemembered};
 ghost use Rattle.mq_store.specs.Soundness.{book_in, HasKept, IsSound};
 ghost use Rattle.mq_connections.specs.Asking.{out};
+ghost use Rattle.mq_connections.specs.Gained.{callers};
 ghost use Rattle.mq_program.specs.Nights.{AreKept, AreServed, HasDawned, HasPassed};
 
 use crate::caretaker::Caretaker;
@@ -236,7 +237,8 @@ where
     ensures kept { HasKept (state S.Store result.ledger.connection)
         → HasKept (state S.Store serving.entry.connection) }
 
-    // The ledger gained what was served over these wires, and nothing else.
+    // The ledger gained what was served over these wires, and which these peers may ask by the
+    // permits, and nothing else.
     ensures sound { HasKept (state S.Store result.ledger.connection)
         → IsSound serving.entry.zone serving.entry.default (state S.Store serving.entry.connection)
         → IsSound result.ledger.zone result.ledger.default
@@ -249,7 +251,8 @@ where
         (state S.Store result.ledger.connection).now) }
     ensures serves { HasKept (state S.Store result.ledger.connection)
         → IsSound serving.entry.zone serving.entry.default (state S.Store serving.entry.connection)
-        → AreServed (out (book_in serving.entry.zone serving.entry.default
+        → AreServed (callers nights.now.permits W.peers)
+        (out (book_in serving.entry.zone serving.entry.default
         (state S.Store serving.entry.connection).now) (W.wire network.old))
         (out (book_in result.ledger.zone result.ledger.default
         (state S.Store result.ledger.connection).now) (W.wire network.new)) }
@@ -341,14 +344,14 @@ where
         → IsSound serving.entry.zone serving.entry.default (state N.Store serving.entry.connection)
         → IfOk result (λ d. HasKept (state N.Store d.serving.connection)
         → (d.serving.zone ≡ serving.entry.zone) × (d.serving.default ≡ serving.entry.default)
-        × HasDawned serving.entry.zone serving.entry.default
+        × HasDawned (callers nights.now.permits W.peers) serving.entry.zone serving.entry.default
         (out (book_in serving.entry.zone serving.entry.default
         (state N.Store serving.entry.connection).now) (W.wire network.old))
         (state N.Store d.serving.connection) (W.wire network.new)) }
     ensures end { AreKept (λ c. HasKept (state N.Store c)) (F.closed files.new) → F.is_fresh
         → IsSound serving.entry.zone serving.entry.default (state N.Store serving.entry.connection)
         → IfErr result (λ s. HasKept (state N.Store s.ledger.connection)
-        → HasPassed serving.entry.zone serving.entry.default
+        → HasPassed (callers nights.now.permits W.peers) serving.entry.zone serving.entry.default
         (out (book_in serving.entry.zone serving.entry.default
         (state N.Store serving.entry.connection).now) (W.wire network.old))
         (state N.Store s.ledger.connection) (W.wire network.new)) }
@@ -403,7 +406,7 @@ where
     ensures nights { AreKept (λ c. HasKept (state N.Store c)) (F.closed files.new) → F.is_fresh
         → IsSound ledger.zone ledger.default (state N.Store ledger.connection)
         → HasKept (state N.Store result.ledger.connection)
-        → HasPassed ledger.zone ledger.default
+        → HasPassed (callers nights.now.permits W.peers) ledger.zone ledger.default
         (out (book_in ledger.zone ledger.default (state N.Store ledger.connection).now)
         (W.wire network.old))
         (state N.Store result.ledger.connection) (W.wire network.new) }
@@ -528,7 +531,7 @@ where
     ensures { AreKept (λ c. HasKept (state N.Store c)) (F.closed files.new) → F.is_fresh
         → IsSound ledger.zone ledger.default (state N.Store ledger.connection)
         → HasKept (state N.Store result.ledger.connection)
-        → HasPassed ledger.zone ledger.default
+        → HasPassed (callers nights.now.permits W.peers) ledger.zone ledger.default
         (out (book_in ledger.zone ledger.default (state N.Store ledger.connection).now)
         (W.wire network.old))
         (state N.Store result.ledger.connection) (W.wire network.new) }

@@ -13,6 +13,7 @@ ghost use Rattle.mq_program.specs.Serving.{connections_of, HasServed, Serves};
 ghost use Rattle.mq_program.specs.Opened.{ServesFrom, ServesFromNothing};
 ghost use Rattle.mq_connections.specs.declared.fault.RoomFault.TheVariants.{Store as store_failed};
 ghost use Rattle.mq_connections.specs.Asking.{out};
+ghost use Rattle.mq_connections.specs.Gained.{callers};
 ghost use Rattle.mq_connections.specs.Sessions.{EndsServing};
 ghost use Rattle.mq_program.specs.declared.fault.ProgramFault.TheVariants.{Serve};
 ghost use Rattle.mq_process.specs.Settings.{AreInRange};
@@ -198,8 +199,10 @@ where
     R: Clock + AllocGlobal,
     requires { AreInRange settings.now }
 
-    // It begins with no history, and gains what is served over these wires, and nothing else.
-    ensures { IfOk result (λ served. HasServed settings.now.zone settings.now.default
+    // It begins with no history, and gains what is served over these wires, and which these peers
+    // may ask by the permits, and nothing else.
+    ensures { IfOk result (λ served. HasServed (callers permits.entry W.peers)
+        settings.now.zone settings.now.default
         (out (book_of settings.now.zone settings.now.default []) (W.wire network.old))
         (state over_memory served.ledger.connection) (W.wire network.new)
         served.outcome) }
@@ -238,15 +241,18 @@ where
     requires { AreInRange settings.now }
 
     // A server begins with the history whose rows the files hold, and gains what is served over
-    // these wires, and nothing else; so does one that makes its ledger, with no history.
+    // these wires, and which these peers may ask by the permits, and nothing else; so does one that
+    // makes its ledger, with no history.
     ensures begun { create ≡ false → IfOk result (λ served. HasKept
         (file_state served.ledger.connection)
-        → ServesFrom settings.now.zone settings.now.default (image_at S.Start)
+        → ServesFrom (callers permits.entry W.peers)
+        settings.now.zone settings.now.default (image_at S.Start)
         (W.wire network.old) (file_state served.ledger.connection) (W.wire network.new)
         served.outcome) }
     ensures made { IsTrue create → IfOk result (λ served. HasKept
         (file_state served.ledger.connection)
-        → ServesFromNothing settings.now.zone settings.now.default (image_at S.Start)
+        → ServesFromNothing (callers permits.entry W.peers)
+        settings.now.zone settings.now.default (image_at S.Start)
         (W.wire network.old) (file_state served.ledger.connection) (W.wire network.new)
         served.outcome) }
 
@@ -255,7 +261,8 @@ where
     // kept days, or late.
     ensures remembered { create ≡ false → IfOk result (λ served. HasKept
         (file_state served.ledger.connection)
-        → ServesRemembered settings.now.zone settings.now.default (image_at S.Start)
+        → ServesRemembered (callers permits.entry W.peers)
+        settings.now.zone settings.now.default (image_at S.Start)
         (W.wire network.old) (file_state served.ledger.connection) (W.wire network.new)
         served.outcome) }
 {
@@ -302,7 +309,8 @@ where
         → IsSound ledger.zone ledger.default (state S.Store result.ledger.connection) }
     ensures serves { HasKept (state S.Store result.ledger.connection)
         → IsSound ledger.zone ledger.default (state S.Store ledger.connection)
-        → Serves (out (book_in ledger.zone ledger.default (state S.Store ledger.connection).now)
+        → Serves (callers permits.entry W.peers)
+        (out (book_in ledger.zone ledger.default (state S.Store ledger.connection).now)
         (W.wire network.old))
         (out (book_in ledger.zone ledger.default (state S.Store result.ledger.connection).now)
         (W.wire network.new)) result.outcome }
@@ -396,7 +404,8 @@ where
         → IsSound ledger.zone ledger.default (state S.Store result.ledger.connection) }
     ensures serves { HasKept (state S.Store result.ledger.connection)
         → IsSound ledger.zone ledger.default (state S.Store ledger.connection)
-        → Serves (out (book_in ledger.zone ledger.default (state S.Store ledger.connection).now)
+        → Serves (callers permits.entry W.peers)
+        (out (book_in ledger.zone ledger.default (state S.Store ledger.connection).now)
         (W.wire network.old))
         (out (book_in ledger.zone ledger.default (state S.Store result.ledger.connection).now)
         (W.wire network.new)) result.outcome }
@@ -519,6 +528,7 @@ pub fn listen<R: Clock, G: Log, W: Port, L: Ledger + Hear, K: Chore<L>>(
     ensures history { L.has_kept ledger.new → L.is_sound ledger.old →
         HasGrown (L.book ledger.old) (L.book ledger.new) }
     ensures serves { L.has_kept ledger.new → L.is_sound ledger.old → EndsServing
+        (callers permits.entry W.peers)
         (record { book = L.book ledger.old; told = L.told ledger.old; wires = W.wire network.old })
         (record { book = L.book ledger.new; told = L.told ledger.new; wires = W.wire network.new })
         (Serve store_failed) result }

@@ -5,4 +5,4 @@ use Rattle.mq_connections.proofs.Standing.{nothing_served}
 use Rattle.mq_connections.proofs.laws.nothing_is_served.Goals as goal
 
 pub returns : goal.returns
-returns c = λ o legal. nothing_served o faults.Store (Ok tt) c.a_life_is_served.ensures.begins (c.more_exchanges.ensures.none o.book legal) (ok_not tt faults.Store)
+returns c = λ who o legal. nothing_served o faults.Store (Ok tt) c.a_life_is_served.ensures.begins (c.more_exchanges.ensures.none o.book legal) (ok_not tt faults.Store)

@@ -1,7 +1,6 @@
 use Rattle.std.proofs.lemmas.Result.{err_from_is_err_and}
 use Rattle.mq_connections.specs.declared.fault.RoomFault.TheVariants as faults
 use Rattle.mq_connections.specs.Sessions.{Outside, held}
-use Rattle.mq_connections.proofs.Gaining.{gains_none}
 use Rattle.mq_connections.proofs.Standing.{begins, ends_so, goes_last, not_memory, nothing_served}
 use Rattle.std.proofs.Common.{None}
 use Rattle.mq_connections.proofs.serving.serve_network.Goals as goal
@@ -25,7 +24,4 @@ returns-clause-serves g c = λ k s.
     let still = held c.close_all.new.self.opened in
     let begun = goes_last start start c.last.result room.last (held room.opened) None c.new-room.ensures.last
     (begins start c.last.result (held room.opened) c.a_life_is_served.ensures.begins (c.more_exchanges.ensures.none start.book (g.met.L.Ledger.sound_is_legal c.args.ledger.now s)) c.new-room.ensures.none) in
-    ends_so start stopped now one.last (held one.opened) still faults.Store c.serve_rounds-ended.result c.close_all.ensures.none (λ failed goes. c.close_all.ensures.goes start stopped.book stopped.told one.last failed goes) (c.serve_rounds-ended.ensures.goes k s start begun)
-
-pub returns-in_err-ready-clause-gains : goal.returns-in_err-ready-clause-gains
-returns-in_err-ready-clause-gains g c = λ k s. gains_none _
+    ends_so start stopped now one.last (held one.opened) still faults.Store c.serve_rounds-ended.result c.close_all.ensures.none (λ failed goes. c.close_all.ensures.goes _ start stopped.book stopped.told one.last failed goes) (c.serve_rounds-ended.ensures.goes k s start begun)

@@ -1,11 +1,11 @@
 //! Connections in memory, whose peers send and take what a test wants and report what came and
 //! went, and a clock that goes on as it is read.
 ghost use Rattle.std.specs.Prelude.{◌≡◌, ◌≤◌, ◌<◌, [], length, take, vec_len, Ok, Some, IfOk};
-ghost use Rattle.std.specs.Prelude.{IfSome};
+ghost use Rattle.std.specs.Prelude.{IfSome, None};
 ghost use Rattle.std.specs.Io.{ReadsAtMost, WritesAtMost};
 ghost use Rattle.std.specs.Io.KnownBytes.{ReadConsumes, WriteAppends};
 ghost use Rattle.mq_chore.specs.Choring.{Fitted};
-ghost use Rattle.mq_connections.specs.Gained.{Gains, SomebodyMayAsk};
+ghost use Rattle.mq_connections.specs.Gained.{callers};
 ghost use Rattle.mq_connections.specs.Wires.{Leaves};
 ghost use Rattle.mq_connections.specs.Sessions.{EndsServing};
 ghost use Rattle.mq_ends_tests.specs.Peers.{wires_of};
@@ -233,6 +233,10 @@ impl Network for Peers {
         self.accepted
     }
 
+    fn peer(&self, _number: usize) -> Option<Asker> {
+        Some(stranger(self.address))
+    }
+
     fn is_done(&self) -> bool {
         self.accepted >= self.peers.len()
     }
@@ -321,6 +325,7 @@ pub fn serve_peers<C: Clock, G: Log, L: Hear, K: Chore<L>>(
     chore: &mut K,
 ) -> Result<ServingEnd, RoomFault>
     ensures serves { L.has_kept ledger.new → L.is_sound ledger.old → EndsServing
+        (callers permits.entry (λ _. None))
         (record {
           book = L.book ledger.old;
           told = L.told ledger.old;
@@ -332,9 +337,6 @@ pub fn serve_peers<C: Clock, G: Log, L: Hear, K: Chore<L>>(
           wires = wires_of network.new.peers.items;
         })
         RoomFault.Store result }
-    ensures gains { L.has_kept ledger.new → L.is_sound ledger.old →
-        Gains (SomebodyMayAsk permits.entry) (L.book ledger.old).history
-        (L.book ledger.new).history }
     ensures done { L.has_kept ledger.new → L.is_sound ledger.old
         → Fitted (K.fits chore.old) (L.book ledger.old) →
         result ≡ Ok ServingEnd.Chore → K.is_done chore.new (L.book ledger.new) }

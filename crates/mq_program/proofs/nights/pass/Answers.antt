@@ -4,6 +4,7 @@ use Rattle.mq_store.specs.Soundness.{book_in, HasKept, IsSound}
 use Rattle.std.proofs.Common.{subst, sym}
 use Rattle.mq_store.specs.Forgetting.{IsRemembered}
 use Rattle.mq_connections.specs.Asking.{out}
+use Rattle.mq_connections.specs.Gained.{callers}
 use Rattle.mq_program.specs.Nights.{AreServed}
 use Rattle.mq_program.proofs.NightSteps.{next_one}
 use Rattle.mq_program.proofs.nights.pass.Goals as goal
@@ -44,7 +45,7 @@ pub returns-in-Ok-clause-serves : goal.returns-in-Ok-clause-serves
 returns-in-Ok-clause-serves g c =
     let old = c.args.serving in
     subst (λ l. HasKept (state g.S.Store l.connection) → IsSound old.zone old.default (state g.S.Store old.connection)
-    → AreServed (out (book_in old.zone old.default (state g.S.Store old.connection).now) (g.W.Network.wire c.args.network.now))
+    → AreServed (callers c.args.nights.now.permits g.W.Network.peers) (out (book_in old.zone old.default (state g.S.Store old.connection).now) (g.W.Network.wire c.args.network.now))
     (out (book_in l.zone l.default (state g.S.Store l.connection).now) (g.W.Network.wire c.pass_night.new.network)))
     (sym c.end_night.ensures.former) (λ k s. let ends = c.pass_night.ensures.serves k s in (ends.failed, ends.served))
 
@@ -52,6 +53,6 @@ pub returns-in-Err-clause-serves : goal.returns-in-Err-clause-serves
 returns-in-Err-clause-serves g c =
     let old = c.args.serving in
     subst (λ l. HasKept (state g.S.Store l.connection) → IsSound old.zone old.default (state g.S.Store old.connection)
-    → AreServed (out (book_in old.zone old.default (state g.S.Store old.connection).now) (g.W.Network.wire c.args.network.now))
+    → AreServed (callers c.args.nights.now.permits g.W.Network.peers) (out (book_in old.zone old.default (state g.S.Store old.connection).now) (g.W.Network.wire c.args.network.now))
     (out (book_in l.zone l.default (state g.S.Store l.connection).now) (g.W.Network.wire c.pass_night.new.network)))
     (sym c.into_inner-ledger.ensures) (λ k s. let ends = c.pass_night.ensures.serves k s in (ends.failed, ends.served))

@@ -2,6 +2,7 @@ use Rattle.std.proofs.Common.{◌≡◌, ◌∙◌, refl, sym, subst, subst₂}
 use Rattle.sqlite.specs.Held.{state}
 use Rattle.mq_store.specs.Soundness.{book_in, HasKept, IsSound}
 use Rattle.mq_connections.specs.Asking.{out}
+use Rattle.mq_connections.specs.Gained.{callers}
 use Rattle.mq_program.specs.Nights.{Begun, HasDawned, HasPassed}
 use Rattle.mq_program.proofs.NightSteps.{dawn_on, end_on, passed_still}
 use Rattle.mq_program.proofs.nights.pass_nights.Goals as goal
@@ -11,7 +12,7 @@ loop-night-init g c =
     let l = c.args.ledger in
     let start = out (book_in l.zone l.default (state g.N.Store l.connection).now) (g.W.Network.wire c.args.network.now) in (
       λ _. subst (λ x. HasKept (state g.N.Store x.connection) → HasKept (state g.N.Store l.connection)) (sym c.new-serving.ensures) (λ k. k),
-      λ _ _ sound. subst (λ x. HasKept (state g.N.Store x.connection) → (x.zone ≡ l.zone) × (x.default ≡ l.default) × HasDawned l.zone l.default start (state g.N.Store x.connection) (g.W.Network.wire c.args.network.now))
+      λ _ _ sound. subst (λ x. HasKept (state g.N.Store x.connection) → (x.zone ≡ l.zone) × (x.default ≡ l.default) × HasDawned (callers c.args.nights.now.permits g.W.Network.peers) l.zone l.default start (state g.N.Store x.connection) (g.W.Network.wire c.args.network.now))
           (sym c.new-serving.ensures) (λ _. (refl, refl, (sound, Begun))),
     )
 
@@ -59,5 +60,5 @@ returns-clause-nights g c = λ kept fresh sound.
     let l = c.args.ledger in
     let s = c.loop-night.serving in
     let start = out (book_in l.zone l.default (state g.N.Store l.connection).now) (g.W.Network.wire c.args.network.now) in
-    subst (λ x. HasKept (state g.N.Store x.connection) → HasPassed l.zone l.default start (state g.N.Store x.connection) (g.W.Network.wire c.loop-night.network)) (sym c.into_inner.ensures) (λ k.
-    passed_still l.zone l.default start (state g.N.Store s.connection) (g.W.Network.wire c.loop-night.network) c.nothing_is_served.ensures (c.loop-night.invariant.1 kept fresh sound k).2)
+    subst (λ x. HasKept (state g.N.Store x.connection) → HasPassed (callers c.args.nights.now.permits g.W.Network.peers) l.zone l.default start (state g.N.Store x.connection) (g.W.Network.wire c.loop-night.network)) (sym c.into_inner.ensures) (λ k.
+    passed_still l.zone l.default start (state g.N.Store s.connection) (g.W.Network.wire c.loop-night.network) (c.nothing_is_served.ensures _) (c.loop-night.invariant.1 kept fresh sound k).2)

@@ -2,6 +2,7 @@ use Rattle.std.proofs.Common.{◌≡◌}
 use Rattle.sqlite.specs.Held.{state}
 use Rattle.mq_store.specs.Soundness.{book_in, HasKept, IsSound}
 use Rattle.mq_connections.specs.Asking.{out}
+use Rattle.mq_connections.specs.Gained.{callers}
 use Rattle.mq_program.specs.Nights.{AreKept, HasDawned}
 use Rattle.mq_program.proofs.nights.pass_nights.Given as goal
 
@@ -14,6 +15,6 @@ invariant-loop-night g l =
     → IsSound l.fn.ledger.zone l.fn.ledger.default (state g.N.Store l.fn.ledger.connection)
     → HasKept (state g.N.Store l.serving.connection)
     → (l.serving.zone ≡ l.fn.ledger.zone) × (l.serving.default ≡ l.fn.ledger.default)
-    × HasDawned l.fn.ledger.zone l.fn.ledger.default
+    × HasDawned (callers l.nights.permits g.W.Network.peers) l.fn.ledger.zone l.fn.ledger.default
     (out (book_in l.fn.ledger.zone l.fn.ledger.default (state g.N.Store l.fn.ledger.connection).now) (g.W.Network.wire l.fn.network))
     (state g.N.Store l.serving.connection) (g.W.Network.wire l.network))

@@ -2,6 +2,7 @@ use Rattle.std.proofs.Common.{◌≡◌, sym, subst}
 use Rattle.sqlite.specs.Held.{state}
 use Rattle.mq_store.specs.Soundness.{book_in, HasKept}
 use Rattle.mq_connections.specs.Asking.{out}
+use Rattle.mq_connections.specs.Gained.{callers}
 use Rattle.mq_program.specs.Nights.{AreKept, HasDawned, HasPassed}
 use Rattle.mq_program.proofs.NightSteps.{dawn_of, kept_before, one_night, passed_at_once, passed_still, stayed}
 use Rattle.mq_program.proofs.nights.serve_to_dawn.Goals as goal
@@ -51,7 +52,7 @@ returns-then-is_err-clause-dawn g c = λ _ _ sound k.
     let start = out (book_in old.zone old.default (state g.N.Store old.connection).now) (g.W.Network.wire c.args.network.now) in
     let after = g.W.Network.wire c.pass-ledger.new.network in
     let served = subst (λ x. HasKept (state g.N.Store x.connection)) same k in
-    subst (λ x. (x.zone ≡ old.zone) × (x.default ≡ old.default) × HasDawned old.zone old.default start (state g.N.Store x.connection) after) (sym same) (
+    subst (λ x. (x.zone ≡ old.zone) × (x.default ≡ old.default) × HasDawned (callers c.args.nights.now.permits g.W.Network.peers) old.zone old.default start (state g.N.Store x.connection) after) (sym same) (
       e.lent.0,
       e.lent.1,
       stayed old.zone former.zone old.default former.default e.lent.0 e.lent.1 start after (state g.N.Store former.connection) (e.sound served sound) (e.serves served sound),
@@ -67,9 +68,9 @@ returns-in-Err-take_place-clause-end g c = λ kept fresh sound.
     let start = out (book_in old.zone old.default (state g.N.Store old.connection).now) (g.W.Network.wire c.args.network.now) in
     let after = g.W.Network.wire c.pass-ledger.new.network in
     let served = subst (λ x. HasKept (state g.N.Store x)) c.into_connection.ensures.same (kept_before _ _ _ _ c.take_place.ensures kept).1 in
-    subst (λ x. HasKept (state g.N.Store x.connection) → HasPassed old.zone old.default start (state g.N.Store x.connection) after) (sym c.into_inner.ensures) (λ k.
+    subst (λ x. HasKept (state g.N.Store x.connection) → HasPassed (callers c.args.nights.now.permits g.W.Network.peers) old.zone old.default start (state g.N.Store x.connection) after) (sym c.into_inner.ensures) (λ k.
     let has = dawn_of _ _ dawn _ c.in-Ok-Some.is c.in-Ok-Some.field-0-is (e.remembered served sound) fresh k in
-    passed_still old.zone old.default start (state g.N.Store dawn.serving.connection) after c.nothing_is_served.ensures (
+    passed_still old.zone old.default start (state g.N.Store dawn.serving.connection) after (c.nothing_is_served.ensures _) (
       has.sound,
       one_night old.zone former.zone old.default former.default e.lent.0 e.lent.1 start after dawn.day
           (state g.N.Store former.connection).now (state g.N.Store dawn.serving.connection) (e.serves served sound) has,

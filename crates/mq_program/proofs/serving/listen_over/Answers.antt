@@ -14,7 +14,7 @@ returns-in-Err-clause-sound g c kept sound =
 pub returns-in-Err-clause-serves : goal.returns-in-Err-clause-serves
 returns-in-Err-clause-serves g c kept sound =
     let old = c.args.ledger in
-    still_served old.zone old.default (g.W.Network.wire c.args.network.now) (state g.S.Store old.connection).now (state g.S.Store c.days_at_start.new.ledger.connection).now (Err (Audit c.in-Err.fault)) c.in-Err.fault refl c.nothing_is_served.ensures sound.legal (c.days_at_start.ensures.same kept)
+    still_served old.zone old.default (g.W.Network.wire c.args.network.now) (state g.S.Store old.connection).now (state g.S.Store c.days_at_start.new.ledger.connection).now (Err (Audit c.in-Err.fault)) c.in-Err.fault refl (c.nothing_is_served.ensures _) sound.legal (c.days_at_start.ensures.same kept)
 
 pub returns-in-Ok-clause-sound : goal.returns-in-Ok-clause-sound
 returns-in-Ok-clause-sound g c kept sound =

@@ -6,6 +6,7 @@ use Rattle.mq_forget.specs.Remembered.{remembered}
 use Rattle.mq_store.specs.Soundness.{book_in, IsSound}
 use Rattle.mq_program.specs.AfterForgetting.{grown}
 use Rattle.mq_connections.specs.Asking.{out}
+use Rattle.mq_connections.specs.Gained.{callers}
 use Rattle.mq_program.specs.Serving.{Serves}
 use Rattle.mq_program.proofs.AfterForgetting.{answers_as_whole}
 use Rattle.mq_program.proofs.OpenedFiles.{serves_from, serves_from_nothing}
@@ -21,7 +22,7 @@ returns-clause-begun g c opened kept =
     let (zone_is, default_is) = c.in_ok-ledger.ensures.lent in
     serves_from c.args.settings.now.zone c.args.settings.now.default before wires after wires_after outcome
     (subst₂ (λ z d. IsSound z d before → IsSound z d after) zone_is default_is (c.listen_over.ensures.sound kept))
-    (subst₂ (λ z d. IsSound z d before → Serves (out (book_in z d before.now) wires) (out (book_in z d after.now) wires_after) outcome) zone_is default_is (c.listen_over.ensures.serves kept))
+    (subst₂ (λ z d. IsSound z d before → Serves (callers c.args.permits g.W.Network.peers) (out (book_in z d before.now) wires) (out (book_in z d after.now) wires_after) outcome) zone_is default_is (c.listen_over.ensures.serves kept))
     (image_at g.S.Start) (c.in_ok-ledger.ensures.rows opened (c.listen_over.ensures.kept kept))
 
 pub returns-clause-made : goal.returns-clause-made
@@ -34,7 +35,7 @@ returns-clause-made g c create kept =
     let (zone_is, default_is) = c.in_ok-ledger.ensures.lent in
     serves_from_nothing c.args.settings.now.zone c.args.settings.now.default before wires after wires_after outcome
     (subst₂ (λ z d. IsSound z d before → IsSound z d after) zone_is default_is (c.listen_over.ensures.sound kept))
-    (subst₂ (λ z d. IsSound z d before → Serves (out (book_in z d before.now) wires) (out (book_in z d after.now) wires_after) outcome) zone_is default_is (c.listen_over.ensures.serves kept))
+    (subst₂ (λ z d. IsSound z d before → Serves (callers c.args.permits g.W.Network.peers) (out (book_in z d before.now) wires) (out (book_in z d after.now) wires_after) outcome) zone_is default_is (c.listen_over.ensures.serves kept))
     (image_at g.S.Start) (c.in_ok-ledger.ensures.made create (c.listen_over.ensures.kept kept))
 
 pub returns-clause-remembered : goal.returns-clause-remembered

@@ -6,13 +6,13 @@ use Rattle.mq_connections.proofs.Standing.{read_after, rewired}
 use Rattle.mq_connections.proofs.room.Room.give_up.Goals as goal
 
 pub returns-in_default-clause-goes : goal.returns-in_default-clause-goes
-returns-in_default-clause-goes g c = λ old book told last failed start.
+returns-in_default-clause-goes g c = λ who old book told last failed start.
     let o : Outside = record { book = book; told = told; wires = g.N.Network.wire c.args.network.now } in
     let same : c.remove.new.self.entries ≡ c.args.self.now.opened.entries = search rules in
     rewired old o o.wires last (held c.args.self.now.opened) (held c.remove.new.self) failed (λ n. refl) (same_held c.args.self.now.opened c.remove.new.self same) start
 
 pub returns-clause-goes : goal.returns-clause-goes
-returns-clause-goes g c = λ old book told last failed start.
+returns-clause-goes g c = λ who old book told last failed start.
     let was = c.args.self.now.opened in
     let now = c.remove.new.self in
     let number = c.args.number in

@@ -4,13 +4,11 @@ use Rattle.mq_lemmas.proofs.Options.{ok_not}
 use Rattle.mq_ledger.proofs.Leaving.{left_both}
 use Rattle.mq_connections.specs.declared.fault.RoomFault.TheVariants as faults
 use Rattle.mq_connections.specs.Sessions.{Outside, held}
-use Rattle.mq_connections.specs.Asking.{peer_of}
-use Rattle.mq_connections.proofs.Gaining.{gains_more, gains_so, somebody}
 use Rattle.mq_connections.proofs.Standing.{goes_as, goes_on, goes_so}
 use Rattle.mq_connections.proofs.room.Room.serve.Goals as goal
 
 pub loop-number-init : goal.loop-number-init
-loop-number-init g c = let e = c.serve_together.ensures in record { leaves = e.leaves; grows = e.grows; gains = e.gains; goes = e.goes }
+loop-number-init g c = let e = c.serve_together.ensures in record { leaves = e.leaves; grows = e.grows; goes = e.goes }
 
 pub loop-number-preserved : goal.loop-number-preserved
 loop-number-preserved g c =
@@ -22,9 +20,6 @@ loop-number-preserved g c =
           let sound = i.leaves.sound kept s in
           c.more_deliveries.ensures.more (g.L.Ledger.book c.args.ledger.now) (g.L.Ledger.book c.loop-number.ledger) (g.L.Ledger.book c.serve_one.new.ledger)
           (g.met.L.Ledger.sound_is_legal c.loop-number.ledger sound) i.leaves.same_zone i.leaves.same_default (i.grows kept s) (e.grows k sound);
-      gains = λ k s.
-          let kept = e.leaves.kept k in
-          gains_more _ _ _ (i.gains kept s) (gains_so (somebody c.args.permits (peer_of c.loop-number.self.opened)) _ _ (e.gains k (i.leaves.sound kept s)));
       goes = λ k s old start.
           let after : Outside = record { book = g.L.Ledger.book c.serve_one.new.ledger; told = g.L.Ledger.told c.serve_one.new.ledger; wires = g.N.Network.wire c.serve_one.new.network } in
           goes_on old after c.serve_one.new.self.last (held c.serve_one.new.self.opened) faults.Store _ tt refl (e.goes k (i.leaves.sound (e.leaves.kept k) s) old (i.goes (e.leaves.kept k) s old start));
@@ -53,10 +48,3 @@ returns-in_err-serve_one-clause-grows g c = λ k s.
     let sound = i.leaves.sound kept s in
     c.more_deliveries.ensures.more (g.L.Ledger.book c.args.ledger.now) (g.L.Ledger.book c.loop-number.ledger) (g.L.Ledger.book c.serve_one.new.ledger)
     (g.met.L.Ledger.sound_is_legal c.loop-number.ledger sound) i.leaves.same_zone i.leaves.same_default (i.grows kept s) (e.grows k sound)
-
-pub returns-in_err-serve_one-clause-gains : goal.returns-in_err-serve_one-clause-gains
-returns-in_err-serve_one-clause-gains g c = λ k s.
-    let i = c.loop-number.invariant in
-    let e = c.in_err-serve_one.ensures in
-    let kept = e.leaves.kept k in
-    gains_more _ _ _ (i.gains kept s) (gains_so (somebody c.args.permits (peer_of c.loop-number.self.opened)) _ _ (e.gains k (i.leaves.sound kept s)))
