@@ -42,7 +42,7 @@ reported_so leads told day logins form same each words given servers status is a
     subst (λ f. ReportsBy leads told (record { day = day; logins = logins; form = f }) each given servers status) is
     (subst (λ w. ReportsBy leads told (record { day = day; logins = logins; form = form }) each w servers status) are asked)
 
--- what holds of a status holds so of how it ended
-pub if_ok : {A B : ℕ → Type 0} (ended : Result ℕ ProcessFault) → ((status : ℕ) → A status → B status) → IfOk ended A → IfOk ended B
-if_ok (Ok status) step holds = step status holds
+-- what holds of a value holds so of how it ended
+pub if_ok : {T : Type 0} {A B : T → Type 0} (ended : Result T ProcessFault) → ((value : T) → A value → B value) → IfOk ended A → IfOk ended B
+if_ok (Ok value) step holds = step value holds
 if_ok (Err fault) step holds = tt

@@ -79,10 +79,11 @@ SendsOrder request status old new output output' =
 
 -- ---- `status` of addresses
 
--- whether the server answers, or whether it takes the requests of the host of the words, too, at a time in range
-abbrev pub AsksAbout : Option (List ℕ) → Question → Type 0
-AsksAbout None question = question ≡ Status
-AsksAbout (Some host) question = (lent : Bor (List ℕ)) × (now : ℕ) × (question ≡ Host lent now) × (lent.now ≡ host) × IsRun now
+-- whether the server answers, or whether it takes the requests of the host of the words, too, at a time that the clock showed
+abbrev pub AsksAbout : (SystemTime → Type 0) → Option (List ℕ) → Question → Type 0
+AsksAbout Shows None question = question ≡ Status
+AsksAbout Shows (Some host) question =
+    (lent : Bor (List ℕ)) × (now : ℕ) × (question ≡ Host lent now) × (lent.now ≡ host) × IsRunBy Shows None now
 
 -- the question was put, and what came of it printed as text or as JSON
 abbrev pub PutsAs : OutputArgument → List ℕ → Question → ℕ → Option (List ReportedExchange) → Option (List ReportedExchange) → Option (List ℕ) → Option (List ℕ) → Type 0
@@ -96,11 +97,11 @@ is_bare outputs.Json count = true
 
 -- what `status` of addresses asks: each server the same, once
 pub record AsksProbe {L F : Type 0} (leads : L → SocketAddr → ℕ → Type 0) (told : L → Option (List ReportedExchange))
-    (remaining : F → Option (List ℕ)) (given : ProbeArguments) (status : ℕ) : Type 0 where
+    (remaining : F → Option (List ℕ)) (Shows : SystemTime → Type 0) (given : ProbeArguments) (status : ℕ) : Type 0 where
   pub servers : List (List ℕ)
   pub whom : IsWhom {X = Bor (List ℕ)} remaining None given.servers servers
   pub question : Question
-  pub about : AsksAbout (option_map (λ host. host.now) given.host) question
+  pub about : AsksAbout Shows (option_map (λ host. host.now) given.host) question
   pub asked : AsksAll (λ address. AsksAt leads told (PutsAs given.output (socket_text address) question) address)
       (is_bare given.output (length servers)) status servers 0
 
@@ -154,14 +155,15 @@ IsMeant leads told login day true servers meant = meant ≡ true
 IsMeant leads told login day false servers meant =
     ((length servers < 2) × (meant ≡ false)) ⊎ ((1 < length servers) × AsksUse (UseAt leads told login day) servers false meant)
 
--- what `stop` asks: of each server the same, from the day on that the words or the clock say, and again of those that give no
--- answer where the words say so
+-- what `stop` asks: of each server the same, in a run of the clock's, from the day on that the words or the clock say, and again
+-- of those that give no answer where the words say so
 pub record AsksStop {L F : Type 0} (leads : L → SocketAddr → ℕ → Type 0) (told : L → Option (List ReportedExchange))
-    (remaining : F → Option (List ℕ)) (given : StopArguments) (status : ℕ) : Type 0 where
+    (remaining : F → Option (List ℕ)) (Shows : SystemTime → Type 0) (given : StopArguments) (status : ℕ) : Type 0 where
   pub servers : List (List ℕ)
   pub whom : IsWhom remaining given.config given.servers servers
   pub setter : Setter
   pub is_setter : IsSetterBy given.host.now given.login setter
+  pub is_run : IsRunBy Shows None setter.run
   pub order : StopOrder
   pub from : StopsFrom remaining given.config given.is_forced given.day (Ok order.day)
   pub meant : IsMeant leads told setter.login order.day given.is_forced servers order.is_meant
@@ -185,13 +187,14 @@ ResumesBy leads told setter day more words servers status =
     ((number : ℕ) × (more ≡ Some number) × AreSeveral words servers × SharesNumber leads told More setter day number servers status)
     ⊎ ((AreSeveral words servers → more ≡ None) × AsksEachOf leads told (ResumesThere setter day more) servers status)
 
--- what `resume` asks
+-- what `resume` asks, in a run of the clock's
 pub record AsksResume {L F : Type 0} (leads : L → SocketAddr → ℕ → Type 0) (told : L → Option (List ReportedExchange))
-    (remaining : F → Option (List ℕ)) (given : ResumeArguments) (status : ℕ) : Type 0 where
+    (remaining : F → Option (List ℕ)) (Shows : SystemTime → Type 0) (given : ResumeArguments) (status : ℕ) : Type 0 where
   pub servers : List (List ℕ)
   pub whom : IsWhom remaining given.config given.servers servers
   pub setter : Setter
   pub is_setter : IsSetterBy given.host.now given.login setter
+  pub is_run : IsRunBy Shows None setter.run
   pub day : ℕ
   pub from : NamesDay remaining given.day day
   pub asked : ResumesBy leads told setter day given.cap given.servers servers status

@@ -1,11 +1,10 @@
 -- What the filter runs by: the settings of its file, and its run.
-use Rattle.std.specs.Prelude.{◌≡◌, ◌⊎◌, ℕ, List, [], Bool, true, false, Option, Result, Ok, Err}
+use Rattle.std.specs.Prelude.{◌≡◌, ◌⊎◌, ℕ, List, [], Bool, true, false, Option, None, Result, Ok, Err}
 use Rattle.std.specs.Io.KnownBytes.{IsAtEnd}
 use Rattle.std.specs.List.{concat}
 use Rattle.std.specs.Net.Text.{socket_text}
 use Rattle.std.specs.declared.net.SocketAddr.{SocketAddr}
 use Rattle.std.specs.declared.time.SystemTime.{SystemTime}
-use Rattle.mq_request.specs.Range.{IsRun}
 use Rattle.mq_link.specs.declared.link.ReportedExchange.{ReportedExchange}
 use Rattle.mq_process.specs.declared.arguments.FilterArguments.{FilterArguments}
 use Rattle.mq_settings.specs.declared.settings.FilterSettings.{FilterSettings}
@@ -72,40 +71,41 @@ abbrev pub FiltersSo : FilterSettings → ℕ → Result ℕ FilterEnd → Strea
 FiltersSo settings run ended before after old new _ _ =
     (client client' : State) × Begins settings run client × AnswersLines client client' ended old new before after
 
--- a run of the filter: it asks over a link to the server of the settings, with their timeout, unless memory runs out before its
--- first line
-abbrev pub FiltersRun : {L : Type 0} → (L → SocketAddr → ℕ → Type 0) → (L → Option (List ReportedExchange)) → FilterSettings → ℕ
-    → Streams → Streams → Result ℕ FilterEnd → Type 0
-FiltersRun leads told settings run before after ended =
+-- a run of the filter: it asks over a link to the server of the settings, with their timeout, which keeps its connection where
+-- they say so, unless memory runs out before its first line
+abbrev pub FiltersRun : {L : Type 0} → (L → SocketAddr → ℕ → Type 0) → (L → Bool → Type 0) → (L → Option (List ReportedExchange)) → FilterSettings
+    → ℕ → Streams → Streams → Result ℕ FilterEnd → Type 0
+FiltersRun leads keeps told settings run before after ended =
     ((ended ≡ Err (Process Memory)) × (after ≡ before))
-    ⊎ AsksOver leads told settings.server settings.timeout (FiltersSo settings run ended before after)
+    ⊎ AsksOver (λ link address timeout. leads link address timeout × keeps link settings.keep_connection) told
+    settings.server settings.timeout (FiltersSo settings run ended before after)
 
 -- a run of the filter under the number that is given, or that of the clock's time, where that can be had
-abbrev pub FiltersNumbered : {L : Type 0} → (L → SocketAddr → ℕ → Type 0) → (L → Option (List ReportedExchange)) → (SystemTime → Type 0) → Option ℕ
-    → FilterSettings → Streams → Streams → Result ℕ FilterEnd → Type 0
-FiltersNumbered leads told Shows given settings before after ended =
+abbrev pub FiltersNumbered : {L : Type 0} → (L → SocketAddr → ℕ → Type 0) → (L → Bool → Type 0) → (L → Option (List ReportedExchange))
+    → (SystemTime → Type 0) → Option ℕ → FilterSettings → Streams → Streams → Result ℕ FilterEnd → Type 0
+FiltersNumbered leads keeps told Shows given settings before after ended =
     ((ended ≡ Err (Process NoRun)) × (after ≡ before))
-    ⊎ ((run : ℕ) × IsRunBy Shows given run × FiltersRun leads told settings run before after ended)
+    ⊎ ((run : ℕ) × IsRunBy Shows given run × FiltersRun leads keeps told settings run before after ended)
 
--- what `filter --check` asks: whether the server of the settings takes the requests of their host, at a time in range, where
--- that can be had
-abbrev pub ChecksServer : {L : Type 0} → (L → SocketAddr → ℕ → Type 0) → (L → Option (List ReportedExchange)) → FilterSettings
+-- what `filter --check` asks: whether the server of the settings takes the requests of their host, at a time that the clock
+-- showed, where that can be had
+abbrev pub ChecksServer : {L : Type 0} → (L → SocketAddr → ℕ → Type 0) → (L → Option (List ReportedExchange)) → (SystemTime → Type 0) → FilterSettings
     → Result ℕ FilterEnd → Type 0
-ChecksServer leads told settings (Ok status) =
-    (now : ℕ) × IsRun now × AsksOver leads told settings.server settings.timeout
+ChecksServer leads told Shows settings (Ok status) =
+    (now : ℕ) × IsRunBy Shows None now × AsksOver leads told settings.server settings.timeout
     (λ old new output output'. Checks (socket_text settings.server) settings.host now old new output output' status)
-ChecksServer leads told settings (Err fault) = (fault ≡ Process NoRun) ⊎ (fault ≡ Process Memory)
+ChecksServer leads told Shows settings (Err fault) = (fault ≡ Process NoRun) ⊎ (fault ≡ Process Memory)
 
 -- what `filter` does by the settings that were read: it runs, or only checks them, and leaves its streams as they are
-abbrev pub FiltersBy : {L : Type 0} → (L → SocketAddr → ℕ → Type 0) → (L → Option (List ReportedExchange)) → (SystemTime → Type 0) → Bool → Option ℕ
-    → FilterSettings → Streams → Streams → Result ℕ FilterEnd → Type 0
-FiltersBy leads told Shows true given settings before after ended = ChecksServer leads told settings ended × (after ≡ before)
-FiltersBy leads told Shows false given settings before after ended = FiltersNumbered leads told Shows given settings before after ended
+abbrev pub FiltersBy : {L : Type 0} → (L → SocketAddr → ℕ → Type 0) → (L → Bool → Type 0) → (L → Option (List ReportedExchange)) → (SystemTime → Type 0)
+    → Bool → Option ℕ → FilterSettings → Streams → Streams → Result ℕ FilterEnd → Type 0
+FiltersBy leads keeps told Shows true given settings before after ended = ChecksServer leads told Shows settings ended × (after ≡ before)
+FiltersBy leads keeps told Shows false given settings before after ended = FiltersNumbered leads keeps told Shows given settings before after ended
 
 -- what `filter` does: it reads a file of settings, and ends by what is wrong with it, or does what they and the words say
-abbrev pub FiltersFile : {L F : Type 0} → (L → SocketAddr → ℕ → Type 0) → (L → Option (List ReportedExchange)) → (F → Option (List ℕ))
-    → (SystemTime → Type 0) → FilterArguments → Streams → Streams → Result ℕ FilterEnd → Type 0
-FiltersFile leads told remaining Shows given before after ended =
+abbrev pub FiltersFile : {L F : Type 0} → (L → SocketAddr → ℕ → Type 0) → (L → Bool → Type 0) → (L → Option (List ReportedExchange))
+    → (F → Option (List ℕ)) → (SystemTime → Type 0) → FilterArguments → Streams → Streams → Result ℕ FilterEnd → Type 0
+FiltersFile leads keeps told remaining Shows given before after ended =
     ((fault : ProcessFault) × (ended ≡ Err (Process fault)) × ReadsFilter remaining (Err fault) × (after ≡ before))
     ⊎ ((settings : FilterSettings) × ReadsFilter remaining (Ok settings)
-    × FiltersBy leads told Shows given.check given.run settings before after ended)
+    × FiltersBy leads keeps told Shows given.check given.run settings before after ended)

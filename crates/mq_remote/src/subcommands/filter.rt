@@ -38,7 +38,7 @@ pub fn filter<
     errors: &mut E,
 ) -> Result<u8, FilterEnd>
     requires { IfSome given.run IsRun }
-    ensures { FiltersFile D.leads D.Link.told R.File.remaining (R.shows rt.now) given.entry
+    ensures { FiltersFile D.leads D.keeps D.Link.told R.File.remaining (R.shows rt.now) given.entry
         (streams (S.remaining input.old) (S.reads input.old) (S.has_failed input.old)
         (W.contents output.old) (W.has_failed output.old))
         (streams (S.remaining input.new) (S.reads input.new) (S.has_failed input.new)
@@ -62,7 +62,7 @@ fn run_numbered<R: WallClock + Eprint + AllocGlobal, D: Dial, S: Source, W: Sink
 ) -> Result<u8, FilterEnd>
     requires settings { CanAsk settings.now }
     requires given { IfSome given IsRun }
-    ensures { FiltersNumbered D.leads D.Link.told (R.shows rt.now) given settings.now
+    ensures { FiltersNumbered D.leads D.keeps D.Link.told (R.shows rt.now) given settings.now
         (streams (S.remaining input.old) (S.reads input.old) (S.has_failed input.old)
         (W.contents output.old) (W.has_failed output.old))
         (streams (S.remaining input.new) (S.reads input.new) (S.has_failed input.new)
@@ -83,7 +83,7 @@ fn check_server<R: WallClock + Print + Eprint + AllocGlobal, D: Dial, E: Write>(
     errors: &mut E,
 ) -> Result<u8, FilterEnd>
     requires { CanAsk settings.now }
-    ensures { ChecksServer D.leads D.Link.told settings.now result }
+    ensures { ChecksServer D.leads D.Link.told (R.shows rt.now) settings.now result }
 {
     let timeout = u64::from(settings.timeout);
     let question = Question::Check(&settings.host, run_number(rt, None)?);
@@ -143,7 +143,7 @@ fn run_client<R: Eprint + AllocGlobal, D: Dial, S: Source, W: Sink>(
 ) -> Result<u8, FilterEnd>
     requires settings { CanAsk settings.now }
     requires run { IsRun run }
-    ensures { FiltersRun D.leads D.Link.told settings.now run
+    ensures { FiltersRun D.leads D.keeps D.Link.told settings.now run
         (streams (S.remaining input.old) (S.reads input.old) (S.has_failed input.old)
         (W.contents output.old) (W.has_failed output.old))
         (streams (S.remaining input.new) (S.reads input.new) (S.has_failed input.new)

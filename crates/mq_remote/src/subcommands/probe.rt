@@ -9,14 +9,14 @@ ghost use Rattle.mq_process.specs.declared.asking.TheConstants.{TIMEOUT};
 ghost use Rattle.mq_remote.specs.Asked.{AsksAbout, AsksAt, AsksProbe, PutsAs, is_bare};
 
 use mq_process::{
-    Dial, OutputArgument, ProbeArguments, ProcessFault, Question, ask_in_turn, check_addresses,
-    end_process, found_servers, probe, probe_in_json, run_number, servers_or,
+    Dial, OutputArgument, ProbeArguments, ProcessFault, Question, WallClock, ask_in_turn,
+    check_addresses, end_process, found_servers, probe, probe_in_json, run_number, servers_or,
 };
 use mq_request::{Host, is_host};
 use std::alloc::{AllocError, Global};
 use std::io::Write;
 use std::net::SocketAddr;
-use std::rt::{Clock, Files};
+use std::rt::Files;
 
 /// The host that is asked about, where one is given.
 fn host_of(alloc: Global, given: Option<&str>) -> Result<Option<Host>, AllocError>
@@ -32,9 +32,13 @@ fn host_of(alloc: Global, given: Option<&str>) -> Result<Option<Host>, AllocErro
 
 /// What each server is asked: whether it answers, and whether it takes the requests of this host
 /// now, where one is given.
-fn question_of<'a>(rt: &impl Clock, host: Option<&'a Host>) -> Result<Question<'a>, ProcessFault>
+fn question_of<'a, R: WallClock>(
+    rt: &R,
+    host: Option<&'a Host>,
+) -> Result<Question<'a>, ProcessFault>
     requires { IfSome host (λ host. IsHost host.now) }
-    ensures about { IfOk result (AsksAbout (option_map (λ host. host.now) host.entry)) }
+    ensures about { IfOk result (AsksAbout (R.shows rt.now)
+        (option_map (λ host. host.now) host.entry)) }
     ensures in_range { IfOk result IsQuestion }
 {
     match host {
@@ -45,14 +49,15 @@ fn question_of<'a>(rt: &impl Clock, host: Option<&'a Host>) -> Result<Question<'
 
 /// `status` of addresses: asks the server at each once, and prints that it answers, and that it
 /// takes the requests of the host that is given. The status is 1 where one doesn't.
-pub fn probe_servers<R: Files + Clock + Print + Eprint + AllocGlobal, D: Dial, E: Write>(
+pub fn probe_servers<R: Files + WallClock + Print + Eprint + AllocGlobal, D: Dial, E: Write>(
     rt: &R,
     dial: &D,
     given: ProbeArguments<'_>,
     errors: &mut E,
 ) -> Result<u8, ProcessFault>
     ensures refuses { ProbeRefuses given.entry (λ fault. result ≡ Err fault) }
-    ensures asks { IfOk result (AsksProbe D.leads D.Link.told R.File.remaining given.entry) }
+    ensures asks { IfOk result (AsksProbe D.leads D.Link.told R.File.remaining (R.shows rt.now)
+        given.entry) }
 {
     if !given.host.is_none_or(|host| is_host(host.as_bytes())) {
         return Err(ProcessFault::Host);

@@ -1,11 +1,11 @@
 //! `stop` and `resume`: how many recipients more a login may have.
-ghost use Rattle.std.specs.Prelude.{◌≡◌, Err, IfOk, IfSome, false, map};
+ghost use Rattle.std.specs.Prelude.{◌≡◌, Err, IfOk, IfSome, None, false, map};
 ghost use Rattle.mq_request.specs.Range.{IsAmount, IsHost, IsRun, IsWithin};
 ghost use Rattle.mq_command.specs.Allowing.{IsSetter};
 ghost use Rattle.mq_process.specs.Arguments.{IsResumeArguments, IsStopArguments, last_stop_day};
 ghost use Rattle.mq_process.specs.Refusals.{HasNoAddress, NamesLogin, OrderRefuses};
 ghost use Rattle.mq_remote.specs.Asked.{AsksAt, AsksEachOf, AsksResume, AsksStop, IsMeant};
-ghost use Rattle.mq_remote.specs.Asked.{IsSetterBy, ResumesBy, ResumesThere};
+ghost use Rattle.mq_remote.specs.Asked.{IsRunBy, IsSetterBy, ResumesBy, ResumesThere};
 ghost use Rattle.mq_remote.specs.Stops.{AsksUse, UseAt};
 
 use crate::subcommands::shares::{ShareOrder, ShareTask, are_several, check_few, share_number};
@@ -14,9 +14,9 @@ use log::sink::Console;
 use log::{LevelFilter, Logged};
 use mq_command::{SentLately, ServerErrors, Setter, StopOrder, run_restore, run_resume};
 use mq_process::{
-    Dial, LoginArgument, ProcessFault, ResumeArguments, StopArguments, address_of, ask_each,
-    checked, day_named, day_to_stop, found_servers, link_to, login_of, run_number, servers_or,
-    tell_note,
+    Dial, LoginArgument, ProcessFault, ResumeArguments, StopArguments, WallClock, address_of,
+    ask_each, checked, day_named, day_to_stop, found_servers, link_to, login_of, run_number,
+    servers_or, tell_note,
 };
 use mq_request::Host;
 use mq_request::bounds::LAST_DAY;
@@ -47,9 +47,25 @@ pub fn setter_of(
     })
 }
 
+/// The login whose limits are set, and a run of the clock's.
+fn setter_by_clock<R: WallClock + AllocGlobal>(
+    rt: &R,
+    host: &str,
+    login: LoginArgument<'_>,
+) -> Result<Setter, ProcessFault>
+    requires host { IsHost host.now }
+    requires login { NamesLogin login }
+    ensures setter { IfOk result (IsSetterBy host.now login.entry) }
+    ensures run { IfOk result (λ setter. IsRunBy (R.shows rt.now) None setter.run) }
+    ensures in_range { IfOk result IsSetter }
+{
+    let run = run_number(rt, None)?;
+    setter_of(rt.alloc(), host, run, login)
+}
+
 /// `stop`: lets a login have nothing more. Where one of several servers knows that it sent
 /// something lately, or gives no answer, it is meant at each.
-pub fn stop<R: Files + Clock + Print + Eprint + AllocGlobal, D: Dial, E: Write>(
+pub fn stop<R: Files + Clock + WallClock + Print + Eprint + AllocGlobal, D: Dial, E: Write>(
     rt: &R,
     dial: &D,
     given: StopArguments<'_>,
@@ -58,7 +74,8 @@ pub fn stop<R: Files + Clock + Print + Eprint + AllocGlobal, D: Dial, E: Write>(
     requires { IsStopArguments given }
     ensures refuses { OrderRefuses given.entry.host.now given.entry.login given.entry.servers
         (λ fault. result ≡ Err fault) }
-    ensures asks { IfOk result (AsksStop D.leads D.Link.told R.File.remaining given.entry) }
+    ensures asks { IfOk result (AsksStop D.leads D.Link.told R.File.remaining (R.shows rt.now)
+        given.entry) }
 {
     let words = given.servers.as_slice();
     checked(rt, given.host, given.login, words)?;
@@ -66,8 +83,7 @@ pub fn stop<R: Files + Clock + Print + Eprint + AllocGlobal, D: Dial, E: Write>(
     let chosen = servers_or(rt.alloc(), words, found.as_slice())?;
     let servers = chosen.as_slice();
     let day = day_to_stop(rt, given.day, given.config, given.is_forced)?;
-    let run = run_number(rt, None)?;
-    let setter = setter_of(rt.alloc(), given.host, run, given.login)?;
+    let setter = setter_by_clock(rt, given.host, given.login)?;
     tell_note(rt.alloc(), &login_of(rt.alloc(), given.login)?, errors)?;
     let is_meant = is_meant_at_one(rt, dial, servers, &setter, day, given.is_forced, errors);
     let order = StopOrder {
@@ -150,7 +166,7 @@ fn has_sent_at_one<R: Eprint + AllocGlobal, D: Dial, E: Write>(
 
 /// `resume`: lets a login have more again: a number of the words, which of several servers of
 /// settings is the first one's, or at each the limit that it had.
-pub fn resume<R: Files + Clock + Print + Eprint + AllocGlobal, D: Dial, E: Write>(
+pub fn resume<R: Files + Clock + WallClock + Print + Eprint + AllocGlobal, D: Dial, E: Write>(
     rt: &R,
     dial: &D,
     given: ResumeArguments<'_>,
@@ -159,7 +175,8 @@ pub fn resume<R: Files + Clock + Print + Eprint + AllocGlobal, D: Dial, E: Write
     requires { IsResumeArguments given }
     ensures refuses { OrderRefuses given.entry.host.now given.entry.login given.entry.servers
         (λ fault. result ≡ Err fault) }
-    ensures asks { IfOk result (AsksResume D.leads D.Link.told R.File.remaining given.entry) }
+    ensures asks { IfOk result (AsksResume D.leads D.Link.told R.File.remaining (R.shows rt.now)
+        given.entry) }
 {
     let words = given.servers.as_slice();
     checked(rt, given.host, given.login, words)?;
@@ -167,8 +184,7 @@ pub fn resume<R: Files + Clock + Print + Eprint + AllocGlobal, D: Dial, E: Write
     let chosen = servers_or(rt.alloc(), words, found.as_slice())?;
     let servers = chosen.as_slice();
     let day = day_named(rt, given.day, given.config, LAST_DAY - 1)?;
-    let run = run_number(rt, None)?;
-    let setter = setter_of(rt.alloc(), given.host, run, given.login)?;
+    let setter = setter_by_clock(rt, given.host, given.login)?;
     tell_note(rt.alloc(), &login_of(rt.alloc(), given.login)?, errors)?;
     resume_by(rt, dial, words, servers, &setter, day, given.cap, errors)
 }

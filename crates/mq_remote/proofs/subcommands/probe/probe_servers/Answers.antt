@@ -10,7 +10,7 @@ returns-clause-asks g c = record {
   servers = (map (λ s. s.now) c.as_slice-servers.result.now);
   whom = whom_of {X = Bor (List ℕ)} g.R.File.Read.remaining None _ _ _ _ _ _ c.as_slice-words.ensures (ap (map string_bytes) c.as_slice.ensures.value) c.in_ok-found.ensures.found c.in_ok-chosen.ensures.servers (ap (map (λ s. s.now)) c.as_slice-servers.ensures.value);
   question = c.in_ok-question.question;
-  about = subst (λ h. AsksAbout h c.in_ok-question.question) (search rules) c.in_ok-question.ensures.about;
+  about = subst (λ h. AsksAbout (g.R.WallClock.shows c.args.rt.now) h c.in_ok-question.question) (search rules) c.in_ok-question.ensures.about;
   asked = bare_so _ _ _ _ _ _ c.is_bare.ensures (search rules) (asked_in_turn _ _ _ (λ address said after k. let called = k.2 in search rules) c.ask_in_turn.ensures.1);
 }
 

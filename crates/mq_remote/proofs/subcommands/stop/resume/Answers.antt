@@ -14,6 +14,7 @@ returns-clause-asks g c = if_ok c.resume_by.result (λ status asked. record {
   whom = whom_of _ _ _ _ _ _ _ _ c.as_slice-words.ensures (ap (map string_bytes) c.as_slice.ensures.value) c.in_ok-found.ensures.found c.in_ok-chosen.ensures.servers (ap (map (λ s. s.now)) c.as_slice-servers.ensures.value);
   setter = c.in_ok-setter.setter;
   is_setter = c.in_ok-setter.ensures.setter;
+  is_run = c.in_ok-setter.ensures.run;
   day = c.in_ok-day.day;
   from = c.in_ok-day.ensures.day;
   asked = resume_words _ _ _ _ _ _ _ _ _ c.as_slice-words.ensures asked;

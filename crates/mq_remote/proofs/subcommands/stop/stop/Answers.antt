@@ -13,6 +13,7 @@ returns-clause-asks g c = record {
   whom = whom_of _ _ _ _ _ _ _ _ c.as_slice-words.ensures (ap (map string_bytes) c.as_slice.ensures.value) c.in_ok-found.ensures.found c.in_ok-chosen.ensures.servers (ap (map (λ s. s.now)) c.as_slice-servers.ensures.value);
   setter = c.in_ok-setter.setter;
   is_setter = c.in_ok-setter.ensures.setter;
+  is_run = c.in_ok-setter.ensures.run;
   order = _;
   from = c.in_ok-day.ensures.stops;
   meant = c.is_meant_at_one-is_meant.ensures;
