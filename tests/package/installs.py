@@ -10,6 +10,7 @@ sys.dont_write_bytecode = True
 
 from acts import (
     LOGINS,
+    SERVER,
     install,
     kind_of_machine,
     make_mail_host,
@@ -108,6 +109,34 @@ def first_550(quota, hosts):
         "mx2: alice to another", recipients(two, "alice", 1), ["550 daily recipient limit reached"]
     )
     note("the report of alice", report(quota).get("alice"), (2, 0, 2))
+
+
+def broken_into(quota, host, other, log):
+    """Root of a mail host raises no limit, stops no login, retires no other host and reads no
+    report. The server's log says that somebody tried, and mail goes on at both hosts."""
+    for words in (
+        ("limit", "--from", "20000", "alice", "1000000"),
+        ("stop", "--force", "--day", "20000", "alice"),
+        ("retire", "--host", f"{other.name}.example.org"),
+        ("report", "--day", "20000"),
+    ):
+        status, said = host.run("mailquota", *words, "--server", SERVER)
+        note(
+            f"{host.name}, broken into: {words[0]}",
+            (status, "didn't take this: its log says why" in said),
+            (1, True),
+        )
+    note(
+        f"{host.name}, broken into: what the server says of it",
+        re.findall(rf"connection of {host.address}:\d+: (may not .*)", quota.shown("sh", "-c", log)),
+        ["may not set limits"],
+    )
+    quota.shown("mailquota", "limit", "alice", "4")
+    for it in (host, other):
+        # (a 550 may stand for the seconds of `hold`)
+        goes_on = wait_until(lambda: recipients(it, "alice", 1) == ["250"], 20)
+        note(f"{host.name}, broken into: mail of {it.name} goes on", goes_on, True)
+    note(f"{host.name}, broken into: alice", report(quota).get("alice"), (4, 0, 4))
 
 
 def retired_by_mistake(host):
@@ -439,6 +468,12 @@ def main():
                 host.shown("sh", "-c", f"{log} | grep -x retired | sort -u").strip(),
                 "retired",
             )
+        log = (
+            "journalctl -u mailquota -o cat"
+            if kind.has_systemd
+            else "cat /var/log/mailquota.service.log"
+        )
+        broken_into(quota, *hosts, log)
         if kind.has_systemd:
             retired_by_mistake(hosts[0])
         run_timer(quota, changed(package, "former", f"{version}+former", add_timer))
