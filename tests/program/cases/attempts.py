@@ -88,6 +88,8 @@ def nights_until_the_next(world, checks):
     os.mkdir(f"{path}.part")
     server, clock = by_clock(world, path, DAY * day + 7_200)
     with server:
+        # (its first look is over then: one within which time passes would rest too long)
+        asked(server, [wire.usage()] * 2)
 
         def stays(first):
             return (

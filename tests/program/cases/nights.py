@@ -795,7 +795,7 @@ def stands_by(world, checks):
         nights = []
         for more in range(3):
             frame = probe(day + more)
-            good = wait_until(lambda: all_asked(server, [wire.usage()]))
+            good = wait_until(lambda: all_asked(server, [wire.usage()] * 2))
             clock.pass_to(DAY * (day + more) + 36_000)
             nights.append(day + more - KEEP)
             good = good and wait_until(
@@ -986,6 +986,7 @@ def catches_up(world, checks):
     server, clock = by_clock(world, path, DAY * day + 7_200)
     frames = [request(number, day, host=b"mx9") for number in range(1, count + 1)]
     with server:
+        asked(server, [wire.usage()] * 2)
         assert asked(server, [wire.page()]) == [books.serve(wire.page())]
         # (the peer comes as the night has begun, since an older connection would be late)
         with server.stopped():
@@ -1277,7 +1278,7 @@ def takes_its_own_time(world, checks):
     made_of(world, path, about(day, FILLING))
     server, clock = by_clock(world, path, DAY * day + 3_600)
     with server:
-        asked(server, [wire.usage()])
+        asked(server, [wire.usage()] * 2)
         # (enough for the tables of a new file, and not for all that stays)
         resource.prlimit(server.process.pid, resource.RLIMIT_FSIZE, (350_000, NO_LIMIT))
         clock.pass_to(DAY * day + 10_860)
@@ -1323,7 +1324,7 @@ def warns_once_over_a_night(world, checks):
             )
             for number, count in ((1, 800), (2, 1))
         ]
-        asked(server, near[:1])
+        asked(server, [*near[:1], wire.usage()])
         clock.pass_to(DAY * day + 10_860)
         asked(server, [wire.usage()] * 3)
         good = wait_until(lambda: is_through(server))
@@ -1574,6 +1575,7 @@ def a_clock_that_was_ahead(world, checks):
     server, clock = by_clock(world, path, DAY * (day + 1) + 3_600)
     with server:
         nights = []
+        asked(server, [wire.usage()] * 2)
         for shown, jumps in ((day + 1, False), (day, True), (day + 1, False)):
             late = request(100 + len(nights), shown - KEEP - 2, host=b"mx6")
             good = all_asked(server, [late]) == [books.serve(late)]
