@@ -26,7 +26,8 @@ use std::io;
 use std::io::Write;
 use std::net::SocketAddr;
 
-/// How many servers are asked together at most.
+/// How many servers are asked together at most: sums of their limits, as a report has them, are
+/// numbers of 32 bits.
 const MOST: usize = 4_000;
 
 /// What is asked of each server with its share.
