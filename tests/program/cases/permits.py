@@ -17,6 +17,7 @@ from ends import unavailable, unreached, wait_past_midnight
 
 NETWORK_OF_ITS_OWN = 0x4000_0000
 HERE, OTHER_HERE = "192.0.2.7", "198.51.100.7"
+FAR_DAY = re.compile(r"\[WARN +mq_watch::watched\] connection of (\S+):\d+: host (\S+) reserves .*")
 LINE = re.compile(r"\[WARN +mq_watch::watched\] connection of (\S+): (may not .*)")
 
 # The example of mailquota.toml(5).
@@ -53,8 +54,10 @@ def run(world, checks):
         forged_in_a_round,
         refused_changes_nothing,
         named_once_an_hour,
+        logged_in_a_round,
         commands_that_arent_taken,
         hosts_that_arent_listed,
+        silent_about_a_host,
         commands_of_this_machine,
         scripts_of_this_machine,
         admin_only_where_the_file_says_so,
@@ -402,6 +405,39 @@ def named_once_an_hour(world, checks):
         checks.equal("one line an address", server.refusals(), wanted)
 
 
+def silent_about_a_host(world, checks):
+    """Of a server that gives no answer nothing is said of permits."""
+    with Script([b""]) as server:
+        came = world.run("status", "--server", server.address, "--host", "mx1")
+    checks.holds(
+        "status of a host, no answer",
+        came[0] == 1 and "unavailable" in came[2] and "permits" not in came[2],
+        "unavailable, and no word of permits",
+        came,
+    )
+
+
+def logged_in_a_round(world, checks):
+    """Of requests that are taken together each line of the log has its own peer."""
+    asked = [("192.0.2.1", "mx1.example.org"), ("192.0.2.2", "mx2.example.org")]
+    with Permitted(world, EXAMPLE) as server, contextlib.ExitStack() as open_ones:
+        peers = [open_ones.enter_context(server.connected(source)) for source, _ in asked]
+
+        def ask_each(request):
+            with server.stopped():
+                for peer, (_, host) in zip(peers, asked):
+                    peer.sendall(request(1, host=host.encode(), run=1))
+            for peer in peers:
+                read_all(peer, lambda it: len(it) >= 3 and is_whole(it))
+
+        # (both are open before they ask what is logged)
+        ask_each(wire.release)
+        ask_each(wire.reserve)
+        found = filter(None, map(FAR_DAY.fullmatch, server.all_log_lines()))
+        came = sorted((it[1], it[2]) for it in found)
+        checks.equal("lines of a round", came, asked)
+
+
 def commands_of_this_machine(world, checks):
     """What the units and the administrator run on the quota server itself."""
     with Permitted(world, EXAMPLE, host="0.0.0.0") as server:
@@ -603,8 +639,9 @@ def refusal(world, text):
     say so, or made one."""
     path = world.new_file(text)
     store = f"{world.folder}/never"
+    # (a server that takes the file can't listen there, and ends)
     settings = world.new_file(
-        f'listen = "127.0.0.1:0"\nstore = "{store}"\ndefault = 3\noffset = 0\npermits = "{path}"\n'
+        f'listen = "203.0.113.1:7025"\nstore = "{store}"\ndefault = 3\noffset = 0\npermits = "{path}"\n'
     )
     status, output, errors = world.run(
         "server", "--config", settings, "--create", "--connections", "1"
@@ -635,6 +672,8 @@ def bad_files(world, checks):
         f'[hosts]\n"a b" = []\n{ADMIN}': "line 2: a\\x20b is no name of a host",
         f'[hosts]\na = "192.0.2.1"\n{ADMIN}': "line 2: a has no list of addresses in quotes",
         f"[hosts]\nmx1 = [1]\n{ADMIN}": "line 2: mx1 has no list of addresses in quotes",
+        '[peers]\nadmin = "192.0.2.9"\n': "line 2: admin has no list of addresses in quotes",
+        f'{ADMIN}report = "192.0.2.8"\n': "line 3: report has no list of addresses in quotes",
     }.items():
         checks.equal(f"of {text!r}", refusal(world, text), wanted)
     doubled = refusal(world, f"[hosts]\na = []\na = []\n{ADMIN}")
