@@ -9,11 +9,11 @@ more fails here too, and not an hour later.
 The program is the one that `make build` proved, where nothing has changed since, and else one that
 is built without proofs, at once with the tests in Rattle. What takes longest begins first, by the
 times that earlier runs on this machine took, or else those of tests/times.txt; as many groups run as
-there are processors for what they need, since most wait. On a terminal a line says how far it is, and each group has a line as it
-ends; of a case that fails, so has the command that runs it alone. A group of cases in which one
-fails runs again by itself at the end, since cases that measure a time are of a machine that has
-time: what fails then too has failed. What failed stands at the end once more. The last line is
-'N passed, M failed', and the status 1 where anything failed.
+there are processors for what they need, since most wait. On a terminal a line says how far it is,
+and each group has a line as it ends; of a case that fails, so has the command that runs it alone. A
+group of cases in which one fails runs again by itself at the end, since cases that measure a time
+are of a machine that has time: what fails then too has failed. What failed stands at the end once
+more. The last line is 'N passed, M failed', and the status 1 where anything failed.
 """
 import argparse
 import json

@@ -111,7 +111,17 @@ def first_550(quota, hosts):
     note("the report of alice", report(quota).get("alice"), (2, 0, 2))
 
 
-def broken_into(quota, host, other, log):
+def log_of(machine, unit):
+    """What a unit of this machine has said."""
+    words = (
+        f"journalctl -u {unit} -o cat"
+        if machine.has_systemd
+        else f"cat /var/log/{unit}.service.log"
+    )
+    return machine.shown("sh", "-c", words)
+
+
+def broken_into(quota, host, other):
     """Root of a mail host raises no limit, stops no login, retires no other host and reads no
     report. The server's log says that somebody tried, and mail goes on at both hosts."""
     for words in (
@@ -128,7 +138,7 @@ def broken_into(quota, host, other, log):
         )
     note(
         f"{host.name}, broken into: what the server says of it",
-        re.findall(rf"connection of {host.address}:\d+: (may not .*)", quota.shown("sh", "-c", log)),
+        re.findall(rf"connection of {host.address}:\d+: (may not .*)", log_of(quota, "mailquota")),
         ["may not set limits"],
     )
     quota.shown("mailquota", "limit", "alice", "4")
@@ -458,22 +468,12 @@ def main():
         first_550(quota, hosts)
         for host, block in zip(hosts, again):
             play(host, block)
-            log = (
-                "journalctl -u opensmtpd -o cat"
-                if kind.has_systemd
-                else "cat /var/log/opensmtpd.service.log"
-            )
             note(
                 f"{host.name}: it retires its runs before smtpd starts",
-                host.shown("sh", "-c", f"{log} | grep -x retired | sort -u").strip(),
-                "retired",
+                "retired" in log_of(host, "opensmtpd").splitlines(),
+                True,
             )
-        log = (
-            "journalctl -u mailquota -o cat"
-            if kind.has_systemd
-            else "cat /var/log/mailquota.service.log"
-        )
-        broken_into(quota, *hosts, log)
+        broken_into(quota, *hosts)
         if kind.has_systemd:
             retired_by_mistake(hosts[0])
         run_timer(quota, changed(package, "former", f"{version}+former", add_timer))

@@ -1,5 +1,6 @@
 """Whom a command asks, and which day it means, where its words don't say: by the settings in
 /etc/mailquota, which a mount namespace of its own has."""
+import contextlib
 import json
 import os
 import subprocess
@@ -233,12 +234,17 @@ def by_the_filters_settings(world, checks):
         checks.equal("the limit that was set so", caps(server, b"u", 1, 2), [9, 4])
 
 
+@contextlib.contextmanager
+def four_servers(world):
+    """Four, whose defaults from 1 to 4 tell which was asked."""
+    with contextlib.ExitStack() as open_ones:
+        yield [open_ones.enter_context(Server(world, default=it)) for it in range(1, 5)]
+
+
 def which_goes_first(world, checks):
     """The words go first, then the settings that they name, then the server's in their place, then
     the filter's."""
-    with Server(world, default=1) as first, Server(world, default=2) as second, Server(
-        world, default=3
-    ) as third, Server(world, default=4) as fourth:
+    with four_servers(world) as (first, second, third, fourth):
         found = {
             "server": server_settings(third.address),
             "filter_": filter_settings(fourth.address),
@@ -981,9 +987,7 @@ def sums_of_a_list(world, checks):
 def before_a_list(world, checks):
     """The words go before it, and the settings that they name; it goes before settings in their
     places."""
-    with Server(world, default=1) as first, Server(world, default=2) as second, Server(
-        world, default=3
-    ) as third, Server(world, default=4) as fourth:
+    with four_servers(world) as (first, second, third, fourth):
         found = {
             "servers": listed(third.address),
             "server": server_settings(fourth.address),
