@@ -1,6 +1,7 @@
 """A file that a server left, opened and audited: the file's answer or `out of memory`, and nothing
 in it is changed."""
 import contextlib
+import functools
 import os
 import sqlite3
 
@@ -9,7 +10,7 @@ from replaying import TWO_AND_A_SETTLE
 from serving import served, settings
 from storing import BY_RULE, SOUND
 from sums import renew
-from sweeping import CUT, OUT_OF_MEMORY, RETRY, RIGHT, Run, sweep
+from sweeping import CUT, OUT_OF_MEMORY, RETRY, RIGHT, Command, Run, sweep
 from wire import RETRY as RETRY_FRAME
 from wire import frame, number, text, usage
 
@@ -85,13 +86,19 @@ def content_of(folder):
     return found
 
 
+@functools.cache
+def content_of_source(folder):
+    """The same of a folder in which nothing changes."""
+    return content_of(folder)
+
+
 def change(folder, source):
     """What is wrong with the copied file now, if anything: its bytes are as they were, or at least
     its rows.
 
     A file without a log gets one, and an empty one becomes a database without tables.
     """
-    before, after = content_of(source), content_of(folder)
+    before, after = content_of_source(source), content_of(folder)
     if after == before or rows_of(folder, after) == rows_of(folder, before):
         return None
     return f"the rows changed, sizes {[len(part) for part in before + after]}"
@@ -115,11 +122,11 @@ def rows_of(folder, content):
 def audited(refusals, source, wanted, **more):
     """Runs of `audit` over copies of this file, which answers this with all memory."""
 
-    def one(number, folder):
+    def begin(folder):
         copied(f"{source}/ledger", f"{folder}/ledger")
-        status, output, errors, told = refusals.run(
-            folder, number, "audit", "--config", settings(refusals, folder, **more)
-        )
+        return ["audit", "--config", settings(refusals, folder, **more)]
+
+    def judge(status, output, errors, told, folder):
         came = status, output, apart(errors)[1]
         ending = (
             RIGHT
@@ -132,7 +139,7 @@ def audited(refusals, source, wanted, **more):
             ending, told, f"{came}, {errors!r}" if ending == "fault" else change(folder, source)
         )
 
-    return one
+    return Command(refusals, begin, judge)
 
 
 def opened(refusals, source, **zone):
@@ -153,7 +160,7 @@ def ending_of(came):
         return OUT_OF_MEMORY
     if not came.went_on():
         return None
-    if came.replies == [SETTLED_ONE] and not came.log:
+    if came.replies == [SETTLED_ONE] and not came.log and came.told.listened == 1:
         return RIGHT
     if came.replies == [RETRY_FRAME] and not came.log:
         return RETRY
@@ -165,16 +172,22 @@ def ending_of(came):
 
 
 def made_again(refusals, source):
-    """`--create` over copies of a file that has a ledger."""
+    """`--create` over copies of a file that has a ledger, which is seen before anybody could
+    connect."""
 
-    def one(number, folder):
+    def begin(folder):
         copied(f"{source}/ledger", f"{folder}/ledger")
-        came = served(refusals, folder, [usage()], ["--create"], number)
-        good = came.replies is None and (came.status, came.text) == (
-            1,
-            "mailquota: store is not this ledger\n",
-        )
-        ending = OUT_OF_MEMORY if came.could_not_start() else RIGHT if good else "fault"
-        return Run(ending, came.told, str(came) if ending == "fault" else change(folder, source))
+        config = settings(refusals, folder, refusals.port())
+        return ["server", "--config", config, "--connections", "1", "--create"]
 
-    return one
+    def judge(status, output, errors, told, folder):
+        came = status, output, apart(errors)[1]
+        good = came == refused("store is not this ledger") and not told.listened
+        ending = RIGHT if good else OUT_OF_MEMORY if came == refused("out of memory") else "fault"
+        return Run(
+            ending,
+            told,
+            f"{came}, {errors!r}, {told}" if ending == "fault" else change(folder, source),
+        )
+
+    return Command(refusals, begin, judge)

@@ -5,9 +5,7 @@ import time
 
 import books
 from ends import apart, but_of_requests, read_all, send_no_more, toml
-from sweeping import SECONDS, Told, read_told
-
-NOTHING = Told(0, 0, 0)
+from sweeping import NOTHING, SECONDS, read_told
 
 
 class Served:

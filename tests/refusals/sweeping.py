@@ -1,8 +1,11 @@
 """Runs of the program in each of which one allocation is refused, and how they end."""
 import collections
 import concurrent.futures
+import contextlib
 import os
+import socket
 import sqlite3
+import struct
 import subprocess
 import tempfile
 import threading
@@ -26,7 +29,8 @@ RETRY = "retry"
 CUT = "connection ended"
 OUT_OF_MEMORY = "out of memory"
 
-Told = collections.namedtuple("Told", "asked refused connections")
+Told = collections.namedtuple("Told", "asked refused connections listened")
+NOTHING = Told(0, 0, 0, 0)
 # how a run ended, what it told, and what is wrong with it, if anything
 Run = collections.namedtuple("Run", "ending told fault")
 
@@ -89,10 +93,152 @@ class Refusals:
         )
 
 
+class Command:
+    """Runs of a command that has no input and asks nobody: `begin` puts its files into a folder and
+    gives the words, and `judge` says what is right of a status, an output, errors, what was told
+    and the folder.
+
+    Where many are wanted, the command forks at each allocation, so that what comes before it isn't
+    done once more for each."""
+
+    def __init__(self, refusals, begin, judge):
+        self.refusals, self.begin, self.judge = refusals, begin, judge
+
+    def __call__(self, number, folder):
+        """A run of its own."""
+        return self.judge(*self.refusals.run(folder, number, *self.begin(folder)), folder)
+
+    def forked(self, numbers):
+        """The runs in which these allocations are refused."""
+        runs = []
+        while len(runs) < len(numbers):
+            with tempfile.TemporaryDirectory(dir=self.refusals.folder) as folder:
+                with Forking(self, folder, numbers[len(runs)]) as process:
+                    runs += process.runs(numbers[len(runs) :])
+        return runs
+
+
+class Forking:
+    """A process of a command in which nothing is refused, and which forks at allocations. All that
+    fork from it work in its folder, one after the other, and what each changed is put back."""
+
+    def __init__(self, command, folder, first):
+        self.command, self.told, self.files = command, f"{folder}/told", f"{folder}/files"
+        os.mkdir(self.files)
+        # (what is written comes behind what is there, since it is cut back)
+        self.said = [open(f"{folder}/{it}", "a+b", 0) for it in ("output", "errors")]
+        refusals = command.refusals
+        self.talk, other = socket.socketpair()
+        self.talk.settimeout(SECONDS)
+        self.process = subprocess.Popen(
+            [refusals.program, *command.begin(self.files)],
+            stdin=subprocess.DEVNULL,
+            stdout=self.said[0],
+            stderr=self.said[1],
+            env={**refusals.environment(first, self.told), "REFUSE_TALK": str(other.fileno())},
+            pass_fds=[other.fileno()],
+        )
+        other.close()
+
+    def __enter__(self):
+        return self
+
+    def __exit__(self, *_):
+        self.process.kill()
+        self.process.wait()
+        for it in [self.talk, *self.said]:
+            it.close()
+
+    def runs(self, numbers):
+        """The runs that are forked at these allocations, at least the first of them. Where it ended
+        before it came to one, it is that run itself, in which none was refused."""
+        runs = []
+        for number, after in zip(numbers, [*numbers[1:], 0]):
+            is_left = False
+
+            def made():
+                nonlocal is_left
+                if not self.has_come(number):
+                    self.process.wait(SECONDS)
+                    return self.judged(self.process.returncode)
+                before = self.state()
+                run = self.judged(self.status_of_child(number))
+                is_left = self.put_back(before)
+                return run
+
+            runs.append(attempted(number, made))
+            if not is_left:
+                break
+            self.answer(after)
+        return runs
+
+    def has_come(self, number):
+        """Whether it came to an allocation, or else ended."""
+        said = self.heard()
+        assert said in (None, (number, -1)), f"it forks at {said}"
+        return said is not None
+
+    def status_of_child(self, number):
+        """How the child ended that is now forked."""
+        self.answer(0)
+        said = self.heard()
+        assert said and said[0] == number, f"it says {said} of its child"
+        return os.waitstatus_to_exitcode(said[1])
+
+    def heard(self):
+        said = self.talk.recv(16)
+        return struct.unpack("=qq", said) if said else None
+
+    def answer(self, number):
+        # (where it has ended, what is heard next says so)
+        with contextlib.suppress(BrokenPipeError):
+            self.talk.sendall(struct.pack("=q", number))
+
+    def judged(self, status):
+        """What came of the process that ended with this status."""
+        output, errors = map(content_of, self.said)
+        said = errors.decode(errors="replace")
+        return self.command.judge(status, output, said, read_told(self.told), self.files)
+
+    def state(self):
+        """How long what was said is, and of each file which one it is, and its content. Of what a
+        server reserves the length says all."""
+        found = {}
+        for it in os.scandir(self.files):
+            if it.name.endswith(".ballast"):
+                found[it.name] = (it.inode(), it.stat().st_size), b""
+            else:
+                with open(it.path, "rb", 0) as file:
+                    found[it.name] = it.inode(), file.read()
+        return [len(content_of(it)) for it in self.said], found
+
+    def put_back(self, before):
+        """Makes all as it was; gives whether that is done, as it isn't where a file was replaced
+        that the process may have open."""
+        (lengths, files), (_, found) = before, self.state()
+        for said, length in zip(self.said, lengths):
+            said.truncate(length)
+        for name, (which, content) in files.items():
+            if name not in found or found[name][0] != which:
+                return False
+            if found[name][1] != content:
+                with open(f"{self.files}/{name}", "r+b") as file:
+                    file.write(content)
+                    file.truncate()
+        for name in {*found} - {*files}:
+            os.remove(f"{self.files}/{name}")
+        return True
+
+
+def content_of(file):
+    file.seek(0)
+    return file.read()
+
+
 def read_told(path):
     with open(path, "rb") as file:
         content = file.read()
-    return Told(*(int.from_bytes(content[place : place + 8], "little") for place in (0, 8, 16)))
+    return Told(*(int.from_bytes(content[place : place + 8], "little") for place in (0, 8, 16, 24)))
 
 
 def chosen(asked, whole, every):
@@ -111,12 +257,10 @@ def chosen(asked, whole, every):
     return sorted(numbers), f"{begin}every {step}. and the last {LAST} refused once"
 
 
-def attempted(refusals, one, number):
-    """A run in a folder of its own, whatever it does; a fault is told with the number of the
-    allocation."""
+def attempted(number, made):
+    """A run that is made so, whatever it does; a fault has the number of the allocation."""
     try:
-        with tempfile.TemporaryDirectory(dir=refusals.folder) as folder:
-            run = one(number, folder)
+        run = made()
     except (
         OSError,
         subprocess.SubprocessError,
@@ -125,16 +269,27 @@ def attempted(refusals, one, number):
         IndexError,
         AssertionError,
     ) as error:
-        return Run("fault", Told(0, 0, 0), f"allocation {number}: {error!r}")
+        return Run("fault", NOTHING, f"allocation {number}: {error!r}")
     return run._replace(fault=f"allocation {number}: {run.fault}") if run.fault else run
+
+
+def alone(refusals, one, number):
+    """A run in a folder of its own."""
+
+    def made():
+        with tempfile.TemporaryDirectory(dir=refusals.folder) as folder:
+            return one(number, folder)
+
+    return attempted(number, made)
 
 
 def sweep(refusals, checks, what, one, every=1, is_example=False):
     """Refuses each allocation of a case in turn: `one` makes a run in which the allocation of this
-    number is refused, with its files in a folder. The worked examples may be wanted alone."""
+    number is refused, with its files in a folder, unless it is a command, which forks at each. The
+    worked examples may be wanted alone."""
     if refusals.only_examples and not is_example:
         return
-    whole = attempted(refusals, one, 0)
+    whole = alone(refusals, one, 0)
     checks.equal(
         f"{what}: with nothing refused",
         (whole.ending, whole.fault, whole.told.refused),
@@ -145,7 +300,11 @@ def sweep(refusals, checks, what, one, every=1, is_example=False):
     numbers, said = chosen(asked, refusals.whole, every)
     began = time.monotonic()
     with concurrent.futures.ThreadPoolExecutor(JOBS) as pool:
-        runs = list(pool.map(lambda number: attempted(refusals, one, number), numbers))
+        if isinstance(one, Command):
+            shares = pool.map(one.forked, [numbers[job::JOBS] for job in range(JOBS)])
+            runs = [run for share in shares for run in share]
+        else:
+            runs = list(pool.map(lambda number: alone(refusals, one, number), numbers))
     tell(checks, what, runs)
     endings = collections.Counter(run.ending for run in runs)
     shown = ", ".join(f"{count} {ending}" for ending, count in endings.most_common())
