@@ -16,7 +16,7 @@ BASHDIR = $(PREFIX)/share/bash-completion/completions
 ZSHDIR = $(PREFIX)/share/zsh/$(if $(filter /usr,$(PREFIX)),vendor-completions,site-functions)
 CONFDIR = /etc/mailquota
 
-.PHONY: all build demo check everything commands edits bodies test refusals smtpd takeover deb dist package-tests upgrade-tests install clean
+.PHONY: all build demo check everything commands edits bodies test refusals smtpd takeover dashboard-tests deb dist package-tests upgrade-tests install clean
 
 all: build
 
@@ -38,7 +38,7 @@ ANEW ?=
 check:
 	@RT=$(RT) python3 gate/run.py gate $(if $(ANEW),--from-nothing)
 
-# What the gate leaves out, one after the other, and what ran whole over which commit: wants what smtpd, takeover, package-tests and upgrade-tests want.
+# What the gate leaves out, one after the other, and what ran whole over which commit: wants what smtpd, takeover, dashboard-tests, package-tests and upgrade-tests want.
 # What passed on this machine over the same files isn't run again, but with ANEW=1.
 everything: build
 	@RT=$(RT) python3 scripts/everything.py $(if $(ANEW),--anew)
@@ -70,6 +70,12 @@ smtpd:
 takeover:
 	@test -x $(PROGRAM) || { echo "run 'make build' first" >&2; exit 1; }
 	@bash tests/takeover/run.sh $(PROGRAM) $(ROUNDS)
+
+# The dashboard and the alerts over a day of real servers and filters, by a real Prometheus: wants Debian's prometheus and prometheus-node-exporter. DRAW=1 makes
+# docs/dashboard.svg anew.
+dashboard-tests:
+	@test -x $(PROGRAM) || { echo "run 'make build' first" >&2; exit 1; }
+	@python3 tests/dashboard/run.py $(PROGRAM) $(if $(DRAW),--draw)
 
 # A Debian package of the proved program, in dist/: wants debhelper.
 deb: build
@@ -108,7 +114,7 @@ install:
 	$(call texts,contrib/await-server contrib/keepalived-check contrib/limit-mails contrib/mail-host-check contrib/wireguard-takeover,755,$(LIBEXECDIR)/mailquota)
 	$(call texts,contrib/filter-mailquota contrib/filter-one-spelling,755,$(LIBEXECDIR)/opensmtpd)
 	$(call texts,$(wildcard contrib/mailquota*.service),644,$(UNITDIR))
-	$(call texts,$(wildcard contrib/*.toml contrib/*.conf) contrib/wireguard-takeover.service,644,$(DOCDIR)/examples)
+	$(call texts,$(wildcard contrib/*.toml contrib/*.conf contrib/*.json contrib/*.yml) contrib/wireguard-takeover.service,644,$(DOCDIR)/examples)
 	$(call texts,$(wildcard man/*.5),644,$(MANDIR)/man5)
 	$(call texts,$(wildcard man/*.8),644,$(MANDIR)/man8)
 	install -d $(DESTDIR)$(BASHDIR) $(DESTDIR)$(ZSHDIR)

@@ -31,8 +31,8 @@ _mailquota() {
     day) options='--config --at --json --help' ;;
     retire) options='--server --config --host --run --help' ;;
     report) options='--server --config --day --ago --login --login-text --top --each --json --help' ;;
-    limits) options='--config --help' ;;
-    audit) options='--config --help' ;;
+    limits) options='--config --json --help' ;;
+    audit) options='--config --json --help' ;;
     forget) options='--config --before --into --help' ;;
     replay) options='--default --east --west --rule --sql --help' ;;
     esac

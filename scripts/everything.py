@@ -1,7 +1,7 @@
 #!/usr/bin/env python3
 """Runs what the gate leaves out, one after the other: all that needs no proof, over the program as
 `make build` makes it, the commands of the pages, one allocation refused a run, real smtpds, two
-quota servers, the package, an upgrade, the further must-fail edits, and the bodies.
+quota servers, the dashboard, the package, an upgrade, the further must-fail edits, and the bodies.
 
 Each notes in tests/last_runs.txt over which commit it ran. What passed on this machine isn't run
 again where nothing changed that it may read, which its sum tells: the files of the tree but those
@@ -46,6 +46,7 @@ TARGETS = [
     Target("refusals", READ_BY_NONE + OF_THE_GATE + PAGES),
     Target("smtpd", READ_BY_NONE + OF_THE_GATE + PAGES),
     Target("takeover", READ_BY_NONE + OF_THE_GATE + PAGES),
+    Target("dashboard-tests", READ_BY_NONE + OF_THE_GATE + PAGES),
     Target("package-tests", READ_BY_NONE + OF_THE_GATE),
     Target("upgrade-tests", READ_BY_NONE + OF_THE_GATE),
     Target("edits", READ_BY_NONE + BUT_CRATES, notes=True),

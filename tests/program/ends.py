@@ -268,7 +268,7 @@ LOCKED, NO_DATABASE = "database is locked", "file is not a database that obeys i
 
 def unreached(address, cause=NOBODY_LISTENS):
     """The line of a log that says why the last try of a request got no answer of this server."""
-    return f"[ERROR mq_link::logged] quota server {address}: {cause}\n"
+    return f"[ERROR link] quota server {address}: {cause}\n"
 
 
 def unavailable(address, cause=NOBODY_LISTENS, output=b""):
@@ -278,12 +278,12 @@ def unavailable(address, cause=NOBODY_LISTENS, output=b""):
 
 def of_store(path, cause):
     """The line of a log that says why the file at this path can't be opened, read or written."""
-    return f"[ERROR mq_program::store] {path}: {cause}\n"
+    return f"[ERROR ledger] {path}: {cause}\n"
 
 
 def of_settings(path, said):
     """The line of a log that says why a file of settings can't be used."""
-    return f"[ERROR mq_process::settings] {path}: {said}\n"
+    return f"[ERROR settings] {path}: {said}\n"
 
 
 # What an address lacks.
@@ -298,7 +298,7 @@ TO_ESCAPE = "so spaces, backslashes and what isn't printable ASCII are written, 
 
 def bad_login(given, why=TOO_LONG):
     """What a command of the administrator ends with where it is given this login."""
-    log = f"[ERROR mq_process::asking] login {given}: {why}\n"
+    log = f"[ERROR commands] login {given}: {why}\n"
     return 2, b"", f"{log}mailquota: bad login\n"
 
 
@@ -307,7 +307,7 @@ def bad_address(address, lacks):
     return (
         2,
         b"",
-        f"[ERROR mq_process::asking] address {address}: {lacks}\nmailquota: bad address\n",
+        f"[ERROR commands] address {address}: {lacks}\nmailquota: bad address\n",
     )
 
 
@@ -317,13 +317,13 @@ IS_THERE = "a ledger, or a table that is named as one of its tables, is there"
 
 def refusal(path, cause):
     """The line of a log that says why the ledger of this file isn't taken."""
-    return f"[ERROR mq_program::refusal] {path}: {cause}\n"
+    return f"[ERROR ledger] {path}: {cause}\n"
 
 
 def begun(place, zone="offset 0", default=3, answers=0, days=0, limits=0):
     """The first line of a server, as `without_time` leaves it."""
     return (
-        f"[INFO  mq_program::serving] ledger {place}: version 3, default {default}, {zone},"
+        f"[INFO  server] ledger {place}: version 3, default {default}, {zone},"
         f" answers={answers} days={days} limits={limits}"
     )
 
@@ -401,7 +401,7 @@ def greatest_memory(process):
 
 
 # What stands in a line of what a server logs of requests.
-OF_REQUESTS = " mq_watch::watched] "
+OF_REQUESTS = " requests] "
 
 
 def but_of_requests(lines):

@@ -58,6 +58,7 @@ LEFT_OUT = {
     "make bodies ONLY=what_is_wrong": "`make everything` runs them all",
     "make edits": OF_EVERYTHING,
     "make refusals": OF_EVERYTHING,
+    "make dashboard-tests": OF_EVERYTHING,
     "make smtpd": OF_EVERYTHING,
     "make takeover": OF_EVERYTHING,
     "make package-tests": OF_EVERYTHING,

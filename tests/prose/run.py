@@ -16,6 +16,7 @@
 - Each command of the program stands in the synopsis of one manual page, with its options and no
   others, and that page says what each of them does. man/mailquota.8 lists the commands, and the
   pages have at most 7,200 words. Each diagnostic of the commands stands in one page, once.
+- No modules of a crate use each other in a circle, but those that tests/prose/circles.txt has.
 - Names of code that were given up stand in no source, definition or proof.
 - No lemma or definition of two lines or more stands twice.
 - The program's version is that of CHANGELOG's first release, and of the package.
@@ -26,7 +27,8 @@
   program has a text for, and so is each that docs/OPERATING.md tells an administrator to look for,
   at that level where its text has one.
 - README.md has about as many wrong bodies as the gate has the prover refuse.
-- Each wrong body can be tried: the text that it changes stands once in its file, in a function.
+- Each wrong body can be tried: the text that it changes stands once in its file, in a function. So
+  can each wrong text of scripts, units and pages.
 - tests/last_runs.txt has a line for each command that is in it, as scripts/last_runs.py writes it.
 
 A test of these checks comes first: over small trees with one thing wrong, each has to find it. The
@@ -52,12 +54,15 @@ import drawing
 import edit
 import last_runs
 import lemmas
+import modules
 from results import status_of
 
 SOURCES = ["crates/*/src/**/*.rt"]
 DEFINITIONS = ["crates/*/specs/**/*.antt", "crates/*/proofs/**/*.antt"]
 # The roots of tests say which libraries they call, and crates.txt has them.
 OF_TESTS = ("mq_ends_tests", "mq_store_tests")
+# The folders of tests/bodies that have wrong texts, each of the folder of that name.
+OF_TEXTS = ("contrib", "debian", "docs", "man")
 # The crate that only proofs stand on, which front pages needn't name, and what still stands twice,
 # with the crates.
 OF_PROOFS = "mq_lemmas"
@@ -130,6 +135,8 @@ TOKEN = re.compile(
     r"""//[^\n]* | "(?:\\.|[^"\\])*" | '(?:\\.[^']*|[^'\\])' | [^/"']+ | .""",
     re.VERBOSE | re.DOTALL,
 )
+# Which modules of a crate still use each other in a circle: a line for each.
+CIRCLES = "tests/prose/circles.txt"
 PLACE = re.compile(r"`([a-z_]+/(?:src/[a-z_/]+\.rt|proofs/\w+\.antt))`")
 
 
@@ -256,6 +263,27 @@ def drawn(tree):
     yield "docs/crates.svg", (
         [] if is_right else ["it isn't of these crates: run tests/prose/drawing.py"]
     )
+
+
+def circles(tree):
+    """Yields of each crate which of its modules use each other in a circle that isn't one of the
+    list, and which circles of the list are no more."""
+    still = {it: set() for it in crates_of(tree)}
+    lines = [it.partition(":") for it in read(tree, CIRCLES).splitlines() if it[:1] != "#"]
+    for crate, _, its in lines:
+        still.setdefault(crate, set()).add(tuple(its.split()))
+    for crate, its in still.items():
+        place = f"crates/{crate}/src/"
+        found = modules.circles(
+            {
+                it.removeprefix(place): read(tree, it)
+                for it in files(tree, [f"{glob.escape(place)}**/*.rt"])
+            }
+        )
+        yield f"the modules of {crate}", [
+            *(f"they go in a circle: {', '.join(it)}" for it in sorted(found - its)),
+            *(f"no circle of all these is left: {', '.join(it)}" for it in sorted(its - found)),
+        ]
 
 
 def sent_to(tree):
@@ -721,7 +749,8 @@ def refused(tree):
 
 
 def applied(tree):
-    """Yields of each crate which of its wrong bodies can't be tried, and why."""
+    """Yields of each crate, and of each folder of texts, which of its wrong bodies or texts can't
+    be tried, and why."""
     wrong = {it: [] for it in rows_of(tree)}
     for file in files(
         tree,
@@ -729,7 +758,6 @@ def applied(tree):
     ):
         parts = file.split("/")
         crate = parts[2] if parts[0] == "tests" else parts[1]
-        # (others are of scripts and pages)
         if crate in wrong:
             try:
                 edit.Edit(f"{tree}/{file}", f"{tree}/crates/{crate}")
@@ -737,6 +765,28 @@ def applied(tree):
                 wrong[crate].append(f"{file}: {why}")
     for crate, its in wrong.items():
         yield f"the wrong bodies of {crate}", its
+    for folder in OF_TEXTS:
+        its = [untried(tree, folder, it) for it in files(tree, [f"tests/bodies/{folder}/*.edit"])]
+        yield f"the wrong texts of {folder}", [it for it in its if it]
+
+
+def untried(tree, folder, file):
+    """Why the changes of a wrong text of this folder can't be made, one after another, if they
+    can't."""
+    texts, path, old = {}, None, None
+    for line in read(tree, file).split("\n"):
+        key, _, text = line.partition(": ")
+        if key == "file":
+            path = os.path.normpath(f"{folder}/{text}")
+            if path not in texts:
+                texts[path] = read(tree, path)
+        elif key == "old":
+            old = text
+        elif key in ("new", "new:"):
+            if texts[path].count(old) != 1:
+                return f"{file}: {path} has {old!r} {texts[path].count(old)} times"
+            texts[path] = texts[path].replace(old, text)
+    return None
 
 
 def noted(tree):
@@ -763,6 +813,7 @@ CHECKS = [
     listed,
     layered,
     drawn,
+    circles,
     sent_to,
     carriers,
     commands.known,
@@ -791,6 +842,7 @@ TREE = {
     ),
     "crates/mq_low/must-fail/low.edit": 'file: src/lib.rt\nold:     "after"\nnew: b\n',
     "tests/bodies/mq_low/bar.edit": "file: src/lib.rt\nold: let bar\nnew: let foo\n",
+    "tests/bodies/docs/gate.edit": "file: GATE.md\nold: A gate\nnew: No gate\n",
     "crates.txt": "# crates\nmq_lemmas:\nmq_low: mq_lemmas thiserror\nmq_high: mq_low\n",
     "docs/GATE.md": (
         f"A gate.\n\n    make check  # {'code ' * 30}\n\n```\n{'code ' * 30}\n```\n\n| {'row ' * 30}|\n"
@@ -825,7 +877,8 @@ TREE = {
         " Begin with `high.rt`.\npub fn call(byte: u8) -> u8\n    ensures done { IsDone result"
         " }\n{\n    low(1)\n}\n\nstruct Far;\n"
     ),
-    "crates/mq_high/src/high.rt": "//! What is high.\n",
+    "crates/mq_high/src/high.rt": "//! What is high.\nuse crate::steps::{STEPS, Steps};\n",
+    CIRCLES: "# The circles.\nmq_high: high steps\n",
     SUBCOMMANDS: (
         '//! The commands.\nconst FAR: CommandOption = CommandOption {\n    name: "far",\n};\nconst'
         ' OFF: CommandOption = CommandOption {\n    name: "far-off",\n};\npub const SUBCOMMANDS:'
@@ -851,12 +904,14 @@ TREE = {
         " -compact\ngone by 5 steps\n.Ed\n"
     ),
     "crates/mq_high/src/log.rt": (
-        '//! What is logged.\nfn tell() {\n    warn!(self.log; "{whom}: gone by {steps} steps");\n}'
+        "//! What is logged.\nuse crate::{steps::{Steps}};\n"
+        'fn tell() {\n    warn!(self.log; "{whom}: gone by {steps} steps");\n}'
         '\n\nfn say() {\n    write(f, "host {host}", ", at last")\n}\n'
     ),
     WATCHED: "- **The log:** any ERROR; WARN with `gone\n  by` or ` steps`.\n",
     "crates/mq_high/src/steps.rt": (
-        "//! Steps.\npub const STEPS: u32 = 1_001;\nfn steps() -> u32 {\n    read(2, 20)\n}\n"
+        "//! Steps.\npub const STEPS: u32 = 1_001;\nfn steps() -> u32 {\n    read(2, 20)\n}\n\n"
+        "fn up() {\n    super::high::rise()\n}\n"
     ),
     "tests/prose/figures.txt": (
         "# The figures.\n\nman/mailquota-go.8 | steps , .. to N, | mq_high/src/steps.rt | STEPS -"
@@ -896,6 +951,7 @@ WRONG = [
     ("crates/mq_low/must-fail/low.edit", '"after"', '"before"', applied),
     ("crates/mq_low/must-fail/low.edit", 'old:     "after"', "old: Low.", applied),
     ("tests/bodies/mq_low/bar.edit", "lib.rt", "low.rt", applied),
+    ("tests/bodies/docs/gate.edit", "old: A gate", "old: The gate", applied),
     (last_runs.FILE, ", b", "", noted),
     (last_runs.FILE, ", 2 failed: mq_low/a, b", ", one failed", noted),
     (last_runs.FILE, "make edits", "make wrong", noted),
@@ -924,6 +980,16 @@ WRONG = [
         layered,
         drawn,
     ),
+    ("crates/mq_high/src/high.rt", "crate::steps", "crate::log", circles),
+    ("crates/mq_high/src/steps.rt", "super::high::rise()", "// super::high::rise()", circles),
+    ("crates/mq_high/src/high.rt", "steps::{STEPS, Steps}", "{log, steps::{self, Steps}}", circles),
+    (
+        "crates/mq_high/src/high.rt",
+        "crate::steps::{STEPS, Steps};",
+        "crate::{high::{High}, steps::{self}};\nmod log;\n#[cfg(test)]\nmod tests;",
+    ),
+    (CIRCLES, "mq_high: high steps\n", "", circles),
+    (CIRCLES, "high steps", "high log steps", circles),
     ("CONTRIBUTING.md", "`call`", "`calls`", sent_to),
     ("CONTRIBUTING.md", "`done`", "`well`", sent_to),
     ("CONTRIBUTING.md", "specs/Done", "specs/Gone", sent_to),

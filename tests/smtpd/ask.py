@@ -276,18 +276,18 @@ def no_server():
     smtp.rset()
     note("no login without a quota server", no_login_answer(), "250")
     lines = log_of("smtpd").read_text(errors="replace").splitlines()
-    said = [line for line in lines if line.startswith("quota1: ") and "mq_link" in line] + [
+    said = [line for line in lines if line.startswith("quota1: ") and " link]" in line] + [
         "nothing"
     ]
     note(
         "smtpd's log, why there is no answer",
         said[0],
-        "quota1: [ERROR mq_link::logged] quota server 127.0.0.1:7025: Connection refused",
+        "quota1: [ERROR link] quota server 127.0.0.1:7025: Connection refused",
     )
     full = [
         line
         for line in lines
-        if line.startswith("quota1: [WARN  mq_client::tries] ") and "refused by the limit" in line
+        if line.startswith("quota1: [WARN  filter] ") and "refused by the limit" in line
     ] + ["nothing"]
     note(
         "smtpd's log, a login that used its limit",

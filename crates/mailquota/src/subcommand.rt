@@ -4,6 +4,7 @@ ghost use Rattle.mq_request.specs.Range.{IsDay};
 ghost use Rattle.mq_process.specs.Arguments.{IsArguments, IsDayUpTo};
 ghost use Rattle.mailquota.specs.Refusals.{Refuses};
 
+use crate::version::VERSION;
 use mq_process::{
     Arguments, Dialer, ForgetArguments, ForgetWords, ProcessFault, day, day_named, end_process,
 };
@@ -51,11 +52,14 @@ where
         Arguments::Filter(given) => {
             let input = &mut FromRead::new(rt.reader());
             let output = &mut WriterSink::new(io::writer(rt));
-            end_filter(filter(rt, dial, given, input, output, errors), errors)
+            end_filter(
+                filter(rt, dial, given, VERSION, input, output, errors),
+                errors,
+            )
         }
         Arguments::Status(given) => end_program(status(rt, given, start, errors), errors),
         Arguments::Probe(given) => end_process(probe_servers(rt, dial, given, errors), errors),
-        Arguments::Server(given) => end_program(server(rt, given, start), errors),
+        Arguments::Server(given) => end_program(server(rt, given, VERSION, start), errors),
         Arguments::Limit(given) => end_process(limit(rt, dial, given, errors), errors),
         Arguments::Stop(given) => end_process(stop(rt, dial, given, errors), errors),
         Arguments::Resume(given) => end_process(resume(rt, dial, given, errors), errors),

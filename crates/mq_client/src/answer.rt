@@ -22,9 +22,9 @@ ghost use Rattle.mq_client.specs.Loop.{MakesOne, told_one, Does, Replies, IsCut}
 use crate::client::Client;
 use crate::fault::FilterFault;
 use crate::holdup::{FullAnswer, Holdup};
+use crate::observer::{AnswerKind, FilterEvent, Observer};
 use crate::recipient_answer::RecipientAnswer;
 use crate::refusal::RefusalCause;
-use log::Log;
 use mq_line::{Decision, write_result};
 use mq_link::Link;
 use mq_request::{is_login, is_moment};
@@ -81,6 +81,7 @@ fn decision_of(answer: RecipientAnswer) -> Decision
 #[derive(Clone, Copy)]
 struct Ruling<'a> {
     decision: Decision,
+    kind: AnswerKind,
     /// No try decided, and one ran out of time.
     timed_out: bool,
     /// What was answered by the limit.
@@ -88,13 +89,14 @@ struct Ruling<'a> {
 }
 
 /// An answer that no request was made for.
-fn unasked<'a>(decision: Decision) -> Ruling<'a>
+fn unasked<'a>(decision: Decision, kind: AnswerKind) -> Ruling<'a>
     ensures decision { result.decision ≡ decision }
     ensures timed_out { result.timed_out ≡ false }
     ensures full { option_map shown_full result.full ≡ None }
 {
     Ruling {
         decision,
+        kind,
         timed_out: false,
         full: None,
     }
@@ -111,10 +113,11 @@ fn full_answer(answer: RecipientAnswer, login: &[u8], moment: u64) -> Option<Ful
     }
 }
 
-/// Counts a recipient that is answered 451 in a pause, for the log.
-fn note_held_back(client: &mut Client, decision: Decision)
+/// Counts a recipient that is held back, and for the log one that is answered 451 in a pause.
+fn note_held_back<R: Observer>(rt: &R, client: &mut Client, decision: Decision)
     ensures { client.new ≡ client.old }
 {
+    rt.observe(FilterEvent::HeldBack(AnswerKind::of(decision)));
     if decision == Decision::RejectService {
         client.count_held_back();
     }
@@ -122,7 +125,7 @@ fn note_held_back(client: &mut Client, decision: Decision)
 
 /// Asks for a recipient of the transaction that is open in the client's session, unless it is held
 /// back.
-fn ask<'a, R: Log, K: Link>(
+fn ask<'a, R: Observer, K: Link>(
     rt: &R,
     login: &'a [u8],
     txn: u32,
@@ -142,17 +145,19 @@ fn ask<'a, R: Log, K: Link>(
     ensures link { OnErr result (link.new ≡ link.old) }
 {
     if !may_ask(login, moment) {
-        client.warn_refused(rt, login, cause_of(login));
-        return Ok(unasked(Decision::RejectService));
+        let cause = cause_of(login);
+        client.warn_refused(rt, login, cause);
+        return Ok(unasked(Decision::RejectService, AnswerKind::refused(cause)));
     }
     if let Some(decision) = holdup.held_back(login, moment) {
         // (its step is a quiet one: no exchange is made, and nothing changes)
-        note_held_back(client, decision);
-        return Ok(unasked(decision));
+        note_held_back(rt, client, decision);
+        return Ok(unasked(decision, AnswerKind::of(decision)));
     }
     match client.reserve(rt, link, txn, moment, login) {
         Ok(asking) => Ok(Ruling {
             decision: decision_of(asking.answer),
+            kind: AnswerKind::of(decision_of(asking.answer)),
             timed_out: asking.timed_out,
             full: full_answer(asking.answer, login, moment),
         }),
@@ -161,7 +166,7 @@ fn ask<'a, R: Log, K: Link>(
 }
 
 /// Decides on a request of smtpd.
-fn decide<'a, R: Log, K: Link>(
+fn decide<'a, R: Observer, K: Link>(
     rt: &R,
     tracker: &'a Tracker,
     inquiry: Inquiry<'_>,
@@ -181,14 +186,14 @@ fn decide<'a, R: Log, K: Link>(
     ensures link { OnErr result (link.new ≡ link.old) }
 {
     if !is_recipient(inquiry.subsystem, inquiry.phase) {
-        return Ok(unasked(Decision::Proceed));
+        return Ok(unasked(Decision::Proceed, AnswerKind::Proceed));
     }
     client.set_line(inquiry.session, Some(inquiry.seconds));
     match tracker.standing(inquiry.session) {
-        Standing::Anonymous => Ok(unasked(Decision::Proceed)),
+        Standing::Anonymous => Ok(unasked(Decision::Proceed, AnswerKind::NoLogin)),
         Standing::Login { login, .. } => {
             client.warn_refused(rt, login, RefusalCause::NoTransaction);
-            Ok(unasked(Decision::RejectService))
+            Ok(unasked(Decision::RejectService, AnswerKind::Service))
         }
         Standing::Open { login, txn, moment } => {
             ask(rt, login, txn, moment, holdup, link, client)
@@ -207,7 +212,7 @@ fn text_of(alloc: Global, inquiry: Inquiry<'_>, decision: Decision) -> Result<Ve
 }
 
 /// Decides on a request of smtpd, and writes the result.
-pub fn answer<R: Log, W: Sink, K: Link>(
+pub fn answer<R: Observer, W: Sink, K: Link>(
     rt: &R,
     alloc: Global,
     tracker: &Tracker,
@@ -253,7 +258,10 @@ pub fn answer<R: Log, W: Sink, K: Link>(
         return Err(FilterFault::Memory);
     };
     match write_and_flush(output, text.as_slice()) {
-        Ok(()) => Ok(()),
+        Ok(()) => {
+            rt.observe(FilterEvent::Answered(decided.kind));
+            Ok(())
+        }
         Err(DeviceFault) => Err(FilterFault::Write),
     }
 }

@@ -15,6 +15,7 @@ ghost use Rattle.mq_request.specs.declared.message.Reply.{Reply};
 use crate::held_transaction::{HeldTransaction, closing_request, reserve_request};
 use crate::holdup::Holdup;
 use crate::journal::Journal;
+use crate::observer::{FilterEvent, Observer};
 use crate::recipient_answer::{RecipientAnswer, TimedAnswer, answer_to};
 use crate::refusal::{GivenWarnings, RefusalCause, RefusedRecipient};
 use crate::session::SessionName;
@@ -118,7 +119,7 @@ fn tries_in(tries: u32, paused: bool) -> u32
 }
 
 /// Sends the request for a recipient, and answers whether it may go through.
-fn send_reserve<R: Log, L: Link>(
+fn send_reserve<R: Observer, L: Link>(
     rt: &R,
     alloc: Global,
     link: &mut L,
@@ -221,7 +222,7 @@ impl Client {
     /// held with another login or moment, or has let 1,000 recipients through; where it isn't held
     /// and held transactions and waiting closings are 4,096; and where a number would be lacking
     /// for it or for a later closing. After an `Err` nothing has changed and no exchange was made.
-    pub fn reserve<R: Log, L: Link>(
+    pub fn reserve<R: Observer, L: Link>(
         &mut self,
         rt: &R,
         link: &mut L,
@@ -266,6 +267,7 @@ impl Client {
         self.held.hold(txn, moment, login)?;
         // The number is used from here on, whatever comes of it: the server may have seen it.
         self.numbers = number;
+        rt.observe(FilterEvent::Numbered);
         let journal = &mut self.journal;
         let asking = send_reserve(rt, self.alloc, link, reserve, self.tries, journal);
         self.journal
@@ -300,7 +302,7 @@ impl Client {
     /// Closes a transaction and sends what waits; in a pause it sends nothing. One that isn't held
     /// changes and sends nothing. It answers whether a request was left undecided of which a try
     /// ran out of time. After an `Err` nothing has changed and no exchange was made.
-    pub fn close<R: Log, L: Link>(
+    pub fn close<R: Observer, L: Link>(
         &mut self,
         rt: &R,
         link: &mut L,
@@ -325,7 +327,7 @@ impl Client {
 
     /// The same for a filter that holds logins back: one of which recipients were given back is
     /// held back no longer.
-    pub fn close_and_free<R: Log, L: Link>(
+    pub fn close_and_free<R: Observer, L: Link>(
         &mut self,
         rt: &R,
         link: &mut L,
@@ -357,6 +359,7 @@ impl Client {
         self.outbox.push_back(framed)?;
         self.held.release(closing.txn);
         self.numbers = number;
+        rt.observe(FilterEvent::Numbered);
         let tries = tries_in(self.tries, paused);
         let journal = &mut self.journal;
         let timed_out = send_all(
@@ -373,7 +376,7 @@ impl Client {
     }
 
     /// Sends the closings that wait, and answers how many are left.
-    pub fn drain<R: Log, L: Link>(&mut self, rt: &R, link: &mut L) -> u32
+    pub fn drain<R: Observer, L: Link>(&mut self, rt: &R, link: &mut L) -> u32
         ensures step { (group : List Exchange) × Tells (L.told link.old) (L.told link.new)
             (told_all group)
             × Makes self.old self.new (record { action = Drain; group = group; quiet = false }) }

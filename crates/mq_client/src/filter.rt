@@ -24,6 +24,7 @@ use crate::answer::{Inquiry, answer};
 use crate::client::Client;
 use crate::fault::FilterFault;
 use crate::holdup::Holdup;
+use crate::observer::Observer;
 use crate::session::LineSession;
 use log::{Log, warn};
 use mq_line::{Line, LineFeed, read_line, write_registration};
@@ -142,7 +143,7 @@ fn seconds_of(line: &Line<'_>) -> Option<u64>
 
 /// Passes a closing on that a line of this session brings, and answers whether a request
 /// was left undecided of which a try ran out of time.
-fn close<R: Log, K: Link>(
+fn close<R: Observer, K: Link>(
     rt: &R,
     session: LineSession<'_>,
     closing: Option<Closing>,
@@ -174,7 +175,7 @@ fn close<R: Log, K: Link>(
 }
 
 /// Notes what a line reports of its session, and passes on the closing that it brings.
-fn note<R: Log, K: Link>(
+fn note<R: Observer, K: Link>(
     rt: &R,
     tracker: &mut Tracker,
     line: &Line<'_>,
@@ -249,7 +250,7 @@ fn before_ready<W: Sink>(
 }
 
 /// Handles a line after `config|ready`.
-fn after_ready<R: Log, W: Sink, K: Link>(
+fn after_ready<R: Observer, W: Sink, K: Link>(
     rt: &R,
     alloc: Global,
     filter: &mut Filter,
@@ -312,7 +313,7 @@ fn after_ready<R: Log, W: Sink, K: Link>(
 }
 
 /// Handles one line, which stands without its LF.
-fn handle<R: Log, W: Sink, K: Link>(
+fn handle<R: Observer, W: Sink, K: Link>(
     rt: &R,
     alloc: Global,
     filter: &mut Filter,
@@ -358,7 +359,7 @@ fn handle<R: Log, W: Sink, K: Link>(
 }
 
 /// Handles each whole line that the feed holds.
-fn take_lines<R: Log, W: Sink, K: Link>(
+fn take_lines<R: Observer, W: Sink, K: Link>(
     rt: &R,
     alloc: Global,
     feed: &mut LineFeed,
@@ -405,7 +406,7 @@ fn warn_left<R: Log>(rt: &R, left: u32) {
 }
 
 /// Ends a run at the end of its input: what waits is sent once more.
-fn finish<R: Log, K: Link>(
+fn finish<R: Observer, K: Link>(
     rt: &R,
     feed: &LineFeed,
     filter: &Filter,
@@ -441,8 +442,13 @@ fn finish<R: Log, K: Link>(
     })
 }
 
+/// Tells that the next read may wait, and how much the client has in hand.
+fn rest<R: Observer>(rt: &R, client: &Client) {
+    rt.rest(client.held_count(), client.outbox_count());
+}
+
 /// Handles what smtpd writes until its end, or until `READS` reads were made.
-fn read_all<R: Log, S: Source, W: Sink, K: Link>(
+fn read_all<R: Observer, S: Source, W: Sink, K: Link>(
     rt: &R,
     alloc: Global,
     input: &mut S,
@@ -482,6 +488,7 @@ fn read_all<R: Log, S: Source, W: Sink, K: Link>(
 {
     let mut piece = [0u8; PIECE];
     for _read in 0..READS {
+        rest(rt, client);
         let count = match input.read(&mut piece) {
             Ok(count) => count,
             Err(DeviceFault) => return Err(FilterFault::Read),
@@ -510,7 +517,7 @@ fn read_all<R: Log, S: Source, W: Sink, K: Link>(
 /// 1,099,511,627,776 reads it answers `Read`. `Memory` comes where a read's bytes found no room, or
 /// at a line that asks for memory: `config|ready`, a request, a closing, or a report of a login or
 /// of a transaction that begins.
-pub fn run_filter<R: Log, S: Source, W: Sink, K: Link>(
+pub fn run_filter<R: Observer, S: Source, W: Sink, K: Link>(
     rt: &R,
     alloc: Global,
     input: &mut S,

@@ -2,12 +2,13 @@
 
 use crate::logged_limits::LoggedLimits;
 use crate::moves::Moves;
+use crate::observer::{FilterEvent, Observer};
 use crate::pauses::Pauses;
 use crate::retired::RetiredRun;
 use crate::tries::{FramedRequest, log_text};
 use crate::verdict::Verdict;
 use crate::warnings::{RefusedRequest, UnansweredRequest, is_refusal};
-use log::{Level, Log};
+use log::Level;
 use mq_request::Request;
 use std::alloc::Global;
 
@@ -40,7 +41,7 @@ impl Journal {
     }
 
     /// Logs what a reply decided about a request, where the log has a line for it.
-    pub fn note_decided<R: Log>(&mut self, rt: &R, framed: &FramedRequest, verdict: Verdict) {
+    pub fn note_decided<R: Observer>(&mut self, rt: &R, framed: &FramedRequest, verdict: Verdict) {
         self.pauses.end(rt);
         self.moves.see(&framed.request);
         self.limits.log_refusal(rt, framed, verdict);
@@ -51,9 +52,11 @@ impl Journal {
         }
     }
 
-    /// Logs whether the run of a request is retired, where the log is to have a line for it.
-    fn note_run<R: Log>(&mut self, rt: &R, request: &Request, verdict: Verdict) {
-        if verdict == Verdict::Old {
+    /// Tells whether the run of a request is retired, and logs it where the log is to have a line.
+    fn note_run<R: Observer>(&mut self, rt: &R, request: &Request, verdict: Verdict) {
+        let is_retired = verdict == Verdict::Old;
+        rt.observe(FilterEvent::Decided { is_retired });
+        if is_retired {
             self.retired.log_refusal(rt, request, self.seconds);
         } else {
             self.retired.log_answer(rt, request);
@@ -63,7 +66,7 @@ impl Journal {
     /// Logs a request that no reply decided in so many tries: by a warning where the server
     /// answered, since the link logs it else. One that was tried no time is held back, and has no
     /// line.
-    pub fn note_undecided<R: Log>(
+    pub fn note_undecided<R: Observer>(
         &mut self,
         rt: &R,
         framed: &FramedRequest,
@@ -86,10 +89,15 @@ impl Journal {
         log_text(rt, level, &unanswered);
     }
 
-    /// Logs that a pause of so many seconds begins, where a try ran out of time and there are
-    /// pauses.
-    pub fn note_pause<R: Log>(&mut self, rt: &R, timed_out: bool, seconds: u64) {
-        if timed_out && seconds > 0 {
+    /// Tells that a try ran out of time, where one did, and logs that a pause of so many seconds
+    /// begins, where there are pauses.
+    pub fn note_pause<R: Observer>(&mut self, rt: &R, timed_out: bool, seconds: u64) {
+        if !timed_out {
+            return;
+        }
+        rt.observe(FilterEvent::TimedOut);
+        if seconds > 0 {
+            rt.observe(FilterEvent::Paused);
             self.pauses.begin(rt, seconds);
         }
     }

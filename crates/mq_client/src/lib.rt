@@ -25,6 +25,7 @@ mod laws;
 mod logged_limits;
 mod moves;
 mod named_request;
+mod observer;
 mod pauses;
 mod recipient_answer;
 mod refusal;
@@ -44,5 +45,6 @@ pub use laws::{
     closed_is_not_asked_for, few_at_a_time, in_turn, one_request_for_a_number, one_run, readings,
     settles_are_of_what_was_let, when_pauses_begin, without_spans,
 };
+pub use observer::{AnswerKind, FilterEvent, Observer};
 pub use recipient_answer::{RecipientAnswer, TimedAnswer};
 pub use spans::Spans;

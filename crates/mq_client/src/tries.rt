@@ -18,6 +18,7 @@ ghost use Rattle.mq_client.specs.FramedRequests.{IsFramed, requests_of};
 
 use crate::holdup::Holdup;
 use crate::journal::Journal;
+use crate::observer::Observer;
 use crate::session::SessionName;
 use crate::verdict::{Verdict, is_other_reply, verdict_in};
 use log::{Level, Log, log};
@@ -173,7 +174,7 @@ fn with_try(timed_out: bool, tried: TriesOutcome) -> bool
 }
 
 /// Exchanges a framed request until a reply decides it, up to so many times.
-pub fn try_all<R: Log, L: Link>(
+pub fn try_all<R: Observer, L: Link>(
     rt: &R,
     alloc: Global,
     link: &mut L,
@@ -204,7 +205,7 @@ pub fn try_all<R: Log, L: Link>(
 
 /// Sends a closing up to so many times, and answers what came of it. Apart from `try_all` so that
 /// the loop over closings is proved by less: whether a closing was decided, by whichever reply.
-fn send<R: Log, L: Link>(
+fn send<R: Observer, L: Link>(
     rt: &R,
     alloc: Global,
     link: &mut L,
@@ -232,7 +233,7 @@ fn drop_front(outbox: &mut VecDeque<FramedRequest>)
 
 /// Sends a queue from its front, until a request stays undecided, and answers whether a try of that
 /// one ran out of time. What is held back hears of each.
-pub fn send_all<R: Log, L: Link>(
+pub fn send_all<R: Observer, L: Link>(
     rt: &R,
     alloc: Global,
     link: &mut L,

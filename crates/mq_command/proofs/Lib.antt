@@ -2,6 +2,7 @@ pub mod AllowSteps
 pub mod AnswerSteps
 pub mod AskSteps
 pub mod Fronts
+pub mod Joins
 pub mod OrderSteps
 pub mod PageSteps
 pub mod PrintedSteps

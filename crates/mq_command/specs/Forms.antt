@@ -5,7 +5,7 @@ use Rattle.std.specs.List.{flat_map}
 use Rattle.mq_request.specs.Escaped.{escaped}
 use Rattle.mq_request.specs.declared.usage.UsageRow.{UsageRow}
 use Rattle.mq_command.specs.Report.{report_lines}
-use Rattle.mq_command.specs.Top.{columns_line}
+use Rattle.mq_command.specs.Top.{table}
 use Rattle.mq_command.specs.declared.form.Form.{Form}
 use Rattle.mq_command.specs.declared.form.Form.TheVariants.{Plain, Shown, Json}
 
@@ -43,7 +43,7 @@ json_day day date = codes "{\"day\":" ++ decimal day ++ codes ",\"date\":" ++ js
 -- what is printed of the rows of a day
 abbrev pub report_text : Form → ℕ → List ℕ → List UsageRow → List ℕ
 report_text Plain day date rows = report_lines rows
-report_text Shown day date rows = columns_line ++ report_lines rows
+report_text Shown day date rows = table rows
 report_text Json day date rows = json_day day date ++ codes ",\"logins\":[" ++ json_rows rows ++ codes "]}\n"
 
 -- what is printed of a day

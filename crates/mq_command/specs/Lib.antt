@@ -3,6 +3,7 @@ pub mod Asking
 pub mod Forms
 pub mod Holding
 pub mod Later
+pub mod Listed
 pub mod Orders
 pub mod Printed
 pub mod Probing

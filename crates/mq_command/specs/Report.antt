@@ -20,13 +20,22 @@ use Rattle.mq_command.specs.declared.output.OutputFault.TheVariants as outputs
 use Rattle.mq_command.specs.declared.report.ReportFault.{ReportFault}
 use Rattle.mq_command.specs.declared.report.ReportFault.TheVariants.{Unanswered, BadPage, TooManyPages, Write, Memory}
 
--- a number, right in 7 places, and a space
-abbrev pub column : ℕ → List ℕ
-column n = replicate (7 - length (decimal n)) 32 ++ decimal n ++ 32 ∷ []
+-- a word, right in so many places
+abbrev pub right : ℕ → List ℕ → List ℕ
+right places word = replicate (places - length word) 32 ++ word
 
--- the line of a login: what is settled and reserved, the limit, and the login
+-- a number, right in so many places, and a space
+abbrev pub column : ℕ → ℕ → List ℕ
+column places n = right places (decimal n) ++ 32 ∷ []
+
+-- the line of a login: what is settled and reserved, the limit, each in so many places, and the login
+abbrev pub row_line_in : ℕ → UsageRow → List ℕ
+row_line_in places row =
+    column places row.settled ++ column places row.reserved ++ column places row.cap ++ escaped row.login ++ 10 ∷ []
+
+-- the same in 7 places
 abbrev pub row_line : UsageRow → List ℕ
-row_line row = column row.settled ++ column row.reserved ++ column row.cap ++ escaped row.login ++ 10 ∷ []
+row_line row = row_line_in 7 row
 
 -- the lines of a page, a login each
 abbrev pub report_lines : List UsageRow → List ℕ

@@ -1,14 +1,16 @@
 -- What `report --top` prints: the logins that used most on a day.
-use Rattle.std.specs.Prelude.{◌≡◌, ◌<◌, ◌+◌, ◌⊎◌, ℕ, List, ◌++◌, length, take, Bool, Option, Result, Ok, Err, codes}
+use Rattle.std.specs.Prelude.{◌≡◌, ◌<◌, ◌+◌, ◌⊎◌, ℕ, List, [], ◌∷◌, ◌++◌, length, take, max, nat_lt, Bool, Option, Result, Ok, Err, codes, if◌then◌else◌}
+use Rattle.std.specs.Fmt.{decimal}
 use Rattle.std.specs.Io.KnownBytes.{Appends, Keeps}
 use Rattle.std.specs.Ordering.{is_lt, nat_cmp}
+use Rattle.std.specs.List.{flat_map}
 use Rattle.std.specs.List.Sorted.{IsPermutation, IsSortedBy, IsStableBy}
 use Rattle.mq_request.specs.declared.message.Request.TheVariants as asks
 use Rattle.mq_request.specs.declared.usage.UsageRow.{UsageRow}
 use Rattle.mq_link.specs.declared.link.ReportedExchange.{ReportedExchange}
 use Rattle.mq_stream.specs.Flow.{AppendsFront}
 use Rattle.mq_command.specs.Asking.{Asks}
-use Rattle.mq_command.specs.Report.{AfterPages, AreFullPages, IsBadPage, IsPage, report_lines}
+use Rattle.mq_command.specs.Report.{AfterPages, AreFullPages, IsBadPage, IsPage, report_lines, right, row_line_in}
 use Rattle.mq_command.specs.declared.report.ReportFault.{ReportFault}
 use Rattle.mq_command.specs.declared.report.ReportFault.TheVariants.{Unanswered, BadPage, TooManyPages, Write, Memory}
 
@@ -64,3 +66,23 @@ ReportsTop day count told told' old new (Err fault) =
 -- the line above the columns of a report
 abbrev pub columns_line : List ℕ
 columns_line = codes "settled reserved  limit login\n"
+
+-- the greatest of this number and the figures of these rows
+abbrev pub greatest : ℕ → List UsageRow → ℕ
+greatest most [] = most
+greatest most (row ∷ rows) = greatest (max (max (max most row.settled) row.reserved) row.cap) rows
+
+-- the places that each figure of these rows takes: as many as the greatest has digits, and 7 at least
+abbrev pub places_of : List UsageRow → ℕ
+places_of rows = max (length (decimal (greatest 0 rows))) 7
+
+-- the line above columns of so many places
+abbrev pub heading : ℕ → List ℕ
+heading places =
+    if nat_lt 7 places
+    then right places (codes "settled") ++ 32 ∷ right places (codes "reserved") ++ 32 ∷ right places (codes "limit") ++ codes " login\n"
+    else columns_line
+
+-- the table of these rows, in columns that are wide enough
+abbrev pub table : List UsageRow → List ℕ
+table rows = heading (places_of rows) ++ flat_map (row_line_in (places_of rows)) rows

@@ -9,8 +9,8 @@ ghost use Rattle.mq_command.specs.Forms.{json_status, json_string, json_taken, j
 ghost use Rattle.mq_command.specs.Forms.{next_row, report_text};
 
 use crate::printed::login_text;
-use crate::report::COLUMNS;
-use crate::report::row::row_text;
+use crate::report::row::{PLACES, row_text};
+use crate::report::table::table_text;
 use crate::telling::tell_bytes;
 use mq_request::{Login, UsageRow};
 use std::alloc::{AllocError, Global};
@@ -45,7 +45,7 @@ fn push_json_byte(text: &mut Vec<u8>, byte: u8) -> Result<(), AllocError>
 }
 
 /// Appends a JSON string, of visible ASCII and spaces.
-fn push_json_string(text: &mut Vec<u8>, bytes: &[u8]) -> Result<(), AllocError>
+pub(crate) fn push_json_string(text: &mut Vec<u8>, bytes: &[u8]) -> Result<(), AllocError>
     ensures { OnOk result (text.new.items ≡ text.old.items ++ json_string bytes.now) }
 {
     text.extend_from_slice(b"\"")?;
@@ -133,7 +133,7 @@ fn push_lines(alloc: Global, text: &mut Vec<u8>, rows: &[UsageRow]) -> Result<()
     ensures { OnOk result (text.new.items ≡ text.old.items ++ report_lines rows.now) }
 {
     for row in rows {
-        text.extend_from_slice(row_text(alloc, row)?.as_bytes())?;
+        text.extend_from_slice(row_text(alloc, PLACES, row)?.as_bytes())?;
     }
     Ok(())
 }
@@ -152,10 +152,7 @@ fn push_report(
 {
     match form {
         Form::Plain => push_lines(alloc, text, rows),
-        Form::Shown => {
-            text.extend_from_slice(COLUMNS.as_bytes())?;
-            push_lines(alloc, text, rows)
-        }
+        Form::Shown => text.extend_from_slice(table_text(alloc, rows)?.as_bytes()),
         Form::Json => {
             push_json_day(alloc, text, day, date)?;
             text.extend_from_slice(b",\"logins\":[")?;

@@ -5,9 +5,9 @@
 //!
 //!     ReportedLogins::One(login) => run_report(alloc, link, day, Some(login), output, errors),
 //!
-//! It stands on `mq_request`, `mq_stream`, `mq_frame`, `mq_ledger` and `mq_link`: it knows
-//! requests, any link and the days of a zone, and neither sockets, files nor the words of a command
-//! line. Begin with `ask.rt`, one question, and `report.rt`; their definitions are
+//! It stands on `mq_request`, `mq_stream`, `mq_frame`, `mq_ledger`, `mq_dates` and `mq_link`: it
+//! knows requests, any link, the days of a zone and their dates, and neither sockets, files nor the
+//! words of a command line. Begin with `ask.rt`, one question, and `report.rt`; their definitions are
 //! `specs/Asking.antt` and `specs/Report.antt`. `printed.rt` reads back a login that a report
 //! printed.
 #![tactic(auto)]
@@ -21,6 +21,7 @@ mod heading;
 mod hold;
 mod later;
 pub mod laws;
+mod listed;
 mod look_back;
 mod note;
 mod order;
@@ -42,6 +43,7 @@ pub use day::run_day;
 pub use errors::{Errors, ServerErrors};
 pub use form::{Form, print_day, print_status, print_taken};
 pub use heading::{print_heading, say_undone};
+pub use listed::{json_of_sound, json_of_wrong, push_json_limit};
 pub use note::note_of;
 pub use order::{NUMBERS, OrderFault, run_fresh, run_limit, run_retire};
 pub use outcome::{print_sum, run_fresh_at, run_limit_at};

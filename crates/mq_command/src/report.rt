@@ -13,6 +13,7 @@ ghost use Rattle.mq_command.specs.declared.report.ReportFault.TheVariants.{Memor
 
 mod page;
 pub mod row;
+pub mod table;
 pub mod top;
 
 use crate::ask::{NoAnswer, ask};

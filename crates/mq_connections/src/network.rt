@@ -6,6 +6,7 @@ ghost use Rattle.mq_connections.specs.Wires.{IsKnownAs, Leaves, Wire, unknown};
 
 use crate::accept::Connections;
 use crate::fault::RoomFault;
+use mq_metrics::GivenUp;
 use mq_permits::Peer;
 use std::io;
 use std::net::SocketAddr;
@@ -81,6 +82,11 @@ pub trait Network {
     fn close(&mut self, number: usize)
         ensures over { is_over self.old → is_over self.new }
         ensures same { (n : ℕ) → wire self.new n ≡ wire self.old n };
+
+    /// Counts a connection that is given up, where that is wanted.
+    fn count_given_up(&self, cause: GivenUp) {
+        let _ = cause;
+    }
 }
 
 /// A network whose connections come at an address, and are accepted by one serving after another.

@@ -9,10 +9,12 @@ ghost use Rattle.mq_connections.specs.Sessions.{GoesOn, GoesOnOrStops, KeepsGoin
 ghost use Rattle.mq_connections.specs.Turns.{Closes};
 
 use crate::fault::RoomFault;
+use crate::given_up::{cause_of_end, cause_of_late};
 use crate::network::Network;
 use crate::opened::{OpenConnection, give_turns};
 use crate::stay::Times;
 use log::{Log, error, warn};
+use mq_metrics::GivenUp;
 use mq_permits::{Peer, Permits};
 use mq_server::laws::{a_life_is_served, more_deliveries, more_exchanges};
 use mq_server::{EndCause, PIECE, Progress, ServeFault};
@@ -116,6 +118,7 @@ impl Room {
             Ok(open) => open,
             Err(cause) => {
                 warn!(log; "connection of {peer}: {cause}");
+                network.count_given_up(GivenUp::System);
                 network.close(self.last);
                 return;
             }
@@ -125,6 +128,7 @@ impl Room {
             Ok(_) => return,
             Err(_) => warn!(log; "connection of {peer}: {}", ServeFault::Memory),
         }
+        network.count_given_up(GivenUp::Memory);
         network.close(self.last);
     }
 
@@ -145,6 +149,7 @@ impl Room {
         };
         let peer = open.peer;
         warn!(log; "connection of {peer}: too many connections");
+        network.count_given_up(GivenUp::TooMany);
     }
 
     /// Gives each connection of which something came its turns.
@@ -238,6 +243,7 @@ impl Room {
             }
             Progress::Ended(end) => {
                 let _ = self.close(network, number);
+                count_end(network, end);
                 end_of(log, &peer, end)
             }
         }
@@ -259,6 +265,7 @@ impl Room {
             return;
         };
         warn!(log; "connection of {peer}: {cause}");
+        network.count_given_up(GivenUp::System);
         let _ = self.close(network, number);
     }
 
@@ -296,6 +303,7 @@ impl Room {
         if let Some(fault) = fault {
             let peer = late.peer;
             warn!(log; "connection of {peer}: {fault}");
+            network.count_given_up(cause_of_late(fault));
         }
         network.close(number);
     }
@@ -371,6 +379,13 @@ fn earlier(
     match first {
         Some((_, before)) if before <= until => first,
         _ => Some((number, until)),
+    }
+}
+
+/// Counts a connection that ended so, where that means that it was given up.
+pub fn count_end<N: Network>(network: &N, end: Result<EndCause, ServeFault>) {
+    if let Some(cause) = cause_of_end(end) {
+        network.count_given_up(cause);
     }
 }
 

@@ -9,6 +9,7 @@ use crate::serving::no_wait;
 use log::{Log, warn};
 use mio::unix::SourceFd;
 use mio::{Events, Interest, Poll, Token};
+use mq_metrics::{GivenUp, ServerMetrics};
 use mq_permits::Peer;
 use std::alloc::Global;
 use std::collections::BTreeMap;
@@ -37,6 +38,8 @@ struct Reports {
 struct Socket {
     stream: TcpStream,
     peer: Peer,
+    /// When something came last for which nothing was written yet, where that is counted.
+    came: Option<Instant>,
 }
 
 /// A listener, and the sockets of the connections that are open.
@@ -53,6 +56,8 @@ pub struct Sockets<'a, R, G> {
     open: BTreeMap<usize, Socket>,
     /// The number of the connection that was accepted last.
     last: usize,
+    /// What counts connections and how long replies take, where that is asked for.
+    metrics: Option<&'a ServerMetrics>,
 }
 
 impl<'a, R, G> Sockets<'a, R, G> {
@@ -67,6 +72,50 @@ impl<'a, R, G> Sockets<'a, R, G> {
             acceptor: Acceptor::new(Connections::Count(0)),
             open: BTreeMap::new(alloc),
             last: 0,
+            metrics: None,
+        }
+    }
+
+    /// Counts from here on the connections, and how long replies take.
+    pub fn count_in(&mut self, metrics: &'a ServerMetrics) {
+        self.metrics = Some(metrics);
+        self.count_open();
+    }
+
+    /// Counts the connections that are open.
+    fn count_open(&self) {
+        if let Some(metrics) = self.metrics {
+            let open = u64::try_from(self.open.len()).unwrap_or(u64::MAX);
+            metrics.connections.open.set(open);
+        }
+    }
+
+    /// Counts a connection that was accepted.
+    fn count_accepted(&self) {
+        if let Some(metrics) = self.metrics {
+            metrics.connections.accepted.increment();
+        }
+    }
+}
+
+impl<R: Clock, G> Sockets<'_, R, G> {
+    /// Notes when something came on a connection, where that is counted.
+    fn note_arrival(&mut self, number: usize) {
+        if self.metrics.is_none() {
+            return;
+        }
+        if let Some(socket) = self.open.get_mut(&number) {
+            socket.came = Instant::now(self.rt).ok();
+        }
+    }
+
+    /// Counts how long a reply took that was written now to what came at that moment.
+    fn count_reply(&self, came: Option<Instant>) {
+        let (Some(metrics), Some(came)) = (self.metrics, came) else {
+            return;
+        };
+        if let Ok(took) = came.elapsed(self.rt) {
+            metrics.replies.observe(took);
         }
     }
 }
@@ -104,6 +153,7 @@ impl<R, G> Sockets<'_, R, G> {
         match self.open.insert(number, socket) {
             Ok(_) => {
                 self.last = number;
+                self.count_open();
                 Ok(())
             }
             Err(_) => Err(io::Error::from(ErrorKind::OutOfMemory)),
@@ -131,11 +181,18 @@ impl<R: Clock, G: Log> Network for Sockets<'_, R, G> {
         let Some((stream, address)) = self.acceptor.next(self.rt, self.log, listener)? else {
             return Ok(None);
         };
+        self.count_accepted();
         let peer = peer_of(&stream, address);
-        match self.register(number, Socket { stream, peer }) {
+        let socket = Socket {
+            stream,
+            peer,
+            came: None,
+        };
+        match self.register(number, socket) {
             Ok(()) => Ok(Some(peer)),
             Err(cause) => {
                 warn!(self.log; "connection of {peer}: {cause}");
+                self.count_given_up(GivenUp::System);
                 Ok(None)
             }
         }
@@ -183,21 +240,35 @@ impl<R: Clock, G: Log> Network for Sockets<'_, R, G> {
     }
 
     fn read(&mut self, number: usize, piece: &mut [u8]) -> io::Result<usize> {
-        match self.open.get_mut(&number) {
+        let read = match self.open.get_mut(&number) {
             Some(socket) => socket.stream.read(piece),
             None => Err(io::Error::from(ErrorKind::NotConnected)),
+        };
+        if let Ok(1..) = read {
+            self.note_arrival(number);
         }
+        read
     }
 
     fn write(&mut self, number: usize, bytes: &[u8]) -> io::Result<usize> {
-        match self.open.get_mut(&number) {
-            Some(socket) => socket.stream.write(bytes),
-            None => Err(io::Error::from(ErrorKind::NotConnected)),
-        }
+        let Some(socket) = self.open.get_mut(&number) else {
+            return Err(io::Error::from(ErrorKind::NotConnected));
+        };
+        let written = socket.stream.write(bytes)?;
+        let came = socket.came.take();
+        self.count_reply(came);
+        Ok(written)
     }
 
     fn close(&mut self, number: usize) {
         let _ = self.open.remove(&number);
+        self.count_open();
+    }
+
+    fn count_given_up(&self, cause: GivenUp) {
+        if let Some(metrics) = self.metrics {
+            metrics.connections.given_up(cause).increment();
+        }
     }
 }
 

@@ -10,7 +10,7 @@ ghost use Rattle.mq_connections.specs.Sessions.{GoesOn, Outside, held};
 ghost use Rattle.mq_connections.specs.Wires.{Wire};
 
 use crate::network::Network;
-use crate::room::{Room, end_of};
+use crate::room::{Room, count_end, end_of};
 use crate::stay::Times;
 use log::Log;
 use mq_permits::{Peer, Permits};
@@ -139,6 +139,7 @@ impl Room {
         let peer = open.peer;
         if let Progress::Ended(end) = open.read_turn(clock, network, number, times) {
             let _ = self.close(network, number);
+            count_end(network, end);
             let _ = end_of(log, &peer, end);
         }
     }

@@ -9,8 +9,9 @@ ghost use Rattle.mq_command.specs.Allowing.{IsSetter};
 
 use mq_command::{
     Form, ReportOrder, ReportedLogins, Setter, StopOrder, ask_default, is_login_text,
-    login_of_text, login_text, print_day, print_sum, run_day, run_fresh, run_fresh_at, run_limit,
-    run_restore, run_resume, run_retire, run_stop, run_totals, share_of,
+    json_of_sound, json_of_wrong, login_of_text, login_text, print_day, print_sum, push_json_limit,
+    run_day, run_fresh, run_fresh_at, run_limit, run_restore, run_resume, run_retire, run_stop,
+    run_totals, share_of,
 };
 use mq_frame::{decode_request, encode_request};
 use mq_ledger::{PlainLedger, Zone};
@@ -546,6 +547,25 @@ fn forms_of_a_day(rt: HostRuntime) -> Result<(), Fail> {
     let wanted =
         "20787\n20787 2026-11-30\n{\"day\":20787,\"date\":\"2026-11-30\"}\nin all at most 2200 a day\n";
     assert_eq!(rt; printed, wanted);
+    Ok(())
+}
+
+#[test]
+fn objects_of_limits_and_books(rt: HostRuntime) -> Result<(), Fail> {
+    let alloc = rt.alloc();
+    let mut text = Vec::new(alloc);
+    push_json_limit(alloc, &mut text, b"a\"b", 20_787, 2_000)?;
+    text.extend_from_slice(b"\n")?;
+    // Days that no ledger has.
+    push_json_limit(alloc, &mut text, b"\xff", 376_201, 0)?;
+    text.extend_from_slice(b"\n")?;
+    push_json_limit(alloc, &mut text, b"u", -1, -5)?;
+    text.extend_from_slice(b"\n")?;
+    text.extend_from_slice(json_of_sound(alloc, 3, 4)?.as_bytes())?;
+    text.extend_from_slice(json_of_wrong(alloc, b"u", 376_200)?.as_slice())?;
+    let wanted =
+        "{\"login\":\"a\\\"b\",\"from_day\":20787,\"from_date\":\"2026-11-30\",\"limit\":2000}\n{\"login\":\"\\\\xff\",\"from_day\":376201,\"from_date\":null,\"limit\":0}\n{\"login\":\"u\",\"from_day\":-1,\"from_date\":null,\"limit\":-5}\n{\"sound\":true,\"days\":3,\"transactions\":4}\n{\"sound\":false,\"login\":\"u\",\"day\":376200,\"date\":\"3000-01-01\"}\n";
+    assert_eq!(rt; str::from_utf8(text.as_slice())?, wanted);
     Ok(())
 }
 

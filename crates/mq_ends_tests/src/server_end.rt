@@ -1,6 +1,7 @@
 //! The server's end: frames, the ledger, the engine, and a link to it.
 
 mod asserts;
+mod counting;
 mod deadlines;
 mod fails_once;
 mod fixtures;
@@ -8,6 +9,7 @@ mod frame;
 mod kept;
 mod ledger;
 mod link;
+mod metrics;
 mod nearing;
 mod outages;
 mod permits;

@@ -96,6 +96,8 @@ pub struct StatusArguments<'a> {
 pub struct AuditArguments<'a> {
     /// The file of the server's settings.
     pub config: &'a str,
+    /// How it is printed.
+    pub output: OutputArgument,
 }
 
 /// What `limits` is given.
@@ -103,6 +105,8 @@ pub struct AuditArguments<'a> {
 pub struct LimitsArguments<'a> {
     /// The file of the server's settings.
     pub config: &'a str,
+    /// How it is printed.
+    pub output: OutputArgument,
 }
 
 /// What the words of `forget` ask for.

@@ -8,10 +8,10 @@ ghost use Rattle.mq_process.specs.Refusals.{HasNoAddress, IsNoAddress, Names, Na
 ghost use Rattle.mq_process.specs.Refusals.{OrderRefuses};
 
 use crate::arguments::LoginArgument;
+use crate::console::Console;
 use crate::dialing::Dial;
 use crate::fault::ProcessFault;
 use crate::servers::check_addresses;
-use log::sink::Console;
 use log::{LevelFilter, Log, Logged, error};
 use mq_command::{TRIES, is_login_text, login_of_text, note_of};
 use mq_link::LoggedLink;

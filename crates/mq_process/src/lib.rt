@@ -9,16 +9,17 @@
 //!     let words = given.servers.as_slice();
 //!     checked(rt, given.host, given.login, words)?;
 //!
-//! It stands on `mq_request`, `mq_ledger`, `mq_dates`, `mq_settings`, `mq_servers`, `mq_link` and
-//! `mq_command`. Begin with `arguments.rt`, `settings.rt` and `asking.rt`; `specs/Arguments.antt`
-//! has the ranges that `mq_words` proves, `specs/Refusals.antt` says which words are refused, and in
-//! which order, and `specs/Whom.antt` whom a command asks.
+//! It stands on `mq_request`, `mq_ledger`, `mq_dates`, `mq_settings`, `mq_servers`, `mq_link`,
+//! `mq_metrics` and `mq_command`. Begin with `arguments.rt`, `settings.rt` and `asking.rt`;
+//! `specs/Arguments.antt` has the ranges that `mq_words` proves, `specs/Refusals.antt` says which
+//! words are refused, and in which order, and `specs/Whom.antt` whom a command asks.
 #![tactic(auto)]
 
 mod addresses;
 mod arguments;
 mod asking;
 mod clock;
+mod console;
 mod dialing;
 mod fault;
 mod form;
@@ -44,6 +45,7 @@ pub use asking::{
     tell_note,
 };
 pub use clock::{WallClock, elapsed, run_number};
+pub use console::Console;
 pub use dialing::{Dial, Dialer};
 pub use fault::ProcessFault;
 pub use form::form_of;

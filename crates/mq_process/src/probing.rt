@@ -8,9 +8,9 @@ ghost use Rattle.mq_process.specs.Questions.{IsQuestion, Puts, PutsHost, PutsInJ
 ghost use Rattle.mq_process.specs.Questions.{has_answered};
 
 use crate::asking::TIMEOUT;
+use crate::console::Console;
 use crate::dialing::Dial;
 use crate::fault::ProcessFault;
-use log::sink::Console;
 use log::{LevelFilter, Log, Logged};
 use mq_command::{ProbeEnd, print_status, print_taken, run_check, run_host_probe, run_probe};
 use mq_link::{Link, LoggedLink};

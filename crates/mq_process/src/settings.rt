@@ -7,8 +7,8 @@ ghost use Rattle.mq_process.specs.Settings.{ReadsServer, ReadsServers, RefusesFi
 ghost use Rattle.mq_process.specs.Settings.{RefusesServer, SpellsFilter, SpellsServer};
 ghost use Rattle.mq_servers.specs.Lists.{ListsServers};
 
+use crate::console::Console;
 use crate::fault::ProcessFault;
-use log::sink::Console;
 use log::{LevelFilter, Logged, error};
 use mq_servers::read_servers;
 use mq_settings::{

@@ -1,6 +1,6 @@
 -- The lines of limits in order.
 use denote.Param.Members.{Mut}
-use Rattle.std.proofs.Common.{◌≡◌, ◌∙◌, ◌<◌, ◌+◌, ℕ, List, [], ◌∷◌, ◌++◌, Bool, Bor, Option, Result, Ok, Err, length, take, get_or, sym, ap, subst, append-nil}
+use Rattle.std.proofs.Common.{◌≡◌, ◌∙◌, ◌<◌, ◌+◌, ℕ, List, [], ◌∷◌, ◌++◌, Bool, Bor, Option, Result, Ok, Err, length, take, get_or, refl, sym, ap, subst, append-nil, append_assoc}
 use Rattle.std.specs.Prelude.{IfErr, IfOk, OnOk}
 use Rattle.std.proofs.KnownBytes.{Keeps-refl}
 use Rattle.std.specs.Io.KnownBytes.{Appends, Keeps}
@@ -22,7 +22,8 @@ use Rattle.std.specs.Ordering.{is_lt}
 use Rattle.std.specs.declared.cmp.Ordering.{Ordering}
 use Rattle.mq_rows.specs.declared.audited.LimitFigures.{LimitFigures}
 use Rattle.mq_rows.specs.Pair.{pair_cmp, pair_cmp_total}
-use Rattle.mq_program.specs.Listing.{PrintsInOrder, PrintsLimits, limit_line, limit_lines, limit_text}
+use Rattle.mq_process.specs.declared.arguments.OutputArgument.{OutputArgument}
+use Rattle.mq_program.specs.Listing.{AreMoreObjects, IsLimitsText, IsObject, PrintsInOrder, PrintsLimits, limit_line, limit_lines, limit_text}
 
 -- one more line
 pub one_more : (xs : List LimitFigures) (i : ℕ) (x : LimitFigures) (old new : List ℕ) → i < length xs → get_or xs i x ≡ x
@@ -60,24 +61,46 @@ all_in_order db read limits all moved f has = IsPermutation-trans f.limits read 
 pub set_in_order : (H : List Entry) (read limits : List LimitFigures) → AreSet H read → IsPermutation read limits → AreSet H limits
 set_in_order H read limits is moved = record { rows = is.rows; set = is.set; same = IsPermutation-trans _ read limits is.same moved }
 
--- their lines were printed
-in_order : (limits : List LimitFigures) (old new : Option (List ℕ)) (bytes : List ℕ) → IsSortedByKey (λ (limit : LimitFigures). limit.pair) pair_cmp limits
-    → bytes ≡ limit_lines limits → Appends old new bytes → PrintsInOrder limits old new
-in_order limits old new bytes sorted line whole = record { sorted = sorted; printed = subst (λ b. Appends old new b) line whole }
+-- what is printed of them was
+in_order : (form : OutputArgument) (limits : List LimitFigures) (old new : Option (List ℕ)) (bytes text : List ℕ) → IsSortedByKey (λ (limit : LimitFigures). limit.pair) pair_cmp limits
+    → bytes ≡ text → IsLimitsText form limits text → Appends old new bytes → PrintsInOrder form limits old new
+in_order form limits old new bytes text sorted same is whole = record { sorted = sorted; text = text; is = is; printed = subst (λ b. Appends old new b) same whole }
 
-pub such_printed : (P : List LimitFigures → Type 0) (limits : List LimitFigures) (old new : Option (List ℕ)) (bytes : List ℕ) (ended : Result (Unit {0}) ProgramFault) → P limits
-    → IsSortedByKey (λ (limit : LimitFigures). limit.pair) pair_cmp limits → bytes ≡ limit_lines limits → OnOk ended (Appends old new bytes)
-    → IfOk ended (λ _. (l : List LimitFigures) × P l × PrintsInOrder l old new)
-such_printed P limits old new bytes (Ok u) such sorted line whole = (limits, such, in_order limits old new bytes sorted line whole)
-such_printed P limits old new bytes (Err f) such sorted line whole = tt
+pub such_printed : (P : List LimitFigures → Type 0) (form : OutputArgument) (limits : List LimitFigures) (old new : Option (List ℕ)) (bytes text : List ℕ) (ended : Result (Unit {0}) ProgramFault) → P limits
+    → IsSortedByKey (λ (limit : LimitFigures). limit.pair) pair_cmp limits → bytes ≡ text → IsLimitsText form limits text → OnOk ended (Appends old new bytes)
+    → IfOk ended (λ _. (l : List LimitFigures) × P l × PrintsInOrder form l old new)
+such_printed P form limits old new bytes text (Ok u) such sorted same is whole = (limits, such, in_order form limits old new bytes text sorted same is whole)
+such_printed P form limits old new bytes text (Err f) such sorted same is whole = tt
 
--- or a prefix of them was
-pub front_printed : (P : List LimitFigures → Type 0) (limits : List LimitFigures) (old new : Option (List ℕ)) (bytes : List ℕ) (ended : Result (Unit {0}) ProgramFault) → P limits
-    → IsSortedByKey (λ (limit : LimitFigures). limit.pair) pair_cmp limits → bytes ≡ limit_lines limits → AppendsFront old new bytes
-    → IfErr ended (λ fault. fault ≡ Write → (l : List LimitFigures) × P l × IsSortedByKey (λ (limit : LimitFigures). limit.pair) pair_cmp l × AppendsFront old new (limit_lines l))
-front_printed P limits old new bytes (Ok u) such sorted line front = tt
-front_printed P limits old new bytes (Err f) such sorted line front = λ _. (limits, such, sorted, subst (λ b. AppendsFront old new b) line front)
+-- or a prefix of it was
+pub front_printed : (P : List LimitFigures → Type 0) (form : OutputArgument) (limits : List LimitFigures) (old new : Option (List ℕ)) (bytes text : List ℕ) (ended : Result (Unit {0}) ProgramFault) → P limits
+    → IsSortedByKey (λ (limit : LimitFigures). limit.pair) pair_cmp limits → bytes ≡ text → IsLimitsText form limits text → AppendsFront old new bytes
+    → IfErr ended (λ fault. fault ≡ Write → (l : List LimitFigures) × P l × IsSortedByKey (λ (limit : LimitFigures). limit.pair) pair_cmp l × (t : List ℕ) × IsLimitsText form l t × AppendsFront old new t)
+front_printed P form limits old new bytes text (Ok u) such sorted same is front = tt
+front_printed P form limits old new bytes text (Err f) such sorted same is front = λ _. (limits, such, sorted, text, is, subst (λ b. AppendsFront old new b) same front)
 
 -- of tables that stayed as they were
-pub listed_still : (db now : Database) (old new : Option (List ℕ)) → now ≡ db → PrintsLimits db old new → PrintsLimits now old new
-listed_still db now old new same listed = subst (λ (d : Database). PrintsLimits d old new) (sym same) listed
+pub listed_still : (form : OutputArgument) (db now : Database) (old new : Option (List ℕ)) → now ≡ db → PrintsLimits form db old new → PrintsLimits form now old new
+listed_still form db now old new same listed = subst (λ (d : Database). PrintsLimits form d old new) (sym same) listed
+
+-- one more object at the end
+pub more_objects : (xs : List LimitFigures) (x : LimitFigures) (before object : List ℕ) → AreMoreObjects xs before → IsObject x object → AreMoreObjects (xs ++ x ∷ []) (before ++ 44 ∷ object)
+more_objects [] x before object are is = (object, [], is, refl, ap (λ t. t ++ 44 ∷ object) are ∙ sym (append-nil (44 ∷ object)))
+more_objects (y ∷ ys) x before object (first, rest, is_first, are_rest, joined) is = (
+  first,
+  rest ++ 44 ∷ object,
+  is_first,
+  more_objects ys x rest object are_rest is,
+  ap (λ t. t ++ 44 ∷ object) joined ∙ append_assoc (44 ∷ first) rest (44 ∷ object),
+)
+
+pub one_more_object : (xs : List LimitFigures) (i : ℕ) (x : LimitFigures) (before object : List ℕ) → i < length xs → get_or xs i x ≡ x
+    → AreMoreObjects (take i xs) before → IsObject x object → AreMoreObjects (take (i + 1) xs) (before ++ 44 ∷ object)
+one_more_object xs i x before object below here are is =
+    subst (λ (ys : List LimitFigures). AreMoreObjects ys (before ++ 44 ∷ object)) (sym (take_more xs i x below ∙ ap (λ y. take i xs ++ y ∷ []) here))
+    (more_objects (take i xs) x before object are is)
+
+-- what stands behind a text, a comma and an object
+pub after_comma : (t u v w before object : List ℕ) → u ≡ t ++ before → v ≡ u ++ 44 ∷ [] → w ≡ v ++ object → w ≡ t ++ (before ++ 44 ∷ object)
+after_comma t u v w before object first second third =
+    third ∙ ap (λ x. x ++ object) (second ∙ ap (λ x. x ++ 44 ∷ []) first) ∙ append_assoc (t ++ before) (44 ∷ []) object ∙ append_assoc t before (44 ∷ object)

@@ -3,13 +3,15 @@
 ghost use Rattle.std.specs.Prelude.{◌≡◌};
 ghost use Rattle.mq_program.specs.Room.{what_goes};
 
+use crate::metrics::MetricsWriter;
 use crate::reserve::{NoReserve, keep_reserve};
 use crate::switching::{Names, is_there};
 use log::{Log, error, info, warn};
 use mq_chore::{Chore, Piece};
-use mq_ledger::Ledger;
 use mq_nights::Look;
 use mq_process::elapsed;
+use mq_store::SqlLedger;
+use sqlite::Alter;
 use std::alloc::AllocError;
 use std::fs::{File, Metadata};
 use std::io::ErrorKind;
@@ -68,11 +70,12 @@ impl FileId {
     }
 }
 
-/// Looks after the files of a ledger.
+/// Looks after the files of a ledger, and has the server's metrics written.
 pub struct Caretaker<'a, R, G> {
     rt: &'a R,
     log: &'a G,
     names: &'a Names,
+    metrics: &'a MetricsWriter<'a, R, G>,
     /// Whether days leave the ledger, so that the former one is of a night.
     has_nights: bool,
     /// Whether it has looked, and when it did last.
@@ -100,11 +103,18 @@ impl<R, G> Copy for Caretaker<'_, R, G> {}
 
 impl<'a, R: Files<File = File> + Clock + AllocGlobal, G: Log> Caretaker<'a, R, G> {
     /// Nothing was looked at yet. The reserve is whole, and there was room above it.
-    pub fn new(rt: &'a R, log: &'a G, names: &'a Names, has_nights: bool) -> Caretaker<'a, R, G> {
+    pub fn new(
+        rt: &'a R,
+        log: &'a G,
+        names: &'a Names,
+        metrics: &'a MetricsWriter<'a, R, G>,
+        has_nights: bool,
+    ) -> Caretaker<'a, R, G> {
         Caretaker {
             rt,
             log,
             names,
+            metrics,
             has_nights,
             has_looked: false,
             looked: None,
@@ -267,11 +277,13 @@ pub fn give_up_former<R: Files, G: Log>(rt: &R, log: &G, names: &Names, cause: &
     }
 }
 
-impl<R: Files<File = File> + Clock + AllocGlobal, G: Log, L: Ledger> Chore<L>
+impl<R: Files<File = File> + Clock + AllocGlobal, G: Log, S: Alter> Chore<SqlLedger<S>>
     for Caretaker<'_, R, G> {
     ghost is_done = { λ _ _. ⊥ };
 
-    fn go_on(&mut self, _ledger: &mut L) -> Piece {
-        Piece::Later(self.look(false).next)
+    fn go_on(&mut self, ledger: &mut SqlLedger<S>) -> Piece {
+        let next = self.look(false).next;
+        self.metrics.look_at(ledger);
+        Piece::Later(next)
     }
 }

@@ -1,7 +1,7 @@
 //! What a server's last night did, which it notes in a file beside the ledger, `LEDGER.night`, for
 //! who asks later.
 
-use crate::serving::Elapsed;
+use crate::elapsed_time::Elapsed;
 use log::{Log, warn};
 use mq_ledger::Zone;
 use mq_process::moment_or_now;

@@ -4,19 +4,20 @@
 //! Each opens the ledger that it needs, and gives the exit status, or a [`ProgramFault`]. From
 //! `mailquota/src/subcommand.rt`:
 //!
-//!     Arguments::Server(given) => end_program(server(rt, given, start), errors),
+//!     Arguments::Server(given) => end_program(server(rt, given, VERSION, start), errors),
 //!
 //! Those that need no ledger, the filter among them, are `mq_remote`'s. It stands on `mq_request`,
 //! `mq_permits`, `mq_permits_file`, `mq_stream`, `mq_frame`, `mq_ledger`, `mq_chore`, `mq_forget`,
 //! `mq_rows`, `mq_tables`, `mq_server`, `mq_settings`, `mq_connections`, `mq_watch`, `mq_command`,
-//! `mq_replay`, `mq_process`, `mq_store` and `mq_nights`. It knows no words of the command line, and
-//! decides nothing by itself. Begin with `serving.rt`, where the server is put together, then
-//! `store.rt`, then `nights.rt`.
+//! `mq_replay`, `mq_process`, `mq_store`, `mq_nights` and `mq_metrics`. It knows no words of the
+//! command line, and decides nothing by itself. Begin with `serving.rt`, where the server is put
+//! together, then `store.rt`, then `nights.rt`.
 #![tactic(auto)]
 
 mod auditing;
 mod caretaker;
 mod describing;
+mod elapsed_time;
 mod fault;
 mod forgetting;
 mod host;
@@ -24,6 +25,7 @@ mod last_night;
 mod listing;
 mod making;
 mod memory;
+mod metrics;
 mod nights;
 mod permits;
 mod probing;

@@ -1,5 +1,5 @@
 //! `server` with `keep`: a ledger is served night after night, and days leave it meanwhile.
-ghost use Rattle.std.specs.Prelude.{◌≡◌, IfErr, IfOk, IfSome, IsSomeAnd, MatchResult};
+ghost use Rattle.std.specs.Prelude.{◌≡◌, ◌≢◌, IfErr, IfOk, IfSome, IsOk, IsSomeAnd, MatchResult};
 ghost use Rattle.sqlite.specs.Held.{state};
 ghost use Rattle.mq_process.specs.Settings.{AreInRange};
 ghost use Rattle.mq_server.specs.Delivery.{HasGrown};
@@ -7,14 +7,19 @@ ghost use Rattle.mq_store.specs.Forgetting.{IsRemembered};
 ghost use Rattle.mq_store.specs.Soundness.{book_in, HasKept, IsSound};
 ghost use Rattle.mq_connections.specs.Asking.{out};
 ghost use Rattle.mq_connections.specs.Gained.{callers};
-ghost use Rattle.mq_program.specs.Nights.{AreKept, AreServed, HasDawned, HasPassed};
+ghost use Rattle.mq_connections.specs.declared.fault.RoomFault.TheVariants.{Store as store_failed};
+ghost use Rattle.mq_nights.specs.Nights.{WasDue};
+ghost use Rattle.mq_program.specs.Nights.{AreKept, HasDawned, HasPassed, IsAsBefore};
+ghost use Rattle.mq_program.specs.Serving.{Serves};
 
 use crate::caretaker::Caretaker;
+use crate::elapsed_time::Elapsed;
 use crate::fault::ProgramFault;
 use crate::host::Databases;
 use crate::last_night::{last_night, note_night};
+use crate::metrics::MetricsWriter;
 use crate::serving::{
-    Crowd, Elapsed, EndedServing, bind, days_of, log_ledger, outcome_of, times_of,
+    EndedServing, bind, counted, days_of, log_begin, log_end, log_ledger, outcome_of, times_of,
 };
 use crate::store::{ledger_of_settings, log_cause};
 use crate::switching::{Names, NoSwitch, PartStore, begin_switch, discard_part, make_part, switch};
@@ -22,7 +27,8 @@ use log::{Log, info};
 use mq_connections::laws::nothing_is_served;
 use mq_connections::{Connections, Port};
 use mq_ledger::{Ledger, LedgerFault, Zone};
-use mq_nights::{Look, NoPart, Parts, RenewedLedger, Seen, pass_night};
+use mq_metrics::ServerMetrics;
+use mq_nights::{Look, Moments, NoPart, Parts, RenewedLedger, Seen, pass_night};
 use mq_permits::Permits;
 use mq_process::elapsed;
 use mq_settings::ServerSettings;
@@ -41,6 +47,8 @@ type Serving<'a, S, R, G> = WatchedLedger<'a, SqlLedger<S>, R, G>;
 struct Nights<'a, R, G> {
     rt: &'a R,
     log: &'a G,
+    /// What counts what is served, where figures are wanted.
+    figures: Option<&'a ServerMetrics>,
     settings: &'a ServerSettings,
     /// Who may ask what.
     permits: Option<&'a Permits>,
@@ -55,32 +63,32 @@ struct Nights<'a, R, G> {
 /// Lets ledgers that renewals made take the place of former ones, to which there are connections
 /// `C`.
 trait Switch<C> {
-    ghost use Rattle.std.specs.Prelude.{List, Option, None};
+    ghost use Rattle.std.specs.Prelude.{◌≡◌, List, Option, None, ⊤, IfErr, OnOk};
     ghost use Rattle.mq_program.specs.Nights.{Closes};
+    ghost use Rattle.mq_program.specs.declared.fault.ProgramFault.TheVariants.{Store};
 
     /// The connections that it has closed, where it can tell: of a file that is closed nothing is
     /// known any more.
     ghost closed: { Self → Option (List C) } = { λ _. None };
 
+    /// A switch has begun, which took no place yet.
+    ghost has_begun: { Self → Type 0 } = { λ _. ⊤ };
+
     /// Gives the former ledger's file its other name. Why it stays as it was is logged.
     fn begin(&mut self) -> Result<(), NoSwitch>
-        ensures { closed self.new ≡ closed self.old };
+        ensures same { closed self.new ≡ closed self.old }
+        ensures begun { OnOk result (has_begun self.new) };
 
     /// Removes the new ledger's file, which takes no place: its connection is gone.
     fn stay(&mut self)
         ensures { closed self.new ≡ closed self.old };
 
     /// Closes the former ledger's file, which has its other name, gives that of it to the new one,
-    /// and logs and notes which days were forgotten. `zone` is the ledger's, and `began` when the
-    /// renewal began.
-    fn take_place(
-        &mut self,
-        former: C,
-        zone: Zone,
-        day: u32,
-        began: Option<Instant>,
-    ) -> Result<(), ProgramFault>
-        ensures { Closes (closed self.old) former (closed self.new) };
+    /// and logs and notes which days were forgotten. The switch has begun. `zone` is the ledger's.
+    fn take_place(&mut self, former: C, zone: Zone, night: NightNote) -> Result<(), ProgramFault>
+        requires { has_begun self.old }
+        ensures closes { Closes (closed self.old) former (closed self.new) }
+        ensures fault { IfErr result (λ fault. fault ≡ Store) };
 }
 
 /// The ledger's file, and those beside it that renewals fill.
@@ -88,6 +96,7 @@ struct NightFiles<'a, R, G> {
     rt: &'a R,
     log: &'a G,
     names: &'a Names,
+    metrics: &'a MetricsWriter<'a, R, G>,
     caretaker: Caretaker<'a, R, G>,
 }
 
@@ -121,7 +130,9 @@ impl<R: Databases + Clock, G: Log> Parts<PartStore> for NightFiles<'_, R, G> {
     }
 
     fn look(&mut self, renews: bool) -> Look {
-        self.caretaker.look(renews)
+        let look = self.caretaker.look(renews);
+        self.metrics.look();
+        look
     }
 }
 
@@ -141,31 +152,40 @@ where
         &mut self,
         former: Connection<PartStore>,
         zone: Zone,
-        day: u32,
-        began: Option<Instant>,
+        night: NightNote,
     ) -> Result<(), ProgramFault> {
+        let day = night.day;
         let since = Instant::now(self.rt).ok();
         switch(self.rt, self.log, self.names, former)?;
         let ledger = self.names.ledger.as_str();
-        let took = Elapsed(elapsed(self.rt, began));
+        let took = Elapsed(elapsed(self.rt, night.began));
         let switched = Elapsed(elapsed(self.rt, since));
         info!(
             self.log;
             "ledger {ledger}: the days before {day} are forgotten, in {took}, the last {switched} without an answer"
         );
         note_night(self.rt, self.log, ledger, zone, day, took);
+        self.metrics.note_night(day, took, night.answers);
         Ok(())
     }
+}
+
+/// What is noted of a night.
+#[derive(Clone, Copy)]
+struct NightNote {
+    /// The first day that the new ledger has.
+    day: u32,
+    /// When the renewal began.
+    began: Option<Instant>,
+    /// How many answers the new ledger has, where they could be counted.
+    answers: Option<u64>,
 }
 
 /// A ledger that a renewal made.
 #[derive(Drop)]
 struct Dawn<'a, N: Alter, R, G> {
     serving: Serving<'a, N, R, G>,
-    /// The first day that it has.
-    day: u32,
-    /// When the renewal began.
-    began: Option<Instant>,
+    note: NightNote,
     /// What was seen to.
     seen: Seen,
 }
@@ -178,6 +198,15 @@ struct PassedNight<'a, S: Alter, N: Alter, R, G> {
     outcome: Result<Option<Dawn<'a, N, R, G>>, ProgramFault>,
 }
 
+/// How many answers a ledger has that a renewal made, where they can be counted.
+fn count_kept<S: Alter>(ledger: &mut SqlLedger<S>) -> Option<u64>
+    ensures lent { (ledger.new.zone ≡ ledger.old.zone) × (ledger.new.default ≡ ledger.old.default) }
+    ensures same { IsAsBefore ledger.old.zone ledger.old.default
+        (state S.Store ledger.old.connection) (state S.Store ledger.new.connection) }
+{
+    ledger.count_answers().ok()
+}
+
 /// The end of a night without a fault: a renewed ledger is served from then on, by who served the
 /// former one.
 fn end_night<'a, R: Clock, G: Log, S: Alter + Drop, N: Alter + Drop>(
@@ -186,8 +215,13 @@ fn end_night<'a, R: Clock, G: Log, S: Alter + Drop, N: Alter + Drop>(
     night: Option<RenewedLedger<N>>,
 ) -> PassedNight<'a, S, N, R, G>
     ensures former { result.ledger ≡ serving.entry }
+    ensures good { IsOk result.outcome }
     ensures next { IfOk result.outcome (λ dawn. IfSome dawn (λ d.
-        IsSomeAnd night (λ n. (d.serving ≡ n.ledger) × (d.day ≡ n.day)))) }
+        IsSomeAnd night (λ n. (d.serving.zone ≡ n.ledger.zone)
+        × (d.serving.default ≡ n.ledger.default)
+        × IsAsBefore n.ledger.zone n.ledger.default (state N.Store n.ledger.connection)
+        (state N.Store d.serving.connection)
+        × (d.note.day ≡ n.day)))) }
 {
     match night {
         Some(renewed) => {
@@ -197,11 +231,17 @@ fn end_night<'a, R: Clock, G: Log, S: Alter + Drop, N: Alter + Drop>(
                 began,
                 seen,
             } = renewed;
-            let (ledger, serving) = serving.take_over(ledger);
-            let dawn = Dawn {
-                serving,
+            let mut kept = ledger;
+            let answers = count_kept(&mut kept);
+            let (ledger, serving) = serving.take_over(kept);
+            let note = NightNote {
                 day,
                 began,
+                answers,
+            };
+            let dawn = Dawn {
+                serving,
+                note,
                 seen,
             };
             PassedNight {
@@ -210,8 +250,7 @@ fn end_night<'a, R: Clock, G: Log, S: Alter + Drop, N: Alter + Drop>(
             }
         }
         None => {
-            let crowd = Crowd(nights.connections);
-            info!(nights.log; "ending after {crowd}");
+            log_end(nights.log, nights.connections);
             PassedNight {
                 ledger: serving.into_inner(),
                 outcome: Ok(None),
@@ -231,7 +270,7 @@ fn pass<'a, R, G: Log, W: Port, S: Alter + Drop, N: Alter + Drop, P: Parts<N> + 
     left: &mut Connections,
 ) -> PassedNight<'a, S, N, R, G>
 where
-    R: Clock + AllocGlobal,
+    R: Clock + Moments + AllocGlobal,
     ensures lent { (result.ledger.zone ≡ serving.entry.zone)
         × (result.ledger.default ≡ serving.entry.default) }
     ensures kept { HasKept (state S.Store result.ledger.connection)
@@ -251,11 +290,20 @@ where
         (state S.Store result.ledger.connection).now) }
     ensures serves { HasKept (state S.Store result.ledger.connection)
         → IsSound serving.entry.zone serving.entry.default (state S.Store serving.entry.connection)
-        → AreServed (callers nights.now.permits W.peers)
+        → Serves (callers nights.now.permits W.peers)
         (out (book_in serving.entry.zone serving.entry.default
         (state S.Store serving.entry.connection).now) (W.wire network.old))
         (out (book_in result.ledger.zone result.ledger.default
-        (state S.Store result.ledger.connection).now) (W.wire network.new)) }
+        (state S.Store result.ledger.connection).now) (W.wire network.new)) result.outcome }
+
+    // What the next one has forgotten was due meanwhile, at a moment that was shown.
+    ensures due { HasKept (state S.Store result.ledger.connection)
+        → IsSound serving.entry.zone serving.entry.default (state S.Store serving.entry.connection)
+        → IfOk result.outcome (λ dawn. IfSome dawn (λ d. WasDue R.shows nights.now.keep d.note.day
+        (book_in serving.entry.zone serving.entry.default
+        (state S.Store serving.entry.connection).now)
+        (book_in result.ledger.zone result.ledger.default
+        (state S.Store result.ledger.connection).now))) }
 
     // The next one has exactly what is remembered of it.
     ensures next_lent { HasKept (state S.Store result.ledger.connection)
@@ -266,7 +314,7 @@ where
         → IsSound serving.entry.zone serving.entry.default (state S.Store serving.entry.connection)
         → IfOk result.outcome (λ dawn. IfSome dawn (λ d. P.is_fresh
         → HasKept (state N.Store d.serving.connection)
-        → IsRemembered serving.entry.zone serving.entry.default d.day
+        → IsRemembered serving.entry.zone serving.entry.default d.note.day
         (state S.Store result.ledger.connection).now
         (state N.Store d.serving.connection))) }
 {
@@ -304,19 +352,18 @@ fn stay_with<'a, R: Clock, G: Log, N: Alter + Drop>(
     dawn: Dawn<'a, N, R, G>,
     former: SqlLedger<N>,
 ) -> Dawn<'a, N, R, G>
-    ensures { result.serving ≡ former }
+    ensures serving { result.serving ≡ former }
+    ensures seen { result.seen ≡ dawn.entry.seen }
 {
     let Dawn {
         serving,
-        day,
-        began,
+        note,
         seen,
     } = dawn;
     let (_renewed, serving) = serving.take_over(former);
     Dawn {
         serving,
-        day,
-        began,
+        note,
         seen,
     }
 }
@@ -332,7 +379,7 @@ fn serve_to_dawn<'a, R, G: Log, W: Port, N: Alter + Drop, F>(
     left: &mut Connections,
 ) -> Result<Dawn<'a, N, R, G>, EndedServing<N>>
 where
-    R: Clock + AllocGlobal,
+    R: Clock + Moments + AllocGlobal,
     F: Parts<N> + Switch<Connection<N>> + Copy + Drop,
     ensures closed { AreKept (λ c. HasKept (state N.Store c)) (F.closed files.new)
         → AreKept (λ c. HasKept (state N.Store c)) (F.closed files.old) }
@@ -344,17 +391,19 @@ where
         → IsSound serving.entry.zone serving.entry.default (state N.Store serving.entry.connection)
         → IfOk result (λ d. HasKept (state N.Store d.serving.connection)
         → (d.serving.zone ≡ serving.entry.zone) × (d.serving.default ≡ serving.entry.default)
-        × HasDawned (callers nights.now.permits W.peers) serving.entry.zone serving.entry.default
+        × HasDawned (callers nights.now.permits W.peers) R.shows nights.now.keep
+        serving.entry.zone serving.entry.default
         (out (book_in serving.entry.zone serving.entry.default
         (state N.Store serving.entry.connection).now) (W.wire network.old))
         (state N.Store d.serving.connection) (W.wire network.new)) }
     ensures end { AreKept (λ c. HasKept (state N.Store c)) (F.closed files.new) → F.is_fresh
         → IsSound serving.entry.zone serving.entry.default (state N.Store serving.entry.connection)
         → IfErr result (λ s. HasKept (state N.Store s.ledger.connection)
-        → HasPassed (callers nights.now.permits W.peers) serving.entry.zone serving.entry.default
+        → HasPassed (callers nights.now.permits W.peers) R.shows nights.now.keep
+        serving.entry.zone serving.entry.default
         (out (book_in serving.entry.zone serving.entry.default
         (state N.Store serving.entry.connection).now) (W.wire network.old))
-        (state N.Store s.ledger.connection) (W.wire network.new)) }
+        (state N.Store s.ledger.connection) (W.wire network.new) s.outcome) }
 {
     nothing_is_served();
     let PassedNight { ledger, outcome } = pass(nights, network, seen, *files, serving, left);
@@ -366,7 +415,7 @@ where
                 return Ok(dawn);
             }
             let zone = *ledger.zone();
-            match files.take_place(ledger.into_connection(), zone, dawn.day, dawn.began) {
+            match files.take_place(ledger.into_connection(), zone, dawn.note) {
                 Ok(()) => Ok(dawn),
                 Err(fault) => Err(EndedServing {
                     ledger: dawn.serving.into_inner(),
@@ -394,27 +443,29 @@ fn pass_nights<R, G: Log, W: Port, N: Alter + Drop, F>(
     days: Option<LedgerDays>,
 ) -> EndedServing<N>
 where
-    R: Clock + AllocGlobal,
+    R: Clock + Moments + AllocGlobal,
     F: Parts<N> + Switch<Connection<N>> + Copy + Drop,
     ensures kept { AreKept (λ c. HasKept (state N.Store c)) (F.closed files.new)
         → HasKept (state N.Store result.ledger.connection)
         → HasKept (state N.Store ledger.connection) }
 
     // Where each ledger that was closed had kept its premise, and so has the last one: night after
-    // night connections were served over these wires, and what isn't remembered was forgotten, or
-    // nothing was, and nothing else came to what the ledger means.
+    // night connections were served over these wires, and what isn't remembered was forgotten, once
+    // it was due, or nothing was, and nothing else came to what the ledger means.
     ensures nights { AreKept (λ c. HasKept (state N.Store c)) (F.closed files.new) → F.is_fresh
         → IsSound ledger.zone ledger.default (state N.Store ledger.connection)
         → HasKept (state N.Store result.ledger.connection)
-        → HasPassed (callers nights.now.permits W.peers) ledger.zone ledger.default
+        → HasPassed (callers nights.now.permits W.peers) R.shows nights.now.keep
+        ledger.zone ledger.default
         (out (book_in ledger.zone ledger.default (state N.Store ledger.connection).now)
         (W.wire network.old))
-        (state N.Store result.ledger.connection) (W.wire network.new) }
+        (state N.Store result.ledger.connection) (W.wire network.new) result.outcome }
 {
     nothing_is_served();
     let rt = nights.rt;
     let mut left = nights.connections;
     let mut serving = WatchedLedger::new(rt, nights.log, rt.alloc(), ledger, days);
+    serving = counted(serving, nights.figures);
     let mut seen = Seen::nothing();
     // (there are fewer nights than that)
     for _night in 0..u64::MAX {
@@ -476,7 +527,7 @@ fn log_start<R, G: Log, S: Alter>(
     ensures same { HasKept (state S.Store ledger.new.connection)
         → (state S.Store ledger.new.connection).now ≡ (state S.Store ledger.old.connection).now }
 {
-    log_ledger(nights.log, nights.settings, ledger, took)?;
+    log_ledger(nights.log, nights.figures, nights.settings, ledger, took)?;
     log_keep(nights.log, nights.path, ledger, nights.keep)
 }
 
@@ -491,6 +542,7 @@ fn prepare<R, G: Log, W: Port, S: Alter>(
 where
     R: Files + AllocGlobal,
     ensures wires { W.wire network.new ≡ W.wire network.old }
+    ensures fault { IfErr result (λ fault. fault ≢ ProgramFault.Serve store_failed) }
     ensures lent { (ledger.new.zone ≡ ledger.old.zone) × (ledger.new.default ≡ ledger.old.default) }
     ensures kept { HasKept (state S.Store ledger.new.connection)
         → HasKept (state S.Store ledger.old.connection) }
@@ -526,23 +578,22 @@ fn begin_nights<R, G: Log, W: Port, N: Alter + Drop, F>(
     took: Elapsed,
 ) -> EndedServing<N>
 where
-    R: Files + Clock + AllocGlobal,
+    R: Files + Clock + Moments + AllocGlobal,
     F: Parts<N> + Switch<Connection<N>> + Copy + Drop,
     ensures { AreKept (λ c. HasKept (state N.Store c)) (F.closed files.new) → F.is_fresh
         → IsSound ledger.zone ledger.default (state N.Store ledger.connection)
         → HasKept (state N.Store result.ledger.connection)
-        → HasPassed (callers nights.now.permits W.peers) ledger.zone ledger.default
+        → HasPassed (callers nights.now.permits W.peers) R.shows nights.now.keep
+        ledger.zone ledger.default
         (out (book_in ledger.zone ledger.default (state N.Store ledger.connection).now)
         (W.wire network.old))
-        (state N.Store result.ledger.connection) (W.wire network.new) }
+        (state N.Store result.ledger.connection) (W.wire network.new) result.outcome }
 {
     nothing_is_served();
     let mut ledger = ledger;
     match prepare(nights, network, &mut ledger, took) {
         Ok(days) => {
-            let address = nights.settings.listen;
-            let crowd = Crowd(nights.connections);
-            info!(nights.log; "listening on {address} for {crowd}");
+            log_begin(nights.log, nights.settings.listen, nights.connections);
             pass_nights(nights, network, files, ledger, days)
         }
         Err(fault) => EndedServing {
@@ -552,11 +603,28 @@ where
     }
 }
 
+/// How serving a ledger in a file ended, and each that a renewal made of it. It goes over any files
+/// of nights, and says no more: a proof over these, and what [`begin_nights`] says, takes far longer.
+fn serve_nights<R, G: Log, W: Port, F>(
+    nights: &Nights<'_, R, G>,
+    network: &mut W,
+    files: &mut F,
+    ledger: SqlLedger<PartStore>,
+    took: Elapsed,
+) -> Result<u8, ProgramFault>
+where
+    R: Files + Clock + AllocGlobal,
+    F: Parts<PartStore> + Switch<Connection<PartStore>> + Copy + Drop,
+{
+    outcome_of(begin_nights(nights, network, files, ledger, took))
+}
+
 /// Serves so many connections over the ledger in the file of the settings, with `create` over a new
 /// one. Meanwhile days leave it, but today and so many before. The permits say who may ask what.
 pub fn listen_by_night<R, G: Log, W: Port>(
     rt: &R,
     log: &G,
+    metrics: &MetricsWriter<'_, R, G>,
     network: &mut W,
     settings: &ServerSettings,
     permits: Option<&Permits>,
@@ -573,6 +641,7 @@ where
     let nights = Nights {
         rt,
         log,
+        figures: metrics.counted(),
         settings,
         permits,
         keep,
@@ -583,10 +652,11 @@ where
         rt,
         log,
         names,
-        caretaker: Caretaker::new(rt, log, names, true),
+        metrics,
+        caretaker: Caretaker::new(rt, log, names, metrics, true),
     };
     // (the files of nights have one type, and of one that a renewal makes nothing is known before)
     let ledger = ledger_of_settings(rt, log, settings, create, Unknown)?;
     let took = Elapsed(elapsed(rt, since));
-    outcome_of(begin_nights(&nights, network, &mut files, ledger, took))
+    serve_nights(&nights, network, &mut files, ledger, took)
 }

@@ -19,25 +19,27 @@ ghost use Rattle.mq_program.specs.declared.fault.ProgramFault.TheVariants.{Serve
 ghost use Rattle.mq_process.specs.Settings.{AreInRange};
 
 use crate::caretaker::Caretaker;
+use crate::elapsed_time::Elapsed;
 use crate::fault::ProgramFault;
 use crate::host::Databases;
 use crate::memory::warn_of_memory;
+use crate::metrics::{MetricsChore, MetricsWriter, figures_of};
 use crate::nights::listen_by_night;
 use crate::permits::permits_of_settings;
 use crate::refusal::days_by;
 use crate::room::prepare_room;
 use crate::store::{ledger_of_settings, log_cause, memory_ledger};
 use crate::switching::Names;
-use log::sink::Console;
 use log::{Log, Logged, error, info, warn};
-use mq_chore::{Chore, NoChore};
+use mq_chore::Chore;
 use mq_connections::laws::nothing_is_served;
 use mq_connections::{Connections, Port, Sockets, Times, serve_connections};
 use mq_forget::laws::late_requests_touch_no_later_day;
 use mq_ledger::laws::{built_is_legal, one_more_arrival};
 use mq_ledger::{Ledger, LedgerFault};
+use mq_metrics::{CountedLog, ServerMetrics};
 use mq_permits::Permits;
-use mq_process::{ConnectionsArgument, ServerArguments, elapsed, server_settings};
+use mq_process::{ConnectionsArgument, Console, ServerArguments, elapsed, server_settings};
 use mq_rows::VERSION;
 use mq_settings::{Place, ServerSettings};
 use mq_store::SqlLedger;
@@ -45,13 +47,20 @@ use mq_watch::{Hear, InnerChore, LedgerDays, WatchedLedger};
 use sqlite::{Alter, FileFrom, FileStore, MemStore, Start};
 use std::alloc::Global;
 use std::fmt;
+use std::fs::File;
 use std::net::{Net, SocketAddr, TcpListener, TcpStream};
-use std::rt::Clock;
+use std::rt::{Clock, Files};
 use std::time::{Duration, Instant};
 
 /// Serves so many connections: the settings first, then the ledger, then the port. `start` stands
 /// for what the ledger's file and its log hold before the call.
-pub fn server<R, S: Start>(rt: &R, given: ServerArguments<'_>, start: S) -> Result<u8, ProgramFault>
+/// `version` is the program's.
+pub fn server<R, S: Start>(
+    rt: &R,
+    given: ServerArguments<'_>,
+    version: &str,
+    start: S,
+) -> Result<u8, ProgramFault>
 where
     R: Databases + Clock + Eprint + Net<Listener = TcpListener, Stream = TcpStream>,
 {
@@ -59,6 +68,7 @@ where
     serve(
         rt,
         &settings,
+        version,
         given.create,
         connections_of(given.connections),
         start,
@@ -77,7 +87,7 @@ fn connections_of(asked: ConnectionsArgument) -> Connections
 
 /// How many connections are served, as the log says it.
 #[derive(Clone, Copy)]
-pub struct Crowd(pub Connections);
+struct Crowd(Connections);
 
 impl fmt::Display for Crowd {
     fn fmt<W: fmt::Write>(&self, f: &mut fmt::Formatter<W>) -> fmt::Result {
@@ -88,10 +98,23 @@ impl fmt::Display for Crowd {
     }
 }
 
+/// Logs where a server listens, and how many connections it serves.
+pub fn log_begin<G: Log>(log: &G, address: SocketAddr, connections: Connections) {
+    let crowd = Crowd(connections);
+    info!(log; "listening on {address} for {crowd}");
+}
+
+/// Logs that a server has served so many connections.
+pub fn log_end<G: Log>(log: &G, connections: Connections) {
+    let crowd = Crowd(connections);
+    info!(log; "ending after {crowd}");
+}
+
 /// Serves so many connections by these settings.
-fn serve<R, S: Start>(
-    rt: &R,
-    settings: &ServerSettings,
+fn serve<'a, R, S: Start>(
+    rt: &'a R,
+    settings: &'a ServerSettings,
+    version: &str,
     create: bool,
     connections: Connections,
     start: S,
@@ -101,24 +124,34 @@ where
     requires { AreInRange settings.now }
 {
     let logged = Logged::new(rt, settings.log, Console(rt));
-    let permits = permits_of_settings(rt, &logged, settings)?;
-    let mut sockets = Sockets::new(rt, &logged, rt.alloc());
-    serve_permitted(
+    let figures = figures_of(rt, settings, version)?;
+    let log = CountedLog::new(&logged, &figures.warnings);
+    let metrics = MetricsWriter::new(rt, &log, &figures, settings)?;
+    let permits = permits_of_settings(rt, &log, settings)?;
+    let mut sockets = Sockets::new(rt, &log, rt.alloc());
+    if let Some(figures) = metrics.counted() {
+        sockets.count_in(figures);
+    }
+    let ended = serve_permitted(
         rt,
-        &logged,
+        &log,
+        &metrics,
         &mut sockets,
         settings,
         permits.as_ref(),
         create,
         connections,
         start,
-    )
+    );
+    metrics.write();
+    ended
 }
 
 /// Serves so many connections of a network by these settings, to whom these permits allow it.
 fn serve_permitted<R, G: Log, W: Port, S: Start>(
     rt: &R,
     log: &G,
+    metrics: &MetricsWriter<'_, R, G>,
     network: &mut W,
     settings: &ServerSettings,
     permits: Option<&Permits>,
@@ -135,7 +168,7 @@ where
             if settings.keep.is_some() {
                 warn!(log; "a ledger in memory forgets nothing, whatever `keep` says");
             }
-            outcome_of(listen_in_memory(rt, log, network, settings, permits, connections)?)
+            outcome_of(listen_in_memory(rt, log, metrics, network, settings, permits, connections)?)
         }
         Place::File(path) => {
             warn_of_memory(rt, log, path.as_str());
@@ -145,6 +178,7 @@ where
                 return listen_by_night(
                     rt,
                     log,
+                    metrics,
                     network,
                     settings,
                     permits,
@@ -157,6 +191,7 @@ where
             let served = listen_over_file(
                 rt,
                 log,
+                metrics,
                 network,
                 settings,
                 permits,
@@ -190,13 +225,14 @@ pub fn outcome_of<S: Alter + Drop>(served: EndedServing<S>) -> Result<u8, Progra
 fn listen_in_memory<R, G: Log, W: Port>(
     rt: &R,
     log: &G,
+    metrics: &MetricsWriter<'_, R, G>,
     network: &mut W,
     settings: &ServerSettings,
     permits: Option<&Permits>,
     connections: Connections,
 ) -> Result<EndedServing<MemStore>, ProgramFault>
 where
-    R: Clock + AllocGlobal,
+    R: Files<File = File> + Clock + AllocGlobal,
     requires { AreInRange settings.now }
 
     // It begins with no history, and gains what is served over these wires, and which these peers
@@ -213,12 +249,13 @@ where
     Ok(listen_over(
         rt,
         log,
+        metrics.counted(),
         network,
         settings,
         permits,
         ledger,
         took,
-        NoChore,
+        MetricsChore { metrics },
         connections,
     ))
 }
@@ -228,6 +265,7 @@ where
 fn listen_over_file<R, G: Log, W: Port, S: Start>(
     rt: &R,
     log: &G,
+    metrics: &MetricsWriter<'_, R, G>,
     network: &mut W,
     settings: &ServerSettings,
     permits: Option<&Permits>,
@@ -272,10 +310,55 @@ where
     let since = Instant::now(rt).ok();
     let ledger = ledger_of_settings(rt, log, settings, create, start)?;
     let took = Elapsed(elapsed(rt, since));
-    let caretaker = Caretaker::new(rt, log, names, false);
-    Ok(listen_over(
+    Ok(listen_and_tend(
         rt,
         log,
+        metrics,
+        network,
+        settings,
+        permits,
+        names,
+        ledger,
+        took,
+        connections,
+    ))
+}
+
+/// Serves so many connections over a ledger, and looks after its files meanwhile. It goes over any
+/// store, since a proof over the file's own takes far longer.
+fn listen_and_tend<R, G: Log, W: Port, S: Alter + Drop>(
+    rt: &R,
+    log: &G,
+    metrics: &MetricsWriter<'_, R, G>,
+    network: &mut W,
+    settings: &ServerSettings,
+    permits: Option<&Permits>,
+    names: &Names,
+    ledger: SqlLedger<S>,
+    took: Elapsed,
+    connections: Connections,
+) -> EndedServing<S>
+where
+    R: Files<File = File> + Clock + AllocGlobal,
+    ensures same { (result.ledger.zone ≡ ledger.zone) × (result.ledger.default ≡ ledger.default) }
+    ensures kept { HasKept (state S.Store result.ledger.connection)
+        → HasKept (state S.Store ledger.connection) }
+    ensures sound { HasKept (state S.Store result.ledger.connection)
+        → IsSound ledger.zone ledger.default (state S.Store ledger.connection)
+        → IsSound ledger.zone ledger.default (state S.Store result.ledger.connection) }
+    ensures serves { HasKept (state S.Store result.ledger.connection)
+        → IsSound ledger.zone ledger.default (state S.Store ledger.connection)
+        → Serves (callers permits.entry W.peers)
+        (out (book_in ledger.zone ledger.default (state S.Store ledger.connection).now)
+        (W.wire network.old))
+        (out (book_in ledger.zone ledger.default (state S.Store result.ledger.connection).now)
+        (W.wire network.new)) result.outcome }
+{
+    let caretaker = Caretaker::new(rt, log, names, metrics, false);
+    listen_over(
+        rt,
+        log,
+        metrics.counted(),
         network,
         settings,
         permits,
@@ -283,7 +366,7 @@ where
         took,
         caretaker,
         connections,
-    ))
+    )
 }
 
 /// Serves so many connections over a ledger, with this chore between the requests. It goes over any
@@ -291,6 +374,7 @@ where
 fn listen_over<R, G: Log, W: Port, S: Alter + Drop, K: Chore<SqlLedger<S>> + Drop>(
     rt: &R,
     log: &G,
+    figures: Option<&ServerMetrics>,
     network: &mut W,
     settings: &ServerSettings,
     permits: Option<&Permits>,
@@ -317,10 +401,11 @@ where
 {
     nothing_is_served();
     let mut ledger = ledger;
-    match days_at_start(log, settings, &mut ledger, took) {
+    match days_at_start(log, figures, settings, &mut ledger, took) {
         Ok(days) => begin(
             rt,
             log,
+            figures,
             network,
             settings,
             permits,
@@ -343,6 +428,7 @@ where
 /// reserved.
 fn days_at_start<G: Log, S: Alter>(
     log: &G,
+    figures: Option<&ServerMetrics>,
     settings: &ServerSettings,
     ledger: &mut SqlLedger<S>,
     took: Elapsed,
@@ -356,7 +442,7 @@ fn days_at_start<G: Log, S: Alter>(
     ensures same { HasKept (state S.Store ledger.new.connection)
         → (state S.Store ledger.new.connection).now ≡ (state S.Store ledger.old.connection).now }
 {
-    log_ledger(log, settings, ledger, took)?;
+    log_ledger(log, figures, settings, ledger, took)?;
     days_of(ledger)
 }
 
@@ -386,6 +472,7 @@ pub fn days_of<S: Alter>(ledger: &mut SqlLedger<S>) -> Result<Option<LedgerDays>
 fn begin<R, G: Log, W: Port, S: Alter + Drop, K: Chore<SqlLedger<S>> + Drop>(
     rt: &R,
     log: &G,
+    figures: Option<&ServerMetrics>,
     network: &mut W,
     settings: &ServerSettings,
     permits: Option<&Permits>,
@@ -412,6 +499,7 @@ where
 {
     let mut watched = WatchedLedger::new(rt, log, rt.alloc(), ledger, days);
     let mut chore = InnerChore { chore };
+    watched = counted(watched, figures);
     let outcome = listen(
         rt,
         log,
@@ -428,16 +516,16 @@ where
     EndedServing { ledger, outcome }
 }
 
-/// How long something took, where the clock could be read.
-#[derive(Clone, Copy)]
-pub struct Elapsed(pub Option<Duration>);
-
-impl fmt::Display for Elapsed {
-    fn fmt<W: fmt::Write>(&self, f: &mut fmt::Formatter<W>) -> fmt::Result {
-        match self.0 {
-            Some(time) => write!(f, "{} ms", time.as_millis()),
-            None => f.write_str("an unknown time"),
-        }
+/// The same ledger, which counts what comes to it where figures are wanted.
+pub fn counted<'a, R: Clock, G: Log, S: Alter>(
+    watched: WatchedLedger<'a, SqlLedger<S>, R, G>,
+    figures: Option<&'a ServerMetrics>,
+) -> WatchedLedger<'a, SqlLedger<S>, R, G>
+    ensures { result ≡ watched.entry }
+{
+    match figures {
+        Some(figures) => watched.with_metrics(figures),
+        None => watched,
     }
 }
 
@@ -452,6 +540,7 @@ fn place_name(place: &Place) -> &str {
 /// Logs what a ledger holds as a server begins with it, and how long it took to open it.
 pub fn log_ledger<G: Log, S: Alter>(
     log: &G,
+    figures: Option<&ServerMetrics>,
     settings: &ServerSettings,
     ledger: &mut SqlLedger<S>,
     took: Elapsed,
@@ -466,6 +555,9 @@ pub fn log_ledger<G: Log, S: Alter>(
         → (state S.Store ledger.new.connection).now ≡ (state S.Store ledger.old.connection).now }
 {
     let answers = ledger.count_answers()?;
+    if let Some(figures) = figures {
+        figures.answers.set(answers);
+    }
     let limits = ledger.limits()?.len();
     let days = ledger.found().days;
     let name = place_name(&settings.store);
@@ -538,14 +630,13 @@ pub fn listen<R: Clock, G: Log, W: Port, L: Ledger + Hear, K: Chore<L>>(
     if let Err(fault) = bind(log, network, address) {
         return Err(fault);
     }
-    let crowd = Crowd(connections);
-    info!(log; "listening on {address} for {crowd}");
+    log_begin(log, address, connections);
     let times = times_of(settings);
     let mut left = connections;
     // (it is `ServingEnd::Over`: the chore is never done)
     let _ended = serve_connections(
         rt, log, alloc, network, times, permits, ledger, chore, &mut left,
     )?;
-    info!(log; "ending after {crowd}");
+    log_end(log, connections);
     Ok(0)
 }

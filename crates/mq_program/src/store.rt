@@ -191,7 +191,9 @@ pub fn close_file<G: Log, S: Start>(
     log: &G,
     path: &str,
     connection: Connection<FileStore<FileFrom<S>>>,
-) -> Result<(), ProgramFault> {
+) -> Result<(), ProgramFault>
+    ensures { IfErr result (λ fault. fault ≡ ProgramFault.Store) }
+{
     match connection.close() {
         Ok(()) => Ok(()),
         Err(cause) => Err(unopened(log, path, cause)),

@@ -384,7 +384,9 @@ pub fn switch<R: Files + AllocGlobal, G: Log, S: Start>(
     log: &G,
     names: &Names,
     old: Connection<FileStore<FileFrom<S>>>,
-) -> Result<(), ProgramFault> {
+) -> Result<(), ProgramFault>
+    ensures { IfErr result (λ fault. fault ≡ ProgramFault.Store) }
+{
     let former = names.old.as_str();
     let synced = sync_folder(rt, former);
     // (closed in any case: the proof of a way out that lets a file's connection go takes long)

@@ -6,12 +6,16 @@
 //!
 //!     Arguments::Limit(given) => end_process(limit(rt, dial, given, errors), errors),
 //!
-//! It stands on `mq_request`, `mq_dates`, `mq_stream`, `mq_link`, `mq_client`, `mq_settings`,
-//! `mq_command` and `mq_process`, and knows no store, so that it is proved while the tables of the
-//! ledger are. Begin with `subcommands/filter.rt`, where the filter is put together.
+//! It stands on `mq_request`, `mq_dates`, `mq_stream`, `mq_frame`, `mq_link`, `mq_client`,
+//! `mq_metrics`, `mq_settings`, `mq_command` and `mq_process`, and knows no store, so that it is
+//! proved while the tables of the ledger are. Begin with `subcommands/filter.rt`, where the filter is put together.
 #![tactic(auto)]
 
 mod fault;
+mod measured_link;
+mod measured_log;
+mod metrics_file;
+mod seconds;
 mod subcommands;
 
 pub use fault::{FilterEnd, end_filter};

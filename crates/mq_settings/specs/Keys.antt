@@ -6,7 +6,7 @@ use Rattle.std.specs.Cmp.Lexicographic.{slice_cmp}
 use Rattle.toml.specs.Data.{Members, get_member}
 use Rattle.mq_settings.specs.declared.settings.key.Key.{Key}
 use Rattle.mq_settings.specs.declared.settings.key.Key.TheVariants.{Host, Server, Tries, Listen, Store, Default, Offset, Rule}
-use Rattle.mq_settings.specs.declared.settings.key.Key.TheVariants.{Keep, Timeout, Pause, Hold, KeepConnection, Idle, Log, Permits}
+use Rattle.mq_settings.specs.declared.settings.key.Key.TheVariants.{Keep, Timeout, Pause, Hold, KeepConnection, Idle, Log, Permits, Metrics}
 
 -- a key as it is written
 abbrev pub key_name : Key → List ℕ
@@ -26,14 +26,16 @@ key_name KeepConnection = codes "keep_connection"
 key_name Idle = codes "idle"
 key_name Log = codes "log"
 key_name Permits = codes "permits"
+key_name Metrics = codes "metrics"
 
 -- the keys of the filter's settings, in the order in which they are checked
 abbrev pub filter_keys : List Key
-filter_keys = Host ∷ Server ∷ Tries ∷ Timeout ∷ Pause ∷ Hold ∷ KeepConnection ∷ Log ∷ []
+filter_keys = Host ∷ Server ∷ Tries ∷ Timeout ∷ Pause ∷ Hold ∷ KeepConnection ∷ Log ∷ Metrics ∷ []
 
 -- the keys of the server's settings, in the order in which they are checked
 abbrev pub server_keys : List Key
-server_keys = Listen ∷ Store ∷ Default ∷ Offset ∷ Rule ∷ Keep ∷ Timeout ∷ Idle ∷ Log ∷ Permits ∷ []
+server_keys =
+    Listen ∷ Store ∷ Default ∷ Offset ∷ Rule ∷ Keep ∷ Timeout ∷ Idle ∷ Log ∷ Permits ∷ Metrics ∷ []
 
 -- whether a name is one of these keys
 abbrev pub is_known : List Key → List ℕ → Bool

@@ -17,7 +17,7 @@ use Rattle.mq_ledger.specs.Day.{ByOffset, ByRule, IsRule}
 use Rattle.mq_settings.specs.Keys.{key_name, filter_keys, server_keys, IsLeastUnknown, HasOnly}
 use Rattle.mq_settings.specs.declared.settings.key.Key.{Key}
 use Rattle.mq_settings.specs.declared.settings.key.Key.TheVariants.{Host, Server, Tries, Listen, Store, Default, Offset, Rule}
-use Rattle.mq_settings.specs.declared.settings.key.Key.TheVariants.{Keep, Timeout, Pause, Hold, KeepConnection, Idle, Log, Permits}
+use Rattle.mq_settings.specs.declared.settings.key.Key.TheVariants.{Keep, Timeout, Pause, Hold, KeepConnection, Idle, Log, Permits, Metrics}
 use Rattle.mq_settings.specs.declared.settings.value.Place.{Place}
 use Rattle.mq_settings.specs.declared.settings.value.Place.TheVariants as place
 use Rattle.mq_settings.specs.declared.settings.FilterSettings.{FilterSettings}
@@ -200,18 +200,19 @@ abbrev pub IsPlaceAt : Members → Result Place SettingsFault → Type 0
 IsPlaceAt table r = TextAs Store NamesPlace (get_member (key_name Store) table) r
 
 -- a text that isn't empty is a path
-abbrev pub NamesPath : List ℕ → Result (Option (String Global)) SettingsFault → Type 0
-NamesPath [] r = r ≡ Err (Bad Permits)
-NamesPath (byte ∷ bytes) r = IsOkAnd r (λ found. IsSomeAnd found (λ path. string_bytes path ≡ byte ∷ bytes))
+abbrev pub NamesPath : Key → List ℕ → Result (Option (String Global)) SettingsFault → Type 0
+NamesPath key [] r = r ≡ Err (Bad key)
+NamesPath key (byte ∷ bytes) r = IsOkAnd r (λ found. IsSomeAnd found (λ path. string_bytes path ≡ byte ∷ bytes))
 
 -- the path that an entry names, which may not be there
-abbrev pub IsPathOf : Option Data → Result (Option (String Global)) SettingsFault → Type 0
-IsPathOf None r = r ≡ Ok None
-IsPathOf (Some entry) r = MatchOption (as_str entry) (r ≡ Err (Bad Permits)) (λ text. NamesPath text r)
+abbrev pub IsPathOf : Key → Option Data → Result (Option (String Global)) SettingsFault → Type 0
+IsPathOf key None r = r ≡ Ok None
+IsPathOf key (Some entry) r = MatchOption (as_str entry) (r ≡ Err (Bad key)) (λ text. NamesPath key text r)
 
--- the path of the file that lists who may ask what
-abbrev pub IsPermitsPathAt : Members → Result (Option (String Global)) SettingsFault → Type 0
-IsPermitsPathAt table r = IsPathOf (get_member (key_name Permits) table) r
+-- the path of a key in the table: `Permits` is the file that lists who may ask what, `Metrics` the one to which figures are
+-- written
+abbrev pub IsPathAt : Key → Members → Result (Option (String Global)) SettingsFault → Type 0
+IsPathAt key table r = IsPathOf key (get_member (key_name key) table) r
 
 -- ---- the settings of a file
 
@@ -231,6 +232,7 @@ pub record IsFilterSettings (table : Members) (settings : FilterSettings) : Type
   pub hold : hold_at table ≡ Ok settings.hold
   pub keep_connection : keep_connection_at table ≡ Ok settings.keep_connection
   pub log : level_at table ≡ Ok settings.log
+  pub metrics : IsPathAt Metrics table (Ok settings.metrics)
 
 -- the first of the filter's keys that gives no value
 abbrev pub IsFilterFault : Members → SettingsFault → Type 0
@@ -238,7 +240,7 @@ IsFilterFault table e =
     FailsOr (IsHostAt table) (FailsOr (IsAddressAt Server table)
     (FailsOr (λ r. tries_at table ≡ r) (FailsOr (λ r. timeout_at table ≡ r) (FailsOr (λ r. pause_at table ≡ r)
     (FailsOr (λ r. hold_at table ≡ r) (FailsOr (λ r. keep_connection_at table ≡ r)
-    (λ f. level_at table ≡ Err f))))))) e
+    (FailsOr (λ r. level_at table ≡ r) (λ f. IsPathAt Metrics table (Err f))))))))) e
 
 -- why the filter's settings are refused
 abbrev pub IsFilterRefusal : List ℕ → SettingsFault → Type 0
@@ -257,7 +259,8 @@ pub record IsServerSettings (table : Members) (settings : ServerSettings) : Type
   pub timeout : timeout_at table ≡ Ok settings.timeout
   pub idle : idle_at table ≡ Ok settings.idle
   pub log : level_at table ≡ Ok settings.log
-  pub permits : IsPermitsPathAt table (Ok settings.permits)
+  pub permits : IsPathAt Permits table (Ok settings.permits)
+  pub metrics : IsPathAt Metrics table (Ok settings.metrics)
 
 -- the first of the server's keys that gives no value
 abbrev pub IsServerFault : Members → SettingsFault → Type 0
@@ -265,7 +268,7 @@ IsServerFault table e =
     FailsOr (IsAddressAt Listen table) (FailsOr (IsPlaceAt table)
     (FailsOr (λ r. default_at table ≡ r) (FailsOr (IsZoneAt table) (FailsOr (λ r. keep_at table ≡ r)
     (FailsOr (λ r. timeout_at table ≡ r) (FailsOr (λ r. idle_at table ≡ r)
-    (FailsOr (λ r. level_at table ≡ r) (λ f. IsPermitsPathAt table (Err f))))))))) e
+    (FailsOr (λ r. level_at table ≡ r) (FailsOr (IsPathAt Permits table) (λ f. IsPathAt Metrics table (Err f)))))))))) e
 
 -- why the server's settings are refused
 abbrev pub IsServerRefusal : List ℕ → SettingsFault → Type 0

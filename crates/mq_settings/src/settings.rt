@@ -42,6 +42,8 @@ pub struct FilterSettings {
     pub keep_connection: bool,
     /// Which lines are logged: those of this level and the levels before it.
     pub log: LevelFilter,
+    /// The path of the file to which its figures are written: none, if nothing is said.
+    pub metrics: Option<String>,
 }
 
 /// What the server runs by.
@@ -66,9 +68,11 @@ pub struct ServerSettings {
     pub log: LevelFilter,
     /// The path of the file that lists who may ask what: everybody everything, if nothing is said.
     pub permits: Option<String>,
+    /// The path of the file to which its figures are written: none, if nothing is said.
+    pub metrics: Option<String>,
 }
 
-const FILTER_KEYS: [Key; 8] = [
+const FILTER_KEYS: [Key; 9] = [
     Key::Host,
     Key::Server,
     Key::Tries,
@@ -77,9 +81,10 @@ const FILTER_KEYS: [Key; 8] = [
     Key::Hold,
     Key::KeepConnection,
     Key::Log,
+    Key::Metrics,
 ];
 
-const SERVER_KEYS: [Key; 10] = [
+const SERVER_KEYS: [Key; 11] = [
     Key::Listen,
     Key::Store,
     Key::Default,
@@ -90,6 +95,7 @@ const SERVER_KEYS: [Key; 10] = [
     Key::Idle,
     Key::Log,
     Key::Permits,
+    Key::Metrics,
 ];
 
 /// Reads the filter's settings.
@@ -109,6 +115,7 @@ pub fn read_filter_settings(alloc: Global, text: &[u8]) -> Result<FilterSettings
     let hold = value::read_count(&table, Key::Hold, 0, 60, Some(0))?;
     let keep_connection = value::read_keep_connection(&table)?;
     let log = value::read_level(&table)?;
+    let metrics = value::read_path(alloc, &table, Key::Metrics)?;
     Ok(FilterSettings {
         host,
         server,
@@ -118,6 +125,7 @@ pub fn read_filter_settings(alloc: Global, text: &[u8]) -> Result<FilterSettings
         hold,
         keep_connection,
         log,
+        metrics,
     })
 }
 
@@ -138,7 +146,8 @@ pub fn read_server_settings(alloc: Global, text: &[u8]) -> Result<ServerSettings
     let timeout = value::read_count(&table, Key::Timeout, 1, 60_000, Some(2_000))?;
     let idle = value::read_count(&table, Key::Idle, 1, 3_600, Some(60))?;
     let log = value::read_level(&table)?;
-    let permits = value::read_permits_path(alloc, &table)?;
+    let permits = value::read_path(alloc, &table, Key::Permits)?;
+    let metrics = value::read_path(alloc, &table, Key::Metrics)?;
     Ok(ServerSettings {
         listen,
         store,
@@ -149,5 +158,6 @@ pub fn read_server_settings(alloc: Global, text: &[u8]) -> Result<ServerSettings
         idle,
         log,
         permits,
+        metrics,
     })
 }

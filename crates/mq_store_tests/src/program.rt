@@ -4,7 +4,7 @@
 //! The helpers have no clauses, so that a test stays cheap to prove.
 
 use mq_ledger::{LedgerFault, Zone};
-use mq_process::run_number;
+use mq_process::{OutputArgument, run_number};
 use mq_program::{ProgramFault, audit_ledger};
 use mq_store::SqlLedger;
 use std::alloc::{AllocError, Global};
@@ -92,7 +92,7 @@ fn audited_unflushed(alloc: Global) -> Result<String, Fail> {
     let mut output = Unflushed {
         taken: Vec::new(alloc),
     };
-    let said = match audit_ledger(alloc, &ledger, &mut output) {
+    let said = match audit_ledger(alloc, OutputArgument::Text, &ledger, &mut output) {
         Ok(()) => String::new(alloc),
         Err(fault) => fault.to_string(alloc)?,
     };

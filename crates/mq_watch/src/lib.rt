@@ -10,8 +10,8 @@
 //!     let mut watched = WatchedLedger::new(rt, log, rt.alloc(), ledger, days);
 //!     let mut chore = InnerChore { chore };
 //!
-//! It stands on `mq_request`, `mq_ledger`, `mq_chore` and `mq_permits`: it knows requests, replies
-//! and days, and of a connection its peer alone. [`InnerChore`] has a chore of the other ledger go
+//! It stands on `mq_request`, `mq_permits`, `mq_ledger`, `mq_chore` and `mq_metrics`: it knows
+//! requests, replies and days, and of a connection its peer alone. [`InnerChore`] has a chore of the other ledger go
 //! on. Begin with `watch.rt`, which requests are put to the ledger, and `specs/Seen.antt`, what is
 //! to be seen of each: `watch.rt` finds it, and `watched.rt` logs it.
 #![tactic(auto)]
@@ -22,7 +22,9 @@ mod askers;
 mod asking;
 mod calendar;
 mod clock;
+mod counting;
 mod hear;
+mod holdings;
 mod hourly;
 mod hours;
 mod inner_chore;

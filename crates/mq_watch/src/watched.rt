@@ -14,6 +14,7 @@ ghost use Rattle.mq_watch.specs.Unanswered.{answer_of};
 
 use crate::calendar::{Calendar, LedgerDays, ServerTime};
 use crate::clock::millis_of;
+use crate::counting::Counting;
 use crate::hear::Hear;
 use crate::notes::Notes;
 use crate::notice::{Notice, RequestNotices};
@@ -21,12 +22,14 @@ use crate::unanswered::Unanswered;
 use crate::watch::{NoticedRequest, Watch};
 use log::{Log, log};
 use mq_ledger::{Ledger, LedgerFault, Zone};
+use mq_metrics::ServerMetrics;
 use mq_permits::{Peer, Permits};
 use mq_request::{Reply, Request};
 use std::alloc::Global;
 use std::marker::Model;
 use std::net::{Ipv4Addr, SocketAddr};
 use std::rt::Clock;
+use std::time::Instant;
 
 /// A ledger that answers as another one does, and logs with the address of the peer that asked:
 /// each limit and each retire with its answer; once an hour and host, a reserve whose day isn't
@@ -49,6 +52,8 @@ pub struct WatchedLedger<'a, L, C, G> {
     clock: &'a C,
     calendar: Calendar,
     log: &'a G,
+    /// What counts what comes, where that is asked for.
+    counting: Option<Counting<'a>>,
 }
 
 impl<'a, L, C, G> Model for WatchedLedger<'a, L, C, G> {
@@ -83,6 +88,28 @@ impl<'a, L: Ledger, C: Clock, G: Log> WatchedLedger<'a, L, C, G> {
             clock,
             calendar,
             log,
+            counting: None,
+        }
+    }
+
+    /// The same, which counts from here on what comes, and how long the ledger takes.
+    pub fn with_metrics(self, metrics: &'a ServerMetrics) -> WatchedLedger<'a, L, C, G>
+        ensures { result ≡ self.entry }
+    {
+        let WatchedLedger {
+            watch,
+            clock,
+            calendar,
+            log,
+            counting: _,
+        } = self;
+        let counting = Some(Counting::new(*watch.peers.allocator(), metrics));
+        WatchedLedger {
+            watch,
+            clock,
+            calendar,
+            log,
+            counting,
         }
     }
 
@@ -103,6 +130,7 @@ impl<'a, L: Ledger, C: Clock, G: Log> WatchedLedger<'a, L, C, G> {
             clock: _,
             calendar: _,
             log: _,
+            counting: _,
         } = self;
         let Watch {
             ledger,
@@ -123,6 +151,7 @@ impl<'a, L: Ledger, C: Clock, G: Log> WatchedLedger<'a, L, C, G> {
             clock,
             calendar,
             log,
+            counting,
         } = self;
         let Watch {
             ledger: former,
@@ -141,6 +170,7 @@ impl<'a, L: Ledger, C: Clock, G: Log> WatchedLedger<'a, L, C, G> {
             clock,
             calendar,
             log,
+            counting,
         };
         (former, watched)
     }
@@ -179,7 +209,9 @@ impl<'a, L: Ledger, C: Clock, G: Log> WatchedLedger<'a, L, C, G> {
             OnErr result ((L.book self.new).history ≡ (L.book self.old).history) }
         ensures sound { L.has_kept self.new → L.is_sound self.old → L.is_sound self.new }
     {
+        let began = self.begin_count();
         let NoticedRequest { answer, seen } = self.watch.take(permits, peer, request, now);
+        self.count_answer(request, &answer, began);
         log_seen(self.log, &seen);
         answered(answer)
     }
@@ -216,7 +248,9 @@ impl<'a, L: Ledger, C: Clock, G: Log> WatchedLedger<'a, L, C, G> {
             OnErr result ((L.book self.new).history ≡ (L.book self.old).history) }
         ensures sound { L.has_kept self.new → L.is_sound self.old → L.is_sound self.new }
     {
+        let began = self.begin_count();
         self.watch.put_all(permits, peers, arrivals, replies, now)?;
+        self.count_time(began);
         self.see_each(arrivals, replies.as_slice(), ServerTime::millis_in(now));
         Ok(())
     }
@@ -253,8 +287,59 @@ impl<'a, L: Ledger, C: Clock, G: Log> WatchedLedger<'a, L, C, G> {
         let Some(reply) = reply else {
             return;
         };
+        self.count(request, Ok(reply));
         let seen = self.watch.look(request, Ok(None), Ok(reply), now);
         log_seen(self.log, &seen);
+    }
+
+    /// When the ledger is asked, where that is counted and the clock can be read.
+    fn begin_count(&self) -> Option<Instant> {
+        match &self.counting {
+            Some(_) => Instant::now(self.clock).ok(),
+            None => None,
+        }
+    }
+
+    /// Counts a request and its answer, and how long the ledger took, if it was asked.
+    fn count_answer(
+        &mut self,
+        request: &Request,
+        answer: &Result<Reply, Unanswered>,
+        began: Option<Instant>,
+    )
+        ensures { self.new ≡ self.old }
+    {
+        match answer {
+            Ok(reply) => {
+                self.count_time(began);
+                self.count(request, Ok(reply));
+            }
+            Err(cause) => {
+                if let Unanswered::Fault(_) = cause {
+                    self.count_time(began);
+                }
+                self.count(request, Err(*cause));
+            }
+        }
+    }
+
+    /// Counts a request and its answer.
+    fn count(&mut self, request: &Request, answer: Result<&Reply, Unanswered>)
+        ensures { self.new ≡ self.old }
+    {
+        if let Some(counting) = &mut self.counting {
+            counting.count(request, answer);
+        }
+    }
+
+    /// Counts how long the ledger took, which was asked at that moment.
+    fn count_time(&self, began: Option<Instant>) {
+        let (Some(counting), Some(began)) = (&self.counting, began) else {
+            return;
+        };
+        if let Ok(took) = began.elapsed(self.clock) {
+            counting.count_time(took);
+        }
     }
 }
 

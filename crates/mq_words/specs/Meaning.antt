@@ -26,6 +26,8 @@ use Rattle.mq_process.specs.declared.arguments.ResumeArguments.{ResumeArguments}
 use Rattle.mq_process.specs.declared.arguments.DayArguments.{DayArguments}
 use Rattle.mq_process.specs.declared.arguments.RetireArguments.{RetireArguments}
 use Rattle.mq_process.specs.declared.arguments.ReportArguments.{ReportArguments}
+use Rattle.mq_process.specs.declared.arguments.LimitsArguments.{LimitsArguments}
+use Rattle.mq_process.specs.declared.arguments.AuditArguments.{AuditArguments}
 use Rattle.mq_process.specs.declared.arguments.ForgetWords.{ForgetWords}
 use Rattle.mq_process.specs.declared.arguments.OutputArgument.{OutputArgument}
 use Rattle.mq_process.specs.declared.arguments.OutputArgument.TheVariants.{Text, Json}
@@ -173,6 +175,14 @@ pub record MeansReport (found : Found) (given : ReportArguments) : Type 0 where
   pub each : HasFlag found (codes "each") given.is_each
   pub output : HasOutput found given.output
 
+pub record MeansLimits (found : Found) (given : LimitsArguments) : Type 0 where
+  pub config : HasText found (codes "config") given.config.now
+  pub output : HasOutput found given.output
+
+pub record MeansAudit (found : Found) (given : AuditArguments) : Type 0 where
+  pub config : HasText found (codes "config") given.config.now
+  pub output : HasOutput found given.output
+
 pub record MeansForget (found : Found) (given : ForgetWords) : Type 0 where
   pub config : HasText found (codes "config") given.config.now
   pub before : (text : List ℕ) → first_value found (codes "before") ≡ Some text → WritesDay 376200 text given.before
@@ -210,7 +220,7 @@ Means name found (Resume given) = (name ≡ codes "resume") × MeansResume found
 Means name found (Day given) = (name ≡ codes "day") × MeansDay found given
 Means name found (Retire given) = (name ≡ codes "retire") × MeansRetire found given
 Means name found (Report given) = (name ≡ codes "report") × MeansReport found given
-Means name found (Limits given) = (name ≡ codes "limits") × HasText found (codes "config") given.config.now
-Means name found (Audit given) = (name ≡ codes "audit") × HasText found (codes "config") given.config.now
+Means name found (Limits given) = (name ≡ codes "limits") × MeansLimits found given
+Means name found (Audit given) = (name ≡ codes "audit") × MeansAudit found given
 Means name found (Forget given) = (name ≡ codes "forget") × MeansForget found given
 Means name found (Replay given) = (name ≡ codes "replay") × MeansReplay found given

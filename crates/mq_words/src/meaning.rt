@@ -10,7 +10,8 @@ ghost use Rattle.mq_process.specs.Arguments.{IsReportArguments, IsResumeArgument
 ghost use Rattle.mq_words.specs.Meaning.{HasCap, HasConnections, HasDay, HasDayAgo, HasDayWord};
 ghost use Rattle.mq_words.specs.Meaning.{HasLogin, HasLoginOrNone, HasOutput};
 ghost use Rattle.mq_words.specs.Meaning.{HasNumber, HasNumberOrNone, HasText, IsUnknown};
-ghost use Rattle.mq_words.specs.Meaning.{Means, MeansDay, MeansFilter, MeansForget, MeansLimit};
+ghost use Rattle.mq_words.specs.Meaning.{Means, MeansAudit, MeansDay, MeansFilter, MeansForget};
+ghost use Rattle.mq_words.specs.Meaning.{MeansLimit, MeansLimits};
 ghost use Rattle.mq_words.specs.Meaning.{MeansReplay, MeansReport, MeansResume};
 ghost use Rattle.mq_words.specs.Meaning.{MeansRetire, MeansServer, MeansStatus, MeansStop};
 ghost use Rattle.mq_words.specs.Meaning.{texts_of};
@@ -54,12 +55,8 @@ pub fn arguments_of<'a>(
         "day" => Arguments::Day(asked_day_of(alloc, found)?),
         "retire" => Arguments::Retire(retire_of(found)),
         "report" => Arguments::Report(report_of(alloc, found)?),
-        "limits" => Arguments::Limits(LimitsArguments {
-            config: text_of(found, "config"),
-        }),
-        "audit" => Arguments::Audit(AuditArguments {
-            config: text_of(found, "config"),
-        }),
+        "limits" => Arguments::Limits(limits_of(found)),
+        "audit" => Arguments::Audit(audit_of(found)),
         "forget" => Arguments::Forget(forget_of(alloc, found)?),
         "replay" => Arguments::Replay(replay_of(found)),
         _ => return Ok(None),
@@ -338,6 +335,24 @@ fn report_of<'a>(alloc: Global, found: &ArgMatches<'a>) -> Result<ReportArgument
         is_each: found.get_flag("each"),
         output: output_of(found),
     })
+}
+
+fn limits_of<'a>(found: &ArgMatches<'a>) -> LimitsArguments<'a>
+    ensures { MeansLimits (found_of found.now) result }
+{
+    LimitsArguments {
+        config: text_of(found, "config"),
+        output: output_of(found),
+    }
+}
+
+fn audit_of<'a>(found: &ArgMatches<'a>) -> AuditArguments<'a>
+    ensures { MeansAudit (found_of found.now) result }
+{
+    AuditArguments {
+        config: text_of(found, "config"),
+        output: output_of(found),
+    }
 }
 
 fn forget_of<'a>(alloc: Global, found: &ArgMatches<'a>) -> Result<ForgetWords<'a>, WordsFault>

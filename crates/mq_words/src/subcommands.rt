@@ -650,7 +650,7 @@ pub const SUBCOMMANDS: [Subcommand; 14] = [
         about: "Print the limits that are set in the ledger in a file",
         usage: None,
         words: &[],
-        options: &[CONFIG],
+        options: &[CONFIG, JSON],
         groups: &[],
     },
     Subcommand {
@@ -658,7 +658,7 @@ pub const SUBCOMMANDS: [Subcommand; 14] = [
         about: "Check the books of the ledger in a file",
         usage: None,
         words: &[],
-        options: &[CONFIG],
+        options: &[CONFIG, JSON],
         groups: &[],
     },
     Subcommand {

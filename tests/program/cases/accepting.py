@@ -32,7 +32,7 @@ def run(world, checks):
 
 def not_accepted(level, error):
     return (
-        f"[{level:5} mq_connections::accept] no connection accepted: {os.strerror(error)} (os error"
+        f"[{level:5} connections] no connection accepted: {os.strerror(error)} (os error"
         f" {error})"
     )
 

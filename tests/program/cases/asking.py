@@ -568,9 +568,14 @@ def headings(world, checks):
 
 def on_terminal(world, *words):
     """The status of the program, and what it writes on a terminal."""
+    return shown_of([world.program, *words])
+
+
+def shown_of(words):
+    """The status of what these words run, and what it writes on a terminal."""
     ours, theirs = pty.openpty()
     with subprocess.Popen(
-        [world.program, *words], stdin=subprocess.DEVNULL, stdout=theirs, stderr=subprocess.DEVNULL
+        words, stdin=subprocess.DEVNULL, stdout=theirs, stderr=subprocess.DEVNULL
     ) as process:
         os.close(theirs)
         shown = b""

@@ -93,7 +93,7 @@ def nights_until_the_next(world, checks):
 
         def stays(first):
             return (
-                f"[WARN  mq_nights::evening] days before {first} stay: no new store; next attempt"
+                f"[WARN  night] days before {first} stay: no new store; next attempt"
                 " in an hour"
             )
 
@@ -102,7 +102,7 @@ def nights_until_the_next(world, checks):
             return [
                 it.partition(" forgotten, in")[0]
                 for it in server.all_log_lines()
-                if "mq_nights" in it or "are forgotten" in it
+                if "days before" in it
             ]
 
         def waits_for(moment, count):
@@ -131,8 +131,8 @@ def nights_until_the_next(world, checks):
         asked(server, [wire.usage()] * 20)
         logs("within an hour, as a file can be made", True, wanted)
         wanted += [
-            f"[INFO  mq_nights::evening] forgetting the days before {day + 1 - KEEP}",
-            f"[INFO  mq_program::nights] ledger {path}: the days before {day + 1 - KEEP} are",
+            f"[INFO  night] forgetting the days before {day + 1 - KEEP}",
+            f"[INFO  night] ledger {path}: the days before {day + 1 - KEEP} are",
         ]
         logs("once it can be made", waits_for(DAY * (day + 1) + 18_180, 6), wanted)
         good = wait_until(lambda: asked(server, [wire.usage()]) and has_note(path))
@@ -198,7 +198,7 @@ def a_switch_and_its_repair(world, checks):
                 )
                 ended, lines = server.process.poll(), warned_of(server)
                 logged = (
-                    f"[WARN  mq_program::switching] {path}: {OF_SYSTEM}; the former ledger stays"
+                    f"[WARN  night] {path}: {OF_SYSTEM}; the former ledger stays"
                     " until the next night"
                 )
             files = names(path)
@@ -210,7 +210,7 @@ def a_switch_and_its_repair(world, checks):
             (ended, lines, files),
             (1 if told else None, [logged], left),
         )
-        line = f"[INFO  mq_program::switching] {path}: an interrupted switch to a new file is"
+        line = f"[INFO  night] {path}: an interrupted switch to a new file is"
         # (as a switch is undone, the former ledger gets its name back)
         repaired = ".old" if told == "undone" else of
         settings = {"default": DEFAULT, "keep": KEEP, "log": "info"}
@@ -237,15 +237,15 @@ def a_switch_and_its_repair(world, checks):
         wanted = [f"{line} {told}"] if told else []
         if is_due:
             wanted += [
-                f"[INFO  mq_nights::evening] forgetting the days before {day}",
+                f"[INFO  night] forgetting the days before {day}",
                 (
-                    f"[INFO  mq_program::nights] ledger {path}: the days before {day} are"
+                    f"[INFO  night] ledger {path}: the days before {day} are"
                     " forgotten, in N ms, the last N ms without an answer"
                 ),
             ]
         else:
             wanted.append(
-                f"[INFO  mq_program::nights] ledger {path}: has days from {day} on, keeps {KEEP}"
+                f"[INFO  night] ledger {path}: has days from {day} on, keeps {KEEP}"
                 " before today"
             )
         checks.equal(
@@ -268,7 +268,7 @@ def a_forget_again(world, checks):
     into = f"{world.folder}/forget-again.new"
     # (an open that finds a log writes it into the file, so there is none then)
     checks.equal(f"{what}: audit before", audit(world, path), sound(books))
-    remove = f"[ERROR mq_program::forgetting] remove {into} and {into}-wal\n"
+    remove = f"[ERROR ledger] remove {into} and {into}-wal\n"
     came = forget(world, path, 2, into, limit=("RLIMIT_FSIZE", 40_000))
     checks.equal(
         f"{what}: the status, what is printed, and whether it says what to remove",

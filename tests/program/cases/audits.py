@@ -29,6 +29,7 @@ def run(world, checks):
     right_books(world, checks)
     nothing_is_changed(world, checks)
     wrong_books(world, checks)
+    wrong_books_as_json(world, checks)
     logins_of_any_bytes(world, checks)
     the_least_that_is_wrong(world, checks)
     refused(world, checks)
@@ -36,8 +37,10 @@ def run(world, checks):
     beside_a_server(world, checks)
 
 
-def audit(world, path, output=None, **more):
-    return world.run("audit", "--config", ledger_settings(world, path, **more), output=output)
+def audit(world, path, *words, output=None, **more):
+    return world.run(
+        "audit", "--config", ledger_settings(world, path, **more), *words, output=output
+    )
 
 
 def left_by_a_server(world, name, frames, end=None):
@@ -85,6 +88,11 @@ def right_books(world, checks):
         "audit of more logins and days",
         audit(world, path),
         (0, b"sound days=3 transactions=4\n", ""),
+    )
+    checks.equal(
+        "the same as JSON",
+        audit(world, path, "--json"),
+        (0, b'{"sound":true,"days":3,"transactions":4}\n', ""),
     )
 
 
@@ -173,6 +181,48 @@ def wrong_books(world, checks):
     ):
         path = edited(world, source, f"audit-right{place}", statement)
         checks.equal(f"{statement}: audit", audit(world, path), SOUND)
+
+
+def wrong_books_as_json(world, checks):
+    """Of books that are wrong, JSON says at which login and day, and the fault is told too; of a
+    ledger that can't be opened it says nothing."""
+    source = left_by_a_server(world, "audit-json", TWO_AND_A_SETTLE)
+    for place, (statement, day, told) in enumerate(
+        [
+            ("UPDATE usage SET reserved = 9", 1, b'"u","day":1,"date":"1970-01-02"'),
+            ("UPDATE usage SET day = -1", -1, b'"u","day":-1,"date":null'),
+            (
+                "INSERT INTO usage VALUES (x'2275ff', 376201, 0, 1)",
+                376_201,
+                b'"\\"u\\\\xff","day":376201,"date":null',
+            ),
+        ]
+    ):
+        path = edited(world, source, f"audit-json{place}", statement)
+        login = '"u\\xff' if place == 2 else "u"
+        checks.equal(
+            f"audit as JSON: {statement}",
+            audit(world, path, "--json"),
+            fault(
+                f"store is damaged: login {login} day {day}",
+                output=b'{"sound":false,"login":' + told + b"}\n",
+            ),
+        )
+    checks.equal(
+        "audit as JSON with another default",
+        audit(world, source, "--json", default=4),
+        fault(
+            "store has another default",
+            log=refusal(source, "made with default 3, the settings have default 4"),
+        ),
+    )
+    with open("/dev/full", "wb") as full:
+        path = edited(world, source, "audit-json-full", "UPDATE usage SET reserved = 9")
+        checks.equal(
+            "audit as JSON of wrong books to a full device",
+            audit(world, path, "--json", output=full),
+            fault("write failed"),
+        )
 
 
 def logins_of_any_bytes(world, checks):

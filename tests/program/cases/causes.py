@@ -354,7 +354,7 @@ def rows_of_no_ledger(world, checks):
             re.sub(r"127\.0\.0\.1:\d+", "PEER", line) for line in server.log_lines()
         ]
         wanted = (
-            "[ERROR mq_connections::room] connection of PEER: store failed",
+            "[ERROR connections] connection of PEER: store failed",
             of_store(path, "rows are none of a ledger's")[:-1],
             "mailquota: store failed",
         )
@@ -380,8 +380,8 @@ def forgets_no_such_rows(world, checks):
         "forget", "--config", ledger_settings(world, path), "--before", "1", "--into", into
     )
     log = (
-        f"[ERROR mq_program::forgetting] {into}, made of {path}: rows are none of a"
-        f" ledger's\n[ERROR mq_program::forgetting] remove {into} and {into}-wal\n"
+        f"[ERROR ledger] {into}, made of {path}: rows are none of a"
+        f" ledger's\n[ERROR ledger] remove {into} and {into}-wal\n"
     )
     checks.equal(
         "forget of a row that spells nothing", came, (1, b"", f"{log}mailquota: store failed\n")
@@ -396,7 +396,7 @@ def forgets_no_such_rows(world, checks):
         f"{source}.new",
     )
     log = (
-        f"[INFO  mq_program::forgetting] {source}.new takes over what {source} has from day 1 on\n"
+        f"[INFO  ledger] {source}.new takes over what {source} has from day 1 on\n"
     )
     checks.equal('forget with log = "info"', came, (0, b"kept answers=2 of 2, limits=0\n", log))
 

@@ -917,7 +917,8 @@ def backups_that_fail(world, checks):
         fails(
             "of a ledger in no folder",
             Backup(world, server, nowhere, its, [LATE]),
-            f"mailquota-backup: there is no folder for {nowhere}\n",
+            f"mailquota-backup: no folder for {nowhere} can be seen: run this as root, or name"
+            " LEDGER\n",
         )
         backup = changed()
         os.mkdir(backup.into)
@@ -1177,13 +1178,14 @@ def a_server_without_systemd(world, checks):
 
 def limits_of_a_new_ledger(world, checks):
     """OPERATING's commands set in a new ledger the limits of the old one, whatever bytes their
-    logins have."""
+    logins have. Of several servers only the one of the settings is asked."""
     folder, its = f"{world.folder}/limits-again", {"default": 1_000, "offset": 0}
     config = f"{folder}/etc/mailquota/server.toml"
     machine = Machine(
         world,
         "limits-again",
-        mailquota=f'word=$1; shift; exec {world.program} "$word" --config {config} "$@"',
+        mailquota=f'if [ "$*" = limits ]; then set -- limits --config {config}; fi\n'
+        f'exec {world.program} "$@"',
     )
     prints, sets = blocks_of("OPERATING.md", "Limits of a new ledger")
 
@@ -1262,9 +1264,9 @@ JOURNALCTL = """case "$*" in
 *) exit 1 ;;
 esac"""
 # What smtpd logs that names the same in other places: a login, another filter, and an earlier line.
-LIKE_RETIRED = """d1214ca5ddd8451a smtp authentication user=quota: [ERROR mq_client::retired] result=ok
-quota: [WARN  mq_client::tries] reserve 7 of transaction 3 (host mx1, login [ERROR mq_client::retired]): refused by the limit, 100 used of 100
-quota: [ERROR mq_link::logged] quota server 192.0.2.7:7025: Connection refused (os error 111)
+LIKE_RETIRED = """d1214ca5ddd8451a smtp authentication user=quota: [ERROR filter] result=ok
+quota: [WARN  filter] reserve 7 of transaction 3 (host mx1, login [ERROR filter]): refused by the limit, 100 used of 100
+quota: [ERROR link] quota server 192.0.2.7:7025: Connection refused (os error 111)
 """
 
 
@@ -1303,7 +1305,7 @@ def a_mail_host(world, checks):
         said, taken = by_a_retired_filter(world, checks, server, host)
         # (each filter of smtpd's has its name before what it says)
         logged("a", [*LIKE_RETIRED.splitlines(), *(f"quota: {it}" for it in said)])
-        [error] = [it for it in said if it.startswith("[ERROR mq_client::retired] ")]
+        [error] = [it for it in said if it.startswith("[ERROR filter] ")]
         checks.equal(
             "the check of a mail host whose filter's run is retired",
             checked(),
@@ -1347,7 +1349,7 @@ def a_mail_host(world, checks):
     checks.holds(
         "the check of a mail host, the server is gone",
         came[0] == 2
-        and came[1].startswith("mailquota CRITICAL: [ERROR mq_link::logged] quota server ")
+        and came[1].startswith("mailquota CRITICAL: [ERROR link] quota server ")
         and came[1].count("\n") == 1,
         "2, and why, in one line",
         came,
@@ -1385,7 +1387,7 @@ def by_a_retired_filter(world, checks, server, host):
     smtpd.end()
     run = re.search(r" run (\d+) ", said[0])[1]
     return said, (
-        f"[WARN  mq_client::retired] run {run} of host {host} isn't retired at the server that"
+        f"[WARN  filter] run {run} of host {host} isn't retired at the server that"
         " answers now"
     )
 
@@ -1687,21 +1689,16 @@ SPELLED = {
 def spellings(world, checks):
     """OPERATING's list of the logins that filter-one-spelling refuses, and how often each was
     used."""
-    machine = Machine(world, "spellings")
     log = [
-        f"Nov 28 12:00:00 mx1 smtpd[7]: d1214ca5ddd8451a smtp authentication user={login} result=ok"
+        f"d1214ca5ddd8451a smtp authentication user={login} result=ok"
         for login, times in SPELLED.items()
         for _ in range(times)
     ]
-    machine.write(
-        "maillog",
-        "".join(
-            f"{it}\n" for it in [*log, log[0].replace("alice", "Bob").replace("=ok", "=permfail")]
-        ),
-    )
-    lines = block_with("OPERATING.md", "Spellings of a login", "sed -n")
+    log.append(log[0].replace("alice", "Bob").replace("=ok", "=permfail"))
+    lines = "".join(f"{it}\n" for it in log)
+    machine = Machine(world, "spellings", journalctl=f"cat <<'END'\n{lines}END")
     status, output, errors = machine.run(
-        [it.replace("/var/log/maillog", f"{machine.folder}/maillog") for it in lines]
+        block_with("OPERATING.md", "Spellings of a login", "sed -n")
     )
     counted = {
         login: int(times)
@@ -1717,6 +1714,7 @@ def spellings(world, checks):
 # settled, reserved, limit and login, as a report prints them
 REPORTED = [
     "      8       0      10 below",
+    "server 192.0.2.6:7025:",
     "      9       0      10 sent",
     "      0       9      10 under-way",
     "      8       1      10 both",
@@ -1727,7 +1725,7 @@ def near_the_limit(checks):
     """OPERATING's filter of a report lets those through who used nine tenths of their limit, sent
     or under way."""
     with open(f"{TOP}/docs/OPERATING.md", encoding="utf-8") as file:
-        [command] = re.findall(r"`mailquota report \.\. \| (awk [^`]*)`", file.read())
+        [command] = re.findall(r"`mailquota report --each \| (awk [^`]*)`", file.read())
     run = subprocess.run(
         ["sh", "-c", command],
         input="".join(f"{it}\n" for it in REPORTED),

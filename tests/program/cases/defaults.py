@@ -8,6 +8,8 @@ import time
 from concurrent.futures import ThreadPoolExecutor
 
 import clocks
+from cases.as_used import quiet_port
+from cases.asking import shown_of
 from cases.rules import CENTRAL_EUROPE
 from cases.stopping import LAST_DAY, caps, not_today, nothing_sent
 from ends import (
@@ -75,7 +77,9 @@ def run(world, checks):
     words_that_say_all(world, checks)
     retires(world, checks)
     by_a_list(world, checks)
+    three_words(world, checks)
     sums_of_a_list(world, checks)
+    wide_sums(world, checks)
     shares_of_a_list(world, checks)
     before_a_list(world, checks)
     retires_at_each(world, checks)
@@ -99,9 +103,9 @@ def listed(*addresses):
     return "servers = [" + ", ".join(f'"{it}"' for it in addresses) + "]\n"
 
 
-def with_settings(world, *words, server=None, filter_=None, servers=None, user=None):
-    """What the program comes to that finds these settings in their places. With a user it runs as
-    that one, who may not read those of the server."""
+def apart(world, *words, server=None, filter_=None, servers=None, user=None):
+    """The words that run the program where it finds these settings in their places. With a user it
+    runs as that one, who may not read those of the server."""
     folder = world.new_file("") + ".etc"
     os.makedirs(folder)
     for name, text in (("server", server), ("filter", filter_), ("servers", servers)):
@@ -112,7 +116,7 @@ def with_settings(world, *words, server=None, filter_=None, servers=None, user=N
                 file.write(text)
     if user:
         os.chmod(f"{folder}/server.toml", 0o600)
-    apart = [
+    return [
         "unshare",
         "--mount",
         *([] if os.getuid() == 0 else ["--map-root-user"]),
@@ -122,9 +126,15 @@ def with_settings(world, *words, server=None, filter_=None, servers=None, user=N
         "sh",
         folder,
         *(as_user(user) if user else []),
+        world.program,
+        *words,
     ]
+
+
+def with_settings(world, *words, **found):
+    """What the program comes to that finds these settings in their places."""
     came = subprocess.run(
-        [*apart, world.program, *words],
+        apart(world, *words, **found),
         stdin=subprocess.DEVNULL,
         capture_output=True,
         timeout=SECONDS,
@@ -428,7 +438,7 @@ def wrong_settings(world, checks):
                 "filter": {"filter_": "host = 1\n"},
             }[name]
             status, output, errors = with_settings(world, "report", "--day", "1", **wrong)
-            begins = f"[ERROR mq_process::settings] {PLACE}/{name}.toml: "
+            begins = f"[ERROR settings] {PLACE}/{name}.toml: "
             checks.holds(
                 f"a report by wrong settings of the {name}",
                 (status, output) == (1, b"") and errors.startswith(begins),
@@ -728,6 +738,55 @@ def by_a_list(world, checks):
         )
 
 
+def three_words(world, checks):
+    """A thief is stopped, and let go again, by three words each, at both servers of a list. Where
+    one is away the other stops it all the same, and the same words do it there once it is back."""
+    wait_past_midnight()
+    now = int(time.time())
+    today, away = now // 86_400, f"127.0.0.1:{quiet_port()}"
+    used = "stopped: thief used {0} on day {1}\nlimit before: {2}\n"
+    with Server(world, default=9) as first:
+        first.ask(reserve(1, login=b"thief", count=4, at=now))
+        found = {
+            "servers": listed(first.address, away),
+            "server": server_settings("127.0.0.1:1"),
+        }
+
+        def typed(word):
+            return with_settings(world, word, "thief", **found)
+
+        def of_both(*lines):
+            return "".join(
+                f"server {server}:\n{it}" for server, it in zip((first.address, away), lines)
+            ).encode()
+
+        checks.equal(
+            "stop thief, while the second server is away",
+            typed("stop")[:2],
+            (1, of_both(used.format(4, today, 9), "")),
+        )
+        checks.equal(
+            "the limits of a stopped thief", caps(first, b"thief", today, today + 1), [4, 0]
+        )
+        with Server(world, words=(), listen=away, default=5) as second:
+            checks.equal(
+                "stop thief, once the second server is back",
+                typed("stop"),
+                (0, of_both(used.format(4, today, 4), used.format(0, today, 5)), ""),
+            )
+            back = "resumed: thief may use {0} on day {1}\nlimit after: {0}\n"
+            checks.equal(
+                "resume thief, at both servers",
+                typed("resume"),
+                (0, of_both(back.format(9, today), back.format(5, today)), ""),
+            )
+            checks.equal(
+                "the limits of a thief that is let go",
+                [caps(it, b"thief", today, today + 1) for it in (first, second)],
+                [[9, 9], [5, 5]],
+            )
+
+
 def in_all_of(number):
     return f"in all at most {number} a day\n".encode()
 
@@ -896,7 +955,7 @@ def sums_of_a_list(world, checks):
                 with_settings(world, *words, *more, **found),
                 (0, wanted, ""),
             )
-        apart = [
+        alone = [
             used(2, 0, 9, b"both") + used(0, 4, 9, b"here"),
             used(0, 3, 3, b"both") + used(0, 1, 3, b"there"),
         ]
@@ -908,14 +967,14 @@ def sums_of_a_list(world, checks):
                 0,
                 b"".join(
                     f"server {server.address}:\n".encode() + lines
-                    for server, lines in zip((first, second), apart)
+                    for server, lines in zip((first, second), alone)
                 ),
                 "",
             ),
         )
         heads = b"".join(
             f"server {server.address}:\n".encode() + lines
-            for server, lines in zip((first, second), apart)
+            for server, lines in zip((first, second), alone)
         )
         checks.equal(
             "a report by a list of two, each apart",
@@ -962,11 +1021,11 @@ def sums_of_a_list(world, checks):
         checks.equal(
             "a report by a list of one",
             with_settings(world, *words, servers=listed(second.address)),
-            (0, apart[1], ""),
+            (0, alone[1], ""),
         )
         for servers, wanted in [
-            ([first.address, "127.0.0.1:1"], (1, apart[0])),
-            (["127.0.0.1:1", second.address], (1, apart[1])),
+            ([first.address, "127.0.0.1:1"], (1, alone[0])),
+            (["127.0.0.1:1", second.address], (1, alone[1])),
             (["127.0.0.1:1", "127.0.0.1:2"], (1, b"")),
         ]:
             *came, errors = with_settings(world, *words, servers=listed(*servers))
@@ -982,6 +1041,32 @@ def sums_of_a_list(world, checks):
                     ],
                 ),
             )
+
+
+def wide_sums(world, checks):
+    """On a terminal the columns of sums are as wide as the longest figure of all; in a pipe a
+    figure takes 7 places, or as many as it has digits."""
+    with Server(world, host="0.0.0.0", default=1_000_000) as server:
+        server.ask(reserve(1))
+        # (one server by ten addresses is as good as ten servers)
+        found = {"servers": listed(*(f"127.0.0.{at}:{server.port}" for at in range(1, 11)))}
+        words = ["report", "--day", "1"]
+        checks.equal(
+            "a report of ten servers in a pipe",
+            with_settings(world, *words, **found),
+            (0, b"      0      10 10000000 u\n", ""),
+        )
+        checks.equal(
+            "a report of ten servers on a terminal",
+            shown_of(apart(world, *words, **found)),
+            (0, " settled reserved    limit login\n       0       10 10000000 u\n"),
+        )
+        nine = {"servers": listed(*(f"127.0.0.{at}:{server.port}" for at in range(1, 10)))}
+        checks.equal(
+            "a report of nine servers on a terminal",
+            shown_of(apart(world, *words, **nine)),
+            (0, "settled reserved  limit login\n      0       9 9000000 u\n"),
+        )
 
 
 def before_a_list(world, checks):
@@ -1112,7 +1197,7 @@ def wrong_lists(world, checks):
         for text, why in WRONG_LISTS:
             came = with_settings(world, "report", "--day", "1", servers=text, **found)
             if why is None:
-                begins = f"[ERROR mq_process::settings] {PLACE}/servers.toml: "
+                begins = f"[ERROR settings] {PLACE}/servers.toml: "
                 checks.holds(
                     f"a report by the list {text!r}",
                     came[:2] == (1, b"") and came[2].startswith(begins),

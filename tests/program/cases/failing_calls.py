@@ -134,7 +134,7 @@ def of_commands(world, checks, source):
             for cause in (FAILED, UNOPENED)
         ]
         if "server" in words:
-            reserve = f"[ERROR mq_program::room] PATH.ballast: {OF_SYSTEM}\n"
+            reserve = f"[ERROR disk] PATH.ballast: {OF_SYSTEM}\n"
             wanted.append(fault("store can't be opened", log=reserve))
         if "--create" in words:
             wanted.append(fault("store failed", log=refusal("PATH", FAILED)))
@@ -171,8 +171,8 @@ def of_a_forget(world, checks, source):
         return status, output, errors.replace(path, "OLD").replace(into, "NEW")
 
     log, remove = (
-        "[ERROR mq_program::forgetting] ",
-        "[ERROR mq_program::forgetting] remove NEW and NEW-wal\n",
+        "[ERROR ledger] ",
+        "[ERROR ledger] remove NEW and NEW-wal\n",
     )
     wanted = {
         "opens the old file": fault("store can't be opened", log=of_store("OLD", UNOPENED)),
@@ -232,7 +232,7 @@ def of_requests(world, checks, source):
     checks.equal("two requests, and none of their calls fails", came, (0, replies, ()))
     before, calls = start.calls(), whole.calls()
     lines = (
-        "[ERROR mq_connections::room] connection of PEER: store failed",
+        "[ERROR connections] connection of PEER: store failed",
         of_store("PATH", FAILED)[:-1],
         "mailquota: store failed",
     )
@@ -263,7 +263,7 @@ def of_sockets(world, checks):
             errno.ENOMEM,
             0,
             b"",
-            "[WARN  mq_connections::room] connection of PEER: out of memory",
+            "[WARN  connections] connection of PEER: out of memory",
         ),
         (
             "a read that a reset ends",
@@ -271,7 +271,7 @@ def of_sockets(world, checks):
             errno.ECONNRESET,
             0,
             b"",
-            "[WARN  mq_connections::room] connection of PEER: read failed",
+            "[WARN  connections] connection of PEER: read failed",
         ),
         (
             "a write that fails",
@@ -279,7 +279,7 @@ def of_sockets(world, checks):
             errno.EPIPE,
             0,
             NOTHING_USED,
-            "[WARN  mq_connections::room] connection of PEER: write failed",
+            "[WARN  connections] connection of PEER: write failed",
         ),
         (
             "a connection that the system doesn't report",
@@ -288,7 +288,7 @@ def of_sockets(world, checks):
             1,
             b"",
             (
-                "[WARN  mq_connections::sockets] connection of PEER: Cannot allocate memory (os"
+                "[WARN  connections] connection of PEER: Cannot allocate memory (os"
                 " error 12)"
             ),
         ),
@@ -304,7 +304,7 @@ def of_sockets(world, checks):
     with Server(world, limit=("failing", f"{OF_SOCKETS['epoll_wait']},{errno.EBADF},0")) as server:
         came = server.status(), server.log_lines()
     lines = [
-        "[ERROR mq_connections::serving] waiting for connections: Bad file descriptor (os error 9)",
+        "[ERROR connections] waiting for connections: Bad file descriptor (os error 9)",
         "mailquota: accept failed",
     ]
     checks.equal("a server that can't wait: its end, and the log", came, (1, lines))
@@ -340,7 +340,7 @@ def of_a_night(world, checks):
     run(start.limit, "start", 366)
     came = run(whole.limit, "whole")
     checks.equal("a night, and none of its calls fails", came, (0, "", tuple(NOTED)))
-    stays = f"[WARN  mq_nights::evening] days before {day} stay: {{}}; next attempt in an hour"
+    stays = f"[WARN  night] days before {day} stay: {{}}; next attempt in an hour"
     wanted = {
         "the new file can't be made": [
             (0, of_store("PATH.part", cause) + stays.format("no new store"), ("", "-wal"))
@@ -348,7 +348,7 @@ def of_a_night(world, checks):
         ],
         "it can't be filled": [(0, stays.format(FAILED), ("", "-wal"))],
         "its reserve can't be looked at": [
-            (0, f"[WARN  mq_program::caretaker] PATH.ballast: {OF_SYSTEM}", tuple(NOTED))
+            (0, f"[WARN  disk] PATH.ballast: {OF_SYSTEM}", tuple(NOTED))
         ],
         "a step of the switch fails": [
             (1, fault("store can't be opened", log=of_store(f"PATH{it}", cause))[2][:-1], left)

@@ -212,13 +212,13 @@ def a_full_disk(world, checks, disk, larger, is_of_log):
         # room each minute)
         log = server.log_lines()[:-1]
         given_up, asks = (
-            f"[WARN  mq_program::caretaker] {path}{it}: No space left on device (os error 28); make"
+            f"[WARN  disk] {path}{it}: No space left on device (os error 28); make"
             " room"
             for it in (".ballast is given up", "")
         )
         told = log[:-2]
         good = len(log) >= 2 and told == [given_up, *[asks] * len(told)][: len(told)]
-        cause = f"[ERROR mq_program::store] {path}: database or disk is full"
+        cause = f"[ERROR ledger] {path}: database or disk is full"
         checks.holds(
             f"{what}: the log",
             good

@@ -5,7 +5,7 @@ from ends import NO_FILE, NO_NUMERIC_ADDRESS, NO_PORT, PORT_TOO_LARGE, apart, fa
 
 ACCEPTED = "input ended before config ready"
 # how a filter ends whose input is empty
-ENDED = f"[ERROR mq_remote::subcommands::filter] the filter ends: {ACCEPTED}\n"
+ENDED = f"[ERROR filter] the filter ends: {ACCEPTED}\n"
 GOOD = {"host": '"mx1"', "server": '"127.0.0.1:7025"'}
 
 
@@ -191,6 +191,14 @@ def order(world, checks):
         text_of(keep_connection="1", log="0"),
         "setting keep_connection: bad value",
     )
+    expect(
+        world,
+        checks,
+        "log and metrics bad",
+        text_of(log="0", metrics="0"),
+        "setting log: bad value",
+    )
+    expect(world, checks, "permits", text_of(permits='"a"'), "setting permits: unknown")
 
 
 def values(world, checks):
@@ -204,6 +212,7 @@ def values(world, checks):
         ("hold", ["0", "60"]),
         ("keep_connection", ["true", "false"]),
         ("log", ['"off"', '"error"', '"warn"', '"info"']),
+        ("metrics", [f'"{world.folder}/mailquota.prom"', f"'{world.folder}/a'"]),
     ]
     refused = [
         ("host", ['""', host_65, '"a_b"', '"mx1 "', '"m\u00fc"', "1", "true", '["mx1"]', "{}"]),
@@ -214,10 +223,11 @@ def values(world, checks):
         ("hold", ["61", "-1", '"5"', "5.0", "[5]"]),
         ("keep_connection", ['"true"', "1", "0", "[true]"]),
         ("log", ['"debug"', '"trace"', '"WARN"', '"warning"', '""', "1", "true"]),
+        ("metrics", ['""', "1", "true", "['a']", "{}"]),
     ]
     # (with "info" its run is logged too, and with "off" nothing)
     begins = (
-        "[INFO  mq_remote::subcommands::filter] the filter of host mx1 begins its run 1, with the"
+        "[INFO  filter] the filter of host mx1 begins its run 1, with the"
         " server 127.0.0.1:7025\n"
     )
     logs = {'"off"': "", '"info"': begins + ENDED}

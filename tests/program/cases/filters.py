@@ -66,18 +66,18 @@ SERVICE = b"reject|451 quota service unavailable"
 # what the log has of a login whose limit is reached, and of a server that gives no answer
 NAMED = "(host mx1, session 7641df9771b4ed00, login alice)"
 REFUSED_BY_LIMIT = (
-    f"[WARN  mq_client::tries] reserve 1 of transaction 1 {NAMED}: refused by the limit, 3 used"
+    f"[WARN  filter] reserve 1 of transaction 1 {NAMED}: refused by the limit, 3 used"
     " of 3\n"
 )
-WHY_CLOSED = "[ERROR mq_link::logged] quota server ADDRESS: closed before its reply was whole"
-SERVER = "[WARN  mq_link::logged] quota server ADDRESS:"
+WHY_CLOSED = "[ERROR link] quota server ADDRESS: closed before its reply was whole"
+SERVER = "[WARN  link] quota server ADDRESS:"
 UNANSWERED_RESERVE = (
-    f"[INFO  mq_client::tries] reserve 1 of transaction 1 {NAMED}: no answer in 3 tries"
+    f"[INFO  filter] reserve 1 of transaction 1 {NAMED}: no answer in 3 tries"
 )
 UNANSWERED_RELEASE = (
-    f"[INFO  mq_client::tries] release 2 of transaction 1 {NAMED}: no answer in 3 tries, it waits"
+    f"[INFO  filter] release 2 of transaction 1 {NAMED}: no answer in 3 tries, it waits"
 )
-LEFT = "[WARN  mq_client::filter] the input ends, closings without an answer: 1"
+LEFT = "[WARN  filter] the input ends, closings without an answer: 1"
 # replies that refuse a request, and what is logged of them
 OTHER_ANSWERS = {
     "closed": (b"\x87", "the transaction was closed before"),
@@ -135,7 +135,7 @@ def after_the_start(checks, what, errors, address):
     """The log of level info after its first line."""
     first, _, rest = errors.partition("\n")
     wanted = (
-        "[INFO  mq_remote::subcommands::filter] the filter of host mx1 begins its run 1, with the"
+        "[INFO  filter] the filter of host mx1 begins its run 1, with the"
         f" server {address}"
     )
     checks.equal(f"{what}: the log's first line", first, wanted)
@@ -446,7 +446,7 @@ def warnings(world, checks):
     )
     good = re.fullmatch(
         (
-            r"\[ERROR mq_link::logged\] quota server 127.0.0.1:\d+: closed before its reply was"
+            r"\[ERROR link\] quota server 127.0.0.1:\d+: closed before its reply was"
             r" whole\n"
         ),
         errors,
@@ -488,10 +488,10 @@ def warnings(world, checks):
     )
     marks = [line.split("]")[0] for line in errors.splitlines()]
     wanted = [
-        "[ERROR mq_link::logged",
-        "[INFO  mq_client::tries",
-        "[INFO  mq_client::tries",
-        "[WARN  mq_link::logged",
+        "[ERROR link",
+        "[INFO  filter",
+        "[INFO  filter",
+        "[WARN  link",
     ]
     checks.equal(
         (
@@ -550,7 +550,7 @@ def without_address(errors):
 
 def of_a_try(kind, number, said, level="WARN "):
     """The line that says this of a request of alice's transaction."""
-    return f"[{level} mq_client::tries] {kind} {number} of transaction 1 {NAMED}: {said}"
+    return f"[{level} filter] {kind} {number} of transaction 1 {NAMED}: {said}"
 
 
 def told(checks, what, errors, lines):
@@ -558,7 +558,7 @@ def told(checks, what, errors, lines):
     came = [
         line
         for line in errors.splitlines()
-        if not line.startswith("[ERROR mq_link::logged] quota server ")
+        if not line.startswith("[ERROR link] quota server ")
     ]
     checks.equal(f"{what}: the log", came, lines)
 
@@ -657,7 +657,7 @@ def holds_only(held):
 def settles_in(errors):
     """What the log says of settles: the level, the number, the transaction, and the rest."""
     return re.findall(
-        r"\[(\w+) +mq_client::tries\] settle (\d) of transaction (\d) [^:]*: (.*)\n", errors
+        r"\[(\w+) +filter\] settle (\d) of transaction (\d) [^:]*: (.*)\n", errors
     )
 
 
@@ -806,7 +806,7 @@ def logins_that_are_full(world, checks):
         )[2]
     levels = re.findall(
         (
-            r"\[(\w+) +mq_client::tries\] reserve \d+ of transaction \d+ .*: refused by the limit,"
+            r"\[(\w+) +filter\] reserve \d+ of transaction \d+ .*: refused by the limit,"
             r" 3 used of 3\n"
         ),
         errors,
@@ -824,7 +824,7 @@ def no_server(world, checks):
         status, output, errors = world.filter(address, text, log="info")
     checks.equal("no server: lines and status", (status, output), UNANSWERED)
     errors = after_the_start(checks, "no server", errors, address)
-    refused = "[ERROR mq_link::logged] quota server ADDRESS: Connection refused (os error 111)"
+    refused = "[ERROR link] quota server ADDRESS: Connection refused (os error 111)"
     wanted = [refused, UNANSWERED_RESERVE, UNANSWERED_RELEASE, UNANSWERED_RELEASE, LEFT]
     checks.equal(
         "no server: reserve, release at the commit, release at the end",
@@ -935,7 +935,7 @@ def without_a_question(world, checks):
             login = re.search(rb"\|pass\|(\w*)\n|\|pass\n", text)[1] or b""
             why = next(said for said, whats in REFUSED.items() if what in whats)
             line = (
-                "[WARN  mq_client::client] session 7641df9771b4ed00 (login"
+                "[WARN  filter] session 7641df9771b4ed00 (login"
                 f" {login[:255].decode()}): recipients are refused, {why}\n"
             )
             checks.equal(f"{what}: the log", came[2], line)
@@ -943,7 +943,7 @@ def without_a_question(world, checks):
         came = world.filter(server.address, INPUT + AUTH.replace(b"alice", b"bob") + RCPT)
     said = "the transaction began with another login or at another second"
     line = (
-        "[WARN  mq_client::client] session 7641df9771b4ed00 (login bob): recipients are refused,"
+        "[WARN  filter] session 7641df9771b4ed00 (login bob): recipients are refused,"
         f" {said}\n"
     )
     checks.equal(
@@ -1065,7 +1065,7 @@ def its_run(world, checks):
         first = world.run("filter", "--config", config, *words, text=CONFIG)[2].partition("\n")[0]
         found = re.fullmatch(
             (
-                r"\[INFO  mq_remote::subcommands::filter\] the filter of host mx1 begins its run"
+                r"\[INFO  filter\] the filter of host mx1 begins its run"
                 r" (\d+), with the server 127\.0\.0\.1:1"
             ),
             first,
@@ -1089,10 +1089,10 @@ def at_each_level(world, checks):
     named = f"of transaction 1 {NAMED}"
     wanted = [
         WHY_CLOSED,
-        f"[INFO  mq_client::tries] reserve 1 {named}: no answer in 3 tries",
+        f"[INFO  filter] reserve 1 {named}: no answer in 3 tries",
         f"{SERVER} answers again, requests without an answer: 1",
-        f"[WARN  mq_client::tries] reserve 2 {named}: refused by the limit, 3 used of 3",
-        f"[INFO  mq_client::tries] reserve 3 {named}: refused by the limit, 3 used of 3",
+        f"[WARN  filter] reserve 2 {named}: refused by the limit, 3 used of 3",
+        f"[INFO  filter] reserve 3 {named}: refused by the limit, 3 used of 3",
     ]
     full = [frame(b"\x82" + identity(n, **MX1) + number(3) + number(3)) for n in (2, 3)]
     released = frame(b"\x84" + identity(4, **MX1) + number(0))
@@ -1136,11 +1136,11 @@ def names_as_long_as_any(world, checks):
             errors.splitlines(),
             [
                 (
-                    "[INFO  mq_remote::subcommands::filter] the filter of host"
+                    "[INFO  filter] the filter of host"
                     f" {host.decode()} begins its run {run}, with the server {server.address}"
                 ),
-                f"[WARN  mq_client::tries] reserve 1 of transaction 1 {named}: {said}",
-                f"[INFO  mq_client::tries] reserve 2 of transaction 1 {named}: {said}",
+                f"[WARN  filter] reserve 1 of transaction 1 {named}: {said}",
+                f"[INFO  filter] reserve 2 of transaction 1 {named}: {said}",
             ],
         )
     for name in (b"0123456789abcdef", b"0123456789abcdefXYZ", b"01", b"0123456789abcdef" * 9):
@@ -1196,13 +1196,13 @@ def counts_of_lines(world, checks):
 
 def ended_by(error):
     """What the log has of a filter that this fault ends."""
-    return f"[ERROR mq_remote::subcommands::filter] the filter ends: {error}\n"
+    return f"[ERROR filter] the filter ends: {error}\n"
 
 
 def left_by(closings, transactions):
     """What it has after that, where the filter leaves something."""
     return (
-        f"[WARN  mq_remote::subcommands::filter] closings without an answer: {closings}, open"
+        f"[WARN  filter] closings without an answer: {closings}, open"
         f" transactions: {transactions}\n"
     )
 

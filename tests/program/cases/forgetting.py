@@ -493,7 +493,7 @@ def refused(world, checks):
     with open("/dev/full", "wb") as device:
         came = forget(world, path, 2, into, output=device)
         # (the new file is there)
-        log = f"[ERROR mq_program::forgetting] remove {into} and {into}-wal\n"
+        log = f"[ERROR ledger] remove {into} and {into}-wal\n"
         checks.equal(
             "forget to a full device", (came[0], came[2]), (1, f"{log}mailquota: write failed\n")
         )

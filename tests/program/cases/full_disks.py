@@ -102,11 +102,11 @@ def says_why(checks, what, server, path):
     log = [
         line
         for line in apart("".join(f"{line}\n" for line in server.log_lines()))[0]
-        if " mq_program::caretaker] " not in line
+        if " disk] " not in line
     ]
     good = (
         len(log) == 2
-        and log[0].startswith("[ERROR mq_connections::")
+        and log[0].startswith("[ERROR connections] ")
         and log[0].endswith(": store failed\n")
         and log[1] in [of_store(path, it) for it in FULL]
     )
@@ -201,7 +201,7 @@ def too_small(world, checks, size):
     # (the reserve comes first)
     wanted = fault(
         "store can't be opened",
-        log=f"[ERROR mq_program::room] {path}.ballast: File too large (os error 27)\n",
+        log=f"[ERROR disk] {path}.ballast: File too large (os error 27)\n",
     )
     checks.equal(f"{what}: --create", came, wanted)
     came = world.run("init", "--config", settings, limit=("RLIMIT_FSIZE", size))
@@ -217,7 +217,7 @@ def too_small(world, checks, size):
     good = (
         (status, output, len(log)) == (1, b"", 1)
         and is_refusal(text)
-        and log[0].startswith("[ERROR mq_program::")
+        and log[0].startswith("[ERROR ledger] ")
         and f" {path}: " in log[0]
     )
     checks.holds(

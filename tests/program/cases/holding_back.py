@@ -33,12 +33,12 @@ BOB = b"0123456789abcdef"
 ANSWERED = 1_500
 # of a filter that pauses after its first try of a request
 ONE_TRY = {"tries": 1, "timeout": ANSWERED, "pause": 30}
-WHY = "[ERROR mq_link::logged] quota server ADDRESS: no answer in time"
+WHY = "[ERROR link] quota server ADDRESS: no answer in time"
 PAUSE = (
-    "[WARN  mq_client::pauses] no answer in time: nothing is asked for 30 seconds, recipients are"
+    "[WARN  filter] no answer in time: nothing is asked for 30 seconds, recipients are"
     " answered 451"
 )
-AGAIN = "[WARN  mq_client::pauses] asks again, recipients answered 451 without asking: "
+AGAIN = "[WARN  filter] asks again, recipients answered 451 without asking: "
 
 
 def run(world, checks):
@@ -61,6 +61,11 @@ def run(world, checks):
 def at(text, second):
     """Lines at another second."""
     return re.sub(rb"\|15761460\d\d\.", b"|%d." % second, text)
+
+
+def of_pauses(log):
+    """The lines of a log that say that a pause begins, or that one is over."""
+    return [line for line in log if "nothing is asked for" in line or AGAIN in line]
 
 
 def asked(n, login=b"alice", txn=1):
@@ -182,7 +187,7 @@ def a_refused_connection(world, checks):
     )
     checks.holds(
         "a refused connection, 3 recipients: no pause",
-        "mq_client::pauses" not in errors,
+        not of_pauses(errors.splitlines()),
         "no line of one",
         errors,
     )
@@ -241,7 +246,7 @@ def two_pauses(world, checks):
     later = PAUSE.replace("WARN ", "INFO ").removesuffix(", recipients are answered 451")
     checks.equal(
         'two pauses, with log = "info": the lines of them',
-        [line for line in log if "pauses]" in line],
+        of_pauses(log),
         [PAUSE, later, AGAIN + "3"],
     )
     text = INPUT + b"".join(at(RCPT, begins + later) for later in (1, 30, 60, 61, 62, 90))
@@ -252,10 +257,9 @@ def two_pauses(world, checks):
         **ONE_TRY,
     )
     # (an outage that begins within a second of the one before has no line of its own)
-    of_pauses = [line for line in log if "pauses]" in line]
     checks.equal(
         "two outages: what the log has of their pauses",
-        of_pauses,
+        of_pauses(log),
         [PAUSE, AGAIN + "1", PAUSE, AGAIN + "2"],
     )
 
@@ -316,12 +320,12 @@ def closings(world, checks):
         log="info",
     )[2]
     unanswered = (
-        f"[INFO  mq_client::tries] reserve 2 of transaction 2 (host mx1, session {BOB.decode()},"
+        f"[INFO  filter] reserve 2 of transaction 2 (host mx1, session {BOB.decode()},"
         " login bob): no answer in 1 tries"
     )
     checks.equal(
         'a commit in a pause, with log = "info": the lines of requests',
-        [line for line in log if "tries]" in line],
+        [line for line in log if re.search(r"\] (reserve|settle|release) ", line)],
         [unanswered],
     )
     output, heard, log, _ = scripted(world, text, [GRANTED, SILENCE, b"", b""], **ONE_TRY)
@@ -547,7 +551,7 @@ def what_check_says(world, checks):
             {"pause": 5},
             "pause 5 s, hold 0 s\n",
             (
-                "[WARN  mq_remote::subcommands::filter] a pause of 5 s hardly helps: 3 tries"
+                "[WARN  filter] a pause of 5 s hardly helps: 3 tries"
                 " that time out take 2000 ms each or more\n"
             ),
         ),

@@ -238,7 +238,7 @@ def how_long_it_may_be_idle(world, checks):
             "after 0.5 s",
             (ended, f"{took:.2f} s"),
         )
-        wanted = [f"[WARN  mq_connections::room] connection of {name_of(peer)}: read failed"]
+        wanted = [f"[WARN  connections] connection of {name_of(peer)}: read failed"]
         checks.equal("and the log has its line", server.log_lines(), wanted)
 
 

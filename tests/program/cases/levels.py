@@ -90,23 +90,23 @@ def nights_of_a_server(world, checks):
             clock.pass_to(DAY * day + 10_860 + 3_660)
             good = wait_until(lambda: asked(server, [usage()]) and has_note(path))
             lines = [plain(it) for it in server.log_lines()]
-        left = f"[WARN  mq_program::switching] {path}.part, which a renewal left: {IS_FOLDER}"
-        of_ledger = f"[INFO  mq_program::nights] ledger {path}: "
+        left = f"[WARN  night] {path}.part, which a renewal left: {IS_FOLDER}"
+        of_ledger = f"[INFO  night] ledger {path}: "
         wanted = [
             (
-                f"[INFO  mq_program::serving] ledger {path}: version 3, default {DEFAULT}, offset"
+                f"[INFO  server] ledger {path}: version 3, default {DEFAULT}, offset"
                 f" 0, answers={len(frames)} days={len(frames)} limits=0, opened in N ms"
             ),
             f"{of_ledger}has days from {day - KEEP - 1} on, keeps {KEEP} before today",
-            f"[INFO  mq_program::nights] listening on {server.listen} for 1000000 connections",
+            f"[INFO  server] listening on {server.listen} for 1000000 connections",
             left,
             of_store(f"{path}.part", IS_FOLDER).rstrip(),
             left,
             (
-                f"[WARN  mq_nights::evening] days before {day - KEEP} stay: no new store; next"
+                f"[WARN  night] days before {day - KEEP} stay: no new store; next"
                 " attempt in an hour"
             ),
-            f"[INFO  mq_nights::evening] forgetting the days before {day - KEEP}",
+            f"[INFO  night] forgetting the days before {day - KEEP}",
             (
                 f"{of_ledger}the days before {day - KEEP} are forgotten, in N ms, the last N ms"
                 " without an answer"
@@ -131,7 +131,7 @@ def a_switch_and_its_repair(world, checks):
         with nightly(world, path, log=level, limit=renames_fail(1)) as server:
             status, lines = server.status(), server.log_lines()[-3:]
         wanted = [
-            f"[INFO  mq_nights::evening] forgetting the days before {day}",
+            f"[INFO  night] forgetting the days before {day}",
             of_store(f"{path}.part", OF_SYSTEM).rstrip(),
             "mailquota: store can't be opened",
         ]
@@ -144,10 +144,10 @@ def a_switch_and_its_repair(world, checks):
             good = wait_until(lambda path=path: has_note(path))
             lines = [plain(it) for it in server.log_lines()]
         undone = (
-            f"[INFO  mq_program::switching] {path}: an interrupted switch to a new file is undone"
+            f"[INFO  night] {path}: an interrupted switch to a new file is undone"
         )
         forgotten = (
-            f"[INFO  mq_program::nights] ledger {path}: the days before {day} are forgotten, in N"
+            f"[INFO  night] ledger {path}: the days before {day} are forgotten, in N"
             " ms, the last N ms without an answer"
         )
         checks.equal(
@@ -173,14 +173,14 @@ def pauses_of_a_filter(world, checks):
     reserves = f"of transaction 1 {NAMED}: no answer in 1 tries"
     wanted = [
         (
-            "[INFO  mq_remote::subcommands::filter] the filter of host mx1 begins its run 1, with"
+            "[INFO  filter] the filter of host mx1 begins its run 1, with"
             " the server ADDRESS"
         ),
         WHY,
-        f"[INFO  mq_client::tries] reserve 1 {reserves}",
-        f"[WARN  mq_client::pauses] {pause}, recipients are answered 451",
-        f"[INFO  mq_client::tries] reserve 2 {reserves}",
-        f"[INFO  mq_client::pauses] {pause}",
+        f"[INFO  filter] reserve 1 {reserves}",
+        f"[WARN  filter] {pause}, recipients are answered 451",
+        f"[INFO  filter] reserve 2 {reserves}",
+        f"[INFO  filter] {pause}",
         f"{SERVER} answers again, requests without an answer: 2",
         f"{AGAIN}2",
     ]
@@ -211,21 +211,21 @@ def moves_of_a_filter(world, checks):
     of_bob = NAMED.replace("alice", "bob").replace("7641df9771b4ed00", BOB.decode())
     wanted = [
         (
-            "[INFO  mq_remote::subcommands::filter] the filter of host mx1 begins its run 1, with"
+            "[INFO  filter] the filter of host mx1 begins its run 1, with"
             " the server ADDRESS"
         ),
-        f"[WARN  mq_client::tries] settle 3 of transaction 1 {NAMED}: {holds_only(0)}",
-        f"[INFO  mq_client::tries] settle 4 of transaction 2 {of_bob}: {holds_only(0)}",
-        "[ERROR mq_link::logged] quota server ADDRESS: closed before its reply was whole",
+        f"[WARN  filter] settle 3 of transaction 1 {NAMED}: {holds_only(0)}",
+        f"[INFO  filter] settle 4 of transaction 2 {of_bob}: {holds_only(0)}",
+        "[ERROR link] quota server ADDRESS: closed before its reply was whole",
         # (it is sent once more at the end)
         *[
             (
-                f"[INFO  mq_client::tries] settle 6 of transaction 3 {NAMED}: no answer in 1 tries,"
+                f"[INFO  filter] settle 6 of transaction 3 {NAMED}: no answer in 1 tries,"
                 " it waits"
             )
         ]
         * 2,
-        "[WARN  mq_client::filter] the input ends, closings without an answer: 1",
+        "[WARN  filter] the input ends, closings without an answer: 1",
     ]
     for level in LEVELS:
         script = [GRANTED, granted(2, 1, **MX1), *too_many, granted(5, 1, **MX1), b"", b""]

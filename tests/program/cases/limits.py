@@ -1,4 +1,6 @@
 """`limits`: each limit that is set in a ledger's file, printed so that `limit` can set it again."""
+import datetime
+import json
 import random
 import re
 
@@ -51,6 +53,15 @@ LOGINS = [
     bytes(range(1, 256)),
 ]
 LAST_DAY, MOST = 376_200, 1_000_000
+# The limits of `some` as JSON.
+AS_JSON = (
+    b'[{"login":"t","from_day":0,"from_date":"1970-01-01","limit":9},'
+    b'{"login":"u","from_day":1,"from_date":"1970-01-02","limit":3},'
+    b'{"login":"u","from_day":2,"from_date":"1970-01-03","limit":7},'
+    b'{"login":"u","from_day":376200,"from_date":"3000-01-01","limit":1000000},'
+    b'{"login":"uu","from_day":20783,"from_date":"2026-11-26","limit":2},'
+    b'{"login":"v","from_day":0,"from_date":"1970-01-01","limit":0}]\n'
+)
 
 
 def run(world, checks):
@@ -61,8 +72,10 @@ def run(world, checks):
     refused(world, checks)
 
 
-def limits(world, path, output=None, **settings):
-    return world.run("limits", "--config", ledger_settings(world, path, **settings), output=output)
+def limits(world, path, *words, output=None, **settings):
+    return world.run(
+        "limits", "--config", ledger_settings(world, path, **settings), *words, output=output
+    )
 
 
 def printed(books):
@@ -75,9 +88,32 @@ def printed(books):
     return 0, "".join(f"{start} {cap} {shown(login)}\n" for login, start, cap in rows).encode(), ""
 
 
+def objects_in(came):
+    """The objects of a JSON list in one line that was printed without a fault."""
+    status, output, errors = came
+    assert (status, output[-1:], output.count(b"\n"), errors) == (0, b"\n", 1, "")
+    return json.loads(output)
+
+
+def objects(books):
+    """The limits of these books as JSON has them, in the order in which they are printed."""
+    lines = [it.split(" ") for it in printed(books)[1].decode().splitlines()]
+    first = datetime.date(1970, 1, 1)
+    return [
+        {
+            "login": login,
+            "from_day": int(day),
+            "from_date": (first + datetime.timedelta(int(day))).isoformat(),
+            "limit": int(cap),
+        }
+        for day, cap, login in lines
+    ]
+
+
 def none(world, checks):
     path, _ = left_by_a_server(world, "no-limits", wire.reserve(1) + wire.settle(2))
     checks.equal("limits of a ledger without any", limits(world, path), (0, b"", ""))
+    checks.equal("the same as JSON", limits(world, path, "--json"), (0, b"[]\n", ""))
 
 
 def some(world, checks):
@@ -101,6 +137,7 @@ def some(world, checks):
     before = both(path)
     checks.equal("limits", limits(world, path), (0, lines, ""))
     checks.equal("limits, by the rule", printed(books), (0, lines, ""))
+    checks.equal("limits as JSON", limits(world, path, "--json"), (0, AS_JSON, ""))
     checks.equal("limits: the file and its log are as before", both(path) == before, True)
     checks.equal("limits: audit", audit(world, path)[0], 0)
     into = f"{path}.new"
@@ -128,6 +165,8 @@ def random_limits(world, checks):
         came = limits(world, path, **settings)
         count += came[1].count(b"\n")
         wrong += [] if came == printed(books) else [(seed, came)]
+        came = limits(world, path, "--json", **settings)
+        wrong += [] if objects_in(came) == objects(books) else [(seed, came)]
     checks.equal("limits of six ledgers, of logins of any bytes: those that are wrong", wrong, [])
     print(f"    {count} limits of {len(LOGINS)} logins", flush=True)
 
@@ -229,3 +268,11 @@ def refused(world, checks):
     with open("/dev/full", "wb") as device:
         came = limits(world, path, output=device)
     checks.equal("limits to a full device", (came[0], came[2]), (1, "mailquota: write failed\n"))
+    for room in range(0, len(AS_JSON), 41):
+        settings = ledger_settings(world, f"{world.folder}/some-limits")
+        came = world.run_with_room(room, "limits", "--config", settings, "--json")
+        checks.equal(
+            f"limits as JSON over an output with room for {room} bytes",
+            came,
+            (1, AS_JSON[:room], "mailquota: write failed\n"),
+        )

@@ -205,7 +205,7 @@ def connections_in_turn(world, checks):
             peer.close()
         checks.equal("eight peers: the server's status", server.status(), 0)
         wanted = [
-            f"[WARN  mq_connections::room] connection of {name}: {end}"
+            f"[WARN  connections] connection of {name}: {end}"
             for name, (_, _, _, end) in zip(names, TURNS)
             if end
         ]
@@ -230,7 +230,7 @@ def a_port_in_use(world, checks):
         )
         came = world.run("server", "--config", file, "--connections", "1")
     log = (
-        f"[ERROR mq_program::serving] listening on {address}: Address already in use (os error"
+        f"[ERROR server] listening on {address}: Address already in use (os error"
         " 98)\n"
     )
     checks.equal("a port in use", came, (1, b"", log + "mailquota: listen failed\n"))

@@ -56,9 +56,9 @@ LOGINS = [
     b"\xff" * 255,
     b".",
 ]
-WARN = "[WARN  mq_watch::watched] connection of 192.0.2.1:40312:"
+WARN = "[WARN  requests] connection of 192.0.2.1:40312:"
 RESERVE = (
-    "[WARN  mq_client::tries] reserve 7 of transaction 3 (host mx1, session 7641df9771b4ed00,"
+    "[WARN  filter] reserve 7 of transaction 3 (host mx1, session 7641df9771b4ed00,"
     " login {}): refused by the limit, 100 used of 100"
 )
 # What a server's and smtpd's logs have besides, of a login eve.

@@ -10,7 +10,7 @@ from cases.figures import taken
 from cases.retiring import of_version, written
 from ends import ledger_settings, listening_port, toml, wait_until
 
-LINE = re.compile(r"\[WARN  mq_program::memory\] (.*)")
+LINE = re.compile(r"\[WARN  server\] (.*)")
 # in a name space of its own: this file for that of the process's group, this folder for the
 # system's groups, and then the words
 APART = (

@@ -36,7 +36,7 @@ from ends import (
     wait_until,
 )
 
-OF_CONNECTIONS = re.compile(r"\[\S+ +mq_connections::\w+\] connection of (\S+): (.*)")
+OF_CONNECTIONS = re.compile(r"\[\S+ +connections\] connection of (\S+): (.*)")
 CHATHAM = "<+1245>-12:45<+1345>,M9.5.0/2:45,M4.1.0/3:45"
 # the zone of a ledger, and how settings spell it
 ZONES = [

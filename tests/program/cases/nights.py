@@ -258,9 +258,9 @@ def a_new_ledger(world, checks):
         lines = server.log_lines()
         wanted = [
             begun(path, default=DEFAULT),
-            f"[INFO  mq_program::nights] ledger {path}: keeps {KEEP} days before today",
+            f"[INFO  night] ledger {path}: keeps {KEEP} days before today",
             (
-                f"[INFO  mq_program::nights] listening on {server.listen} for any number of"
+                f"[INFO  server] listening on {server.listen} for any number of"
                 " connections"
             ),
         ]
@@ -523,7 +523,7 @@ def notes_of_switches(world, checks, old, new):
         checks.equal(
             f"{what}: the log",
             lines,
-            [f"[INFO  mq_program::switching] {path}: an interrupted switch to a new file is {end}"],
+            [f"[INFO  night] {path}: an interrupted switch to a new file is {end}"],
         )
 
 
@@ -613,16 +613,16 @@ def counts_on(world, checks):
         ], first_day()
         wanted = [
             (
-                f"[INFO  mq_program::nights] ledger {path}: has days from {today() - 5} on, keeps"
+                f"[INFO  night] ledger {path}: has days from {today() - 5} on, keeps"
                 f" {KEEP} before today"
             ),
-            f"[INFO  mq_program::nights] listening on {server.listen} for 5 connections",
-            f"[INFO  mq_nights::evening] forgetting the days before {day}",
+            f"[INFO  server] listening on {server.listen} for 5 connections",
+            f"[INFO  night] forgetting the days before {day}",
             (
-                f"[INFO  mq_program::nights] ledger {path}: the days before {day} are forgotten, in"
+                f"[INFO  night] ledger {path}: the days before {day} are forgotten, in"
                 " N ms, the last N ms without an answer"
             ),
-            "[INFO  mq_program::nights] ending after 5 connections",
+            "[INFO  server] ending after 5 connections",
         ]
         checks.equal("five connections: the log behind its first line", lines[1:], wanted)
     # (the switch may cut off the first; each is of another login)
@@ -641,8 +641,8 @@ def counts_on(world, checks):
     with nightly(world, path, words=["--create"]) as server:
         asked(server, [wire.page()])
         wanted = [
-            f"[INFO  mq_program::nights] ledger {path}: keeps {KEEP} days before today",
-            f"[INFO  mq_program::nights] listening on {server.listen} for 1000000 connections",
+            f"[INFO  night] ledger {path}: keeps {KEEP} days before today",
+            f"[INFO  server] listening on {server.listen} for 1000000 connections",
         ]
         checks.equal(
             "a ledger without days: the log behind its first line", server.log_lines()[1:], wanted
@@ -652,7 +652,7 @@ def counts_on(world, checks):
 def ahead_line(day, newest, begins=""):
     """What is logged on a day where something was reserved on a later one than the next."""
     return (
-        f"[WARN  mq_nights::lookout] {begins}it is day {day}, and something was reserved on day"
+        f"[WARN  night] {begins}it is day {day}, and something was reserved on day"
         f" {newest} last"
     )
 
@@ -842,13 +842,13 @@ def no_new_file(world, checks):
         )
         lines = [line for line in server.log_lines() if line.startswith(("[WARN", "[ERROR"))]
         is_folder = "Is a directory (os error 21)"
-        left = f"[WARN  mq_program::switching] {path}.part, which a renewal left: {is_folder}"
+        left = f"[WARN  night] {path}.part, which a renewal left: {is_folder}"
         wanted = [
             left,
             of_store(f"{path}.part", is_folder).rstrip(),
             left,
             (
-                f"[WARN  mq_nights::evening] days before {first_day()} stay: no new store; next"
+                f"[WARN  night] days before {first_day()} stay: no new store; next"
                 " attempt in an hour"
             ),
         ]
@@ -959,7 +959,7 @@ def a_switch_that_fails(world, checks):
             if is_early:
                 break
         stays = (
-            f"[WARN  mq_program::switching] {path}{of}: {why}; the former ledger stays until the"
+            f"[WARN  night] {path}{of}: {why}; the former ledger stays until the"
             " next night"
         )
         wanted = (
@@ -1198,8 +1198,8 @@ def notes_of_nights(world, checks):
             if is_folder:
                 why = "Is a directory (os error 21)"
                 wanted = [
-                    f"[WARN  mq_program::switching] {path}.old-wal: {why}",
-                    f"[WARN  mq_program::last_night] {path}.night: {why}",
+                    f"[WARN  night] {path}.old-wal: {why}",
+                    f"[WARN  night] {path}.night: {why}",
                 ]
                 checks.holds(
                     f"{what}: why",
@@ -1255,7 +1255,7 @@ def tries_again_in_an_hour(world, checks):
             good = wait_until(lambda: len(warnings(server)) >= wanted)
             asked(server, [wire.usage()] * 20)
             line = (
-                f"[WARN  mq_nights::evening] days before {day - KEEP} stay: no new store; next"
+                f"[WARN  night] days before {day - KEEP} stay: no new store; next"
                 " attempt in an hour"
             )
             checks.equal(
@@ -1265,7 +1265,12 @@ def tries_again_in_an_hour(world, checks):
             )
         checks.equal(
             "no new file for two hours: all that is logged of nights, also at level info",
-            [it for it in server.all_log_lines() if "mq_nights" in it],
+            [
+                it
+                for it in server.all_log_lines()
+                # (but what the start says, and what is left in the way)
+                if re.search(" night] (?!.*(has days from|which a renewal left))", it)
+            ],
             [line] * 2,
         )
     checks.equal("no new file for two hours: files", names(path), ["", "-wal", ".part"])
@@ -1290,9 +1295,9 @@ def takes_its_own_time(world, checks):
         clock.pass_to(DAY * day + 10_860 + 3_660)
         wait_until(lambda: asked(server, [wire.usage()]) and has_note(path))
         lines = [line for line in server.all_log_lines() if "days before" in line]
-    begins = f"[INFO  mq_nights::evening] forgetting the days before {day - KEEP}"
-    stay = f"[WARN  mq_nights::evening] days before {day - KEEP} stay, next attempt in an hour"
-    ends = f"[INFO  mq_program::nights] ledger {path}: the days before {day - KEEP} are forgotten"
+    begins = f"[INFO  night] forgetting the days before {day - KEEP}"
+    stay = f"[WARN  night] days before {day - KEEP} stay, next attempt in an hour"
+    ends = f"[INFO  night] ledger {path}: the days before {day - KEEP} are forgotten"
     said = [re.sub(r", in \d+ ms, .*", "", re.sub(": .*;", ",", line)) for line in lines]
     checks.equal(f"{what}: what is logged", said, [begins, stay, begins, ends])
     times = [int(it) for it in re.findall(r" (\d+) ms", lines[-1])]
@@ -1499,7 +1504,8 @@ def forgotten_from(server):
 
 
 def warnings(server):
-    return [line for line in server.log_lines() if line.startswith("[WARN  mq_nights::")]
+    """Its warnings of nights, but for those of a file, whose path they begin with."""
+    return [line for line in server.log_lines() if re.match(r"\[WARN  night\] (?!/)", line)]
 
 
 def wrong_clocks(world, checks):
@@ -1615,7 +1621,7 @@ def at_other_times(world, checks):
             said = file.read()
         begins = f"forgot the days before {day - KEEP} on day {day}, in "
         checks.holds(f"{what}: the note", said.startswith(begins), begins, said)
-    line = "[WARN  mq_nights::lookout] days to be forgotten: no clock; next attempt in an hour"
+    line = "[WARN  night] days to be forgotten: no clock; next attempt in an hour"
     for what, moment in [("1970-01-01", 3_600), ("the year 3000", 32_503_683_600)]:
         path = f"{world.folder}/no clock{moment}"
         made_of(world, path, [request(number, 10 + number % 6) for number in range(1, 20)])
@@ -1852,7 +1858,7 @@ def on_full_disks(world, checks):
 
 def stay_line(day, why):
     """What is logged where the days before one stay."""
-    return f"[WARN  mq_nights::evening] days before {day} stay: {why}; next attempt in an hour"
+    return f"[WARN  night] days before {day} stay: {why}; next attempt in an hour"
 
 
 def on_a_full_disk(world, checks, source, books, room):
@@ -1930,7 +1936,7 @@ def as_a_disk_fills(world, checks, source, books, day, room):
                 else [stay_line(day - KEEP, "too little room on the disk")]
             )
             given_up = (
-                f"[WARN  mq_program::caretaker] {reserve} is given up: No space left on device (os"
+                f"[WARN  disk] {reserve} is given up: No space left on device (os"
                 " error 28); make room"
             )
             checks.equal(f"{what}: what is warned of", lines, [*whys, given_up])

@@ -323,7 +323,7 @@ STEPS = [
 CALLS = [
     "dh_installdocs ",
     "dh_installsystemd --no-enable --no-start --restart-after-upgrade",
-    "dh_compress -X.md -X.svg -XNEWS",
+    "dh_compress -X.md -X.svg -X.json -X.yml -XNEWS",
     "dh_strip --no-automatic-dbgsym",
     "dh_gencontrol -- -v{version}~unproved",
     "dh_builddeb --destdir={dist}",
@@ -495,8 +495,14 @@ def quick_start(world, checks):
             [
                 "systemctl enable --now mailquota",
                 f"vi {machine.folder}/etc/smtpd.conf",
+                "systemctl daemon-reload",
                 "systemctl restart opensmtpd",
             ],
+        )
+        checks.equal(
+            "README's server and mail host: what restarts smtpd",
+            machine.read("etc/systemd/system/opensmtpd.service.d/smtpd-restart.conf"),
+            text_of("smtpd-restart.conf"),
         )
         the_first_550(world, checks, machine, server, limits)
 

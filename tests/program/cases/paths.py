@@ -317,7 +317,7 @@ def links_beside_a_ledger(world, checks):
         prevented = [
             of_store(f"{path}.old", "not a plain file").rstrip(),
             (
-                f"[WARN  mq_nights::evening] days before {day} stay: no new store; next attempt in"
+                f"[WARN  night] days before {day} stay: no new store; next attempt in"
                 " an hour"
             ),
         ]
@@ -448,7 +448,7 @@ def nights_of_others(world, checks, user):
             [
                 of_store(f"{path}.part", NOT_ALLOWED).rstrip(),
                 (
-                    f"[WARN  mq_nights::evening] days before {day} stay: no new store; next attempt"
+                    f"[WARN  night] days before {day} stay: no new store; next attempt"
                     " in an hour"
                 ),
             ],
@@ -476,7 +476,7 @@ def nights_of_others(world, checks, user):
         checks.equal(
             f"{what}, once it may be: days leave, warnings, and whether the earlier note is told",
             (is_through(server), warned_of(server), told),
-            (True, [f"[WARN  mq_program::last_night] {note}: {NOT_ALLOWED}"], []),
+            (True, [f"[WARN  night] {note}: {NOT_ALLOWED}"], []),
         )
         server.process.kill()
         server.status()

@@ -494,7 +494,7 @@ def ends(world, checks):
             ),
         )
         log = (
-            f"[ERROR mq_program::serving] listening on {one.address}: Address already in use (os"
+            f"[ERROR server] listening on {one.address}: Address already in use (os"
             " error 98)\n"
         )
         checks.equal("a port in use", two, (1, b"", log + "mailquota: listen failed\n"))
@@ -503,7 +503,7 @@ def ends(world, checks):
         wanted = [
             begun("memory"),
             *(
-                f"[INFO  mq_program::serving] {line}"
+                f"[INFO  server] {line}"
                 for line in (
                     f"listening on {server.listen} for 1 connections",
                     "ending after 1 connections",
@@ -521,7 +521,7 @@ def ends(world, checks):
         wanted = [
             begun("memory"),
             (
-                f"[INFO  mq_program::serving] listening on {server.listen} for any number of"
+                f"[INFO  server] listening on {server.listen} for any number of"
                 " connections"
             ),
         ]

@@ -17,8 +17,8 @@ from ends import unavailable, unreached, wait_past_midnight
 
 NETWORK_OF_ITS_OWN = 0x4000_0000
 HERE, OTHER_HERE = "192.0.2.7", "198.51.100.7"
-FAR_DAY = re.compile(r"\[WARN +mq_watch::watched\] connection of (\S+):\d+: host (\S+) reserves .*")
-LINE = re.compile(r"\[WARN +mq_watch::watched\] connection of (\S+): (may not .*)")
+FAR_DAY = re.compile(r"\[WARN +requests\] connection of (\S+):\d+: host (\S+) reserves .*")
+LINE = re.compile(r"\[WARN +requests\] connection of (\S+): (may not .*)")
 
 # The example of mailquota.toml(5).
 EXAMPLE = {
@@ -646,7 +646,7 @@ def refusal(world, text):
     status, output, errors = world.run(
         "server", "--config", settings, "--create", "--connections", "1"
     )
-    begins = f"[ERROR mq_program::permits] permits {path}: "
+    begins = f"[ERROR settings] permits {path}: "
     ends = "\nmailquota: permits can't be used\n"
     if (status, output) != (1, b"") or not errors.startswith(begins) or not errors.endswith(ends):
         return None
@@ -692,7 +692,7 @@ def bad_files(world, checks):
         world.run("server", "--config", settings, "--connections", "1"),
         fault(
             "permits can't be used",
-            log=f"[ERROR mq_program::permits] permits {missing}: No such file or directory (os error 2)\n",
+            log=f"[ERROR settings] permits {missing}: No such file or directory (os error 2)\n",
         ),
     )
     large = refusal(world, ADMIN + "#" * (1_048_577 - len(ADMIN)))

@@ -22,7 +22,7 @@ def no_file_to_wait_by(world, checks):
     )
     came = world.run("server", "--config", file, limit=("RLIMIT_NOFILE", 4))
     log = (
-        "[ERROR mq_connections::serving] waiting for connections: Too many open files (os error"
+        "[ERROR connections] waiting for connections: Too many open files (os error"
         " 24)\n"
     )
     checks.equal("a server with four files", came, fault("accept failed", log=log))

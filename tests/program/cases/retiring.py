@@ -149,11 +149,11 @@ OPEN = 800
 KILLS_OF_A_RETIRE = 24
 # what the filter of host mx1 says of its run 1
 RUN_IS_RETIRED = (
-    "[ERROR mq_client::retired] run 1 of host mx1 is retired, recipients are answered 451: restart"
+    "[ERROR filter] run 1 of host mx1 is retired, recipients are answered 451: restart"
     ' smtpd, but first see "A filter that is retired" in OPERATING.md'
 )
 RUN_IS_TAKEN = (
-    "[WARN  mq_client::retired] run 1 of host mx1 isn't retired at the server that answers now"
+    "[WARN  filter] run 1 of host mx1 isn't retired at the server that answers now"
 )
 ANOTHER_ZONE, NOT_OURS = "store has another zone", "store is not this ledger"
 BY_RULE = {"offset": None, "rule": CENTRAL_EUROPE}

@@ -61,7 +61,7 @@ def request(number, **more):
 
 def refused(path, cause):
     """What a start says that has no room for its reserve."""
-    return fault(NOT_OPENED, log=f"[ERROR mq_program::room] {path}.ballast: {cause}; {NEEDS}\n")
+    return fault(NOT_OPENED, log=f"[ERROR disk] {path}.ballast: {cause}; {NEEDS}\n")
 
 
 def reserve_of(path):
@@ -130,7 +130,7 @@ def a_reserve_that_cant_be_made(world, checks):
     with Server(world, words=["--create"], store=path, default=DEFAULT) as server:
         assert server.ask(wire.reserve(1)) == wire.granted(1, 1)
         came = wait_until(lambda: warned(server)), warned(server)
-    line = f"[WARN  mq_program::caretaker] {path}.ballast: Is a directory (os error 21)"
+    line = f"[WARN  disk] {path}.ballast: Is a directory (os error 21)"
     checks.equal("a folder in the reserve's way: what is said", came, (True, [line]))
 
 
@@ -140,7 +140,7 @@ LOST = "it was removed or replaced: run mailquota-backup before the server ends"
 
 
 def lost(path):
-    return f"[ERROR mq_program::caretaker] {path}: {LOST}"
+    return f"[ERROR disk] {path}: {LOST}"
 
 
 def files_that_are_removed(world, checks):
@@ -340,7 +340,7 @@ def started_again(world, path, filler):
 
 
 def given_up(path):
-    return f"[WARN  mq_program::caretaker] {path}.ballast is given up: {FULL}; make room"
+    return f"[WARN  disk] {path}.ballast is given up: {FULL}; make room"
 
 
 def a_disk_that_fills(world, checks):
@@ -413,14 +413,14 @@ def room_comes_back(world, checks):
             good = wait_until(lambda: len(warned(server)) > 1)
             wanted = [
                 given_up(path),
-                f"[WARN  mq_program::caretaker] {path}: {FULL}; make room",
+                f"[WARN  disk] {path}: {FULL}; make room",
             ]
             checks.equal(f"{what}: after a minute", (good, warned(server)), (True, wanted))
             filler.clear()
             clock.pass_to(clock.now() + 61)
             server.ask(wire.page())
             good = wait_until(lambda: is_whole(path))
-            line = f"[INFO  mq_program::caretaker] {path}.ballast: the disk has room again"
+            line = f"[INFO  disk] {path}.ballast: the disk has room again"
             checks.equal(
                 f"{what}: the reserve, and the log",
                 (good, server.log_lines()[-1], warned(server)),
@@ -432,7 +432,7 @@ def room_comes_back(world, checks):
 
 
 def former_given_up(path):
-    return f"[WARN  mq_program::caretaker] {path}.old is given up: {FULL}; make room"
+    return f"[WARN  disk] {path}.old is given up: {FULL}; make room"
 
 
 def gives_up_the_former_ledger(world, checks):
@@ -525,7 +525,7 @@ def a_night_on_a_full_disk(world, checks):
             day = first_day()
             wanted = [
                 (
-                    f"[WARN  mq_nights::evening] days before {day} stay:"
+                    f"[WARN  night] days before {day} stay:"
                     " too little room on the disk; next attempt in an hour"
                 ),
                 former_given_up(path),

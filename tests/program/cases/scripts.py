@@ -65,6 +65,7 @@ def run(world, checks):
     the_99th_of_a_hundred(world, checks)
     logs_without_recipients(world, checks)
     a_default_that_hits_nobody(world, checks)
+    usages(checks)
 
 
 class Limits:
@@ -181,8 +182,8 @@ def limits_that_cant_be_told(world, checks):
                 [],
                 1,
                 (
-                    "mailquota-limits: the server doesn't run: mailquota limits prints what is in"
-                    " its file\n"
+                    "mailquota-limits: no server runs here: while it is stopped, mailquota limits"
+                    " prints what is in its file\n"
                 ),
             ),
             (
@@ -408,3 +409,29 @@ def a_default_that_hits_nobody(world, checks):
             (0, b"set\n", ""),
         ],
     )
+
+
+def usages(checks):
+    """Each script that is called by hand says by `--help` how, as its first lines do; one that
+    can't use its words says so too, and does nothing."""
+    for name, wrong in (
+        ("mailquota-backup", [["-x"], []]),
+        ("mailquota-limits", [["-x"]]),
+        ("mailquota-recipients", []),
+        ("mail-host-check", [["-x"]]),
+    ):
+        with open(f"{CONTRIB}/{name}", encoding="ascii") as file:
+            usage = re.search(r"^# (usage: .*\n)", file.read(), re.MULTILINE)[1]
+        checks.equal(f"{name} --help", called(name, "--help"), (0, usage, ""))
+        for words in wrong:
+            checks.equal(
+                " ".join([name, *words]), called(name, *words), (2, "", f"{name}: {usage}")
+            )
+
+
+def called(name, *words):
+    """What a script of contrib comes to by these words."""
+    run = subprocess.run(
+        ["sh", f"{CONTRIB}/{name}", *words], capture_output=True, text=True, timeout=SECONDS
+    )
+    return run.returncode, run.stdout, run.stderr

@@ -23,7 +23,6 @@ OTHERS = {
     "df /var/lib/mailquota",
     "install -d -m 700 /var/lib/mailquota",
     "ip address show to 192.0.2.7",
-    "journalctl -u opensmtpd -o cat",
     "ln -s private/mailquota /var/lib/mailquota",
     "mailquota-limits --stopped",
     "ls -l",

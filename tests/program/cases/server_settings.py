@@ -70,7 +70,7 @@ class Cases:
         self.checks.equal(f"server settings, {what}", came, fault(wanted, log=log))
 
     def in_use(self, address=None, cause="Address already in use (os error 98)"):
-        return f"[ERROR mq_program::serving] listening on {address or self.address}: {cause}\n"
+        return f"[ERROR server] listening on {address or self.address}: {cause}\n"
 
     def files(self):
         for what, path, cause in [
@@ -139,6 +139,16 @@ class Cases:
         )
         self.expect("idle and log bad", self.text_of(idle=0, log=0), "setting idle: bad value")
         self.expect(
+            "log, permits and metrics bad",
+            self.text_of(log=0, permits=0, metrics=0),
+            "setting log: bad value",
+        )
+        self.expect(
+            "permits and metrics bad",
+            self.text_of(permits=0, metrics=0),
+            "setting permits: bad value",
+        )
+        self.expect(
             "store missing, default bad",
             self.text_of(store=None, default='"x"'),
             "setting store: missing",
@@ -152,6 +162,7 @@ class Cases:
             ("timeout", ["1", "60000"]),
             ("idle", ["1", "3600"]),
             ("log", ['"off"', '"error"', '"warn"', '"info"']),
+            ("metrics", [f'"{self.world.folder}/mailquota.prom"', "'a'"]),
         ]
         refused = [
             ("listen", ADDRESSES),
@@ -162,13 +173,15 @@ class Cases:
             ("timeout", ["0", "60001", '"300"', "300.0"]),
             ("idle", ["0", "3601", "-1", '"60"', "60.0"]),
             ("log", ['"debug"', '"Info"', "1"]),
+            ("permits", ['""', "1", "true", "['a']"]),
+            ("metrics", ['""', "1", "true", "['a']", "{}"]),
         ]
         # (with "info" it says first what it has opened, and with "off" nothing)
         logs = {'"off"': "", '"info"': f"{begun('memory')}\n{self.in_use()}"}
         logs |= dict.fromkeys(
             ["1", "366"],
             (
-                "[WARN  mq_program::serving] a ledger in memory forgets nothing, whatever `keep`"
+                "[WARN  server] a ledger in memory forgets nothing, whatever `keep`"
                 f" says\n{self.in_use()}"
             ),
         )

@@ -130,7 +130,7 @@ class AtATakenPort:
         self.world, self.checks, self.path = world, checks, path
         self.file = ledger_settings(world, path, listen=f"127.0.0.1:{port}")
         self.in_use = (
-            f"[ERROR mq_program::serving] listening on 127.0.0.1:{port}: Address already in use (os"
+            f"[ERROR server] listening on 127.0.0.1:{port}: Address already in use (os"
             " error 98)\n"
         )
 

@@ -20,6 +20,8 @@ WANTED = {
     "offset": "a whole number of minutes from -1439 to 1439",
     "keep": "a whole number of days from 1 to 366",
     "rule": "a zone rule of at most 64 bytes, in quotes, in place of an offset",
+    "permits": "the path of a file, in quotes",
+    "metrics": "the path of a file, in quotes",
 }
 NOT_TOML = "settings are not TOML"
 

@@ -104,6 +104,7 @@ Usage: mailquota limits [OPTIONS]
 
 Options:
       --config <FILE>  Settings [default: /etc/mailquota/server.toml]
+      --json           Print JSON
   -h, --help           Print help
 """,
     ),
@@ -247,6 +248,7 @@ Usage: mailquota audit [OPTIONS]
 
 Options:
       --config <FILE>  Settings [default: /etc/mailquota/server.toml]
+      --json           Print JSON
   -h, --help           Print help
 """,
     ),

@@ -142,6 +142,15 @@ UNITS = {
     "mailquota-mail.service": MAILS,
     "wireguard-takeover.service": TAKEOVER,
     "addresses.conf": {"Service": {"IPAddressAllow": ["192.0.2.0/24"]}},
+    # (neither the folder nor its owner keeps the server from starting)
+    "metrics.conf": {
+        "Service": {
+            "ReadWritePaths": ["-/var/lib/prometheus/node-exporter"],
+            "ExecStartPre": [
+                "-+/bin/chown --reference=/var/lib/mailquota/. /var/lib/prometheus/node-exporter"
+            ],
+        }
+    },
     "smtpd-restart.conf": RESTARTS,
 }
 OF_KEEPALIVED = [
@@ -518,8 +527,12 @@ def units_in(folder, changed=lambda name, text: text):
     """All units in a folder, with programs that are there, and a unit of smtpd as Debian has one,
     with the drop-ins."""
     texts = {name: text_of(name) for name in UNITS}
-    for unit, its in (("opensmtpd", "smtpd-restart.conf"), ("mailquota", "addresses.conf")):
-        os.makedirs(f"{folder}/{unit}.service.d")
+    for unit, its in (
+        ("opensmtpd", "smtpd-restart.conf"),
+        ("mailquota", "addresses.conf"),
+        ("mailquota", "metrics.conf"),
+    ):
+        os.makedirs(f"{folder}/{unit}.service.d", exist_ok=True)
         texts[f"{unit}.service.d/{its}"] = texts.pop(its)
     for name, text in {**texts, "opensmtpd.service": SMTPD}.items():
         with open(f"{folder}/{name}", "w", encoding="ascii") as file:
@@ -562,6 +575,7 @@ def verified(world, checks):
         "opensmtpd.service",
         "smtpd-restart.conf",
         "addresses.conf",
+        "metrics.conf",
     ]
     checks.equal(
         "units with a fault each: those of which it says nothing",

@@ -15,7 +15,7 @@ from ledger import decode
 DAY = 86_400
 # the levels of lines: the default one of a server shows the first two, and info all
 ERROR, WARN, INFO = "error", "warn", "info"
-LINE = re.compile(r"\[(ERROR|WARN|INFO) +mq_watch::watched\] connection of (\S+): (.*)")
+LINE = re.compile(r"\[(ERROR|WARN|INFO) +requests\] connection of (\S+): (.*)")
 
 
 def run(world, checks):

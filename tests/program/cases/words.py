@@ -234,7 +234,9 @@ def settings_that_are_not_named(world, checks):
         ["server"],
         ["server", "--create"],
         ["limits"],
+        ["limits", "--json"],
         ["audit"],
+        ["audit", "--json"],
         ["day"],
         ["forget", "--before=1", "--into=f"],
     ):
@@ -401,7 +403,7 @@ def words_of_a_server_and_an_audit(world, checks):
         wait_until(lambda: len(server.log_lines()) > 1)
         lines = [
             begun(f"{folder}/made"),
-            "[INFO  mq_program::serving] listening on 127.0.0.1:0 for 1000000 connections",
+            "[INFO  server] listening on 127.0.0.1:0 for 1000000 connections",
         ]
         came = without_time(server.log_lines()), server.ask(page())
         checks.equal(

@@ -2,7 +2,7 @@
 ghost use Rattle.std.specs.Prelude.{◌≡◌, ◌++◌, OnOk, IfOk, string_bytes, replicate};
 ghost use Rattle.std.specs.Io.KnownBytes.{Appends};
 ghost use Rattle.mq_stream.specs.Flow.{AppendsFront};
-ghost use Rattle.mq_command.specs.Report.{column, row_line, report_lines};
+ghost use Rattle.mq_command.specs.Report.{column, report_lines, right, row_line, row_line_in};
 
 use crate::output::{OutputFault, write_whole};
 use crate::printed::login_text;
@@ -10,8 +10,8 @@ use mq_request::UsageRow;
 use std::alloc::{AllocError, Global};
 use std::io::Write;
 
-/// How many places a number takes.
-const PLACES: usize = 7;
+/// How many places a number takes that has no more digits.
+pub const PLACES: usize = 7;
 
 fn push_spaces(line: &mut String, count: usize) -> Result<(), AllocError>
     ensures { OnOk result (string_bytes line.new ≡ string_bytes line.old ++ replicate count 32) }
@@ -22,25 +22,37 @@ fn push_spaces(line: &mut String, count: usize) -> Result<(), AllocError>
     Ok(())
 }
 
-/// A number, right in its places, and a space.
-fn push_column(alloc: Global, line: &mut String, number: u32) -> Result<(), AllocError>
-    ensures { OnOk result (string_bytes line.new ≡ string_bytes line.old ++ column number) }
+/// A word, right in so many places.
+pub fn push_right(line: &mut String, places: usize, word: &str) -> Result<(), AllocError>
+    ensures { OnOk result (string_bytes line.new ≡ string_bytes line.old ++ right places word.now) }
+{
+    push_spaces(line, places.saturating_sub(word.len()))?;
+    line.push_str(word)
+}
+
+/// A number, right in so many places, and a space.
+fn push_column(
+    alloc: Global,
+    line: &mut String,
+    places: usize,
+    number: u32,
+) -> Result<(), AllocError>
+    ensures { OnOk result (string_bytes line.new ≡ string_bytes line.old ++ column places number) }
 {
     let digits = number.to_string(alloc)?;
-    push_spaces(line, PLACES.saturating_sub(digits.len()))?;
-    line.push_str(digits.as_str())?;
+    push_right(line, places, digits.as_str())?;
     line.push(' ')
 }
 
-/// The line of a login: what is settled and reserved and the limit, each right in 7 places and a
-/// space, and the login's text.
-pub fn row_text(alloc: Global, row: &UsageRow) -> Result<String, AllocError>
-    ensures { IfOk result (λ line. string_bytes line ≡ row_line row.now) }
+/// The line of a login: what is settled and reserved and the limit, each right in so many places and
+/// a space, and the login's text.
+pub fn row_text(alloc: Global, places: usize, row: &UsageRow) -> Result<String, AllocError>
+    ensures { IfOk result (λ line. string_bytes line ≡ row_line_in places row.now) }
 {
     let mut line = String::new(alloc);
-    push_column(alloc, &mut line, row.settled)?;
-    push_column(alloc, &mut line, row.reserved)?;
-    push_column(alloc, &mut line, row.cap)?;
+    push_column(alloc, &mut line, places, row.settled)?;
+    push_column(alloc, &mut line, places, row.reserved)?;
+    push_column(alloc, &mut line, places, row.cap)?;
     line.push_str(login_text(alloc, row.login.as_slice())?.as_str())?;
     line.push('\n')?;
     Ok(line)
@@ -53,7 +65,7 @@ pub fn write_row<W: Write>(alloc: Global, output: &mut W, row: &UsageRow) -> Res
     ensures front { AppendsFront (W.contents output.old) (W.contents output.new)
         (row_line row.now) }
 {
-    let line = row_text(alloc, row)?;
+    let line = row_text(alloc, PLACES, row)?;
     write_whole(output, line.as_bytes())
 }
 

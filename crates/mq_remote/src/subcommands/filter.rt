@@ -1,17 +1,21 @@
 //! `filter`: answers smtpd on standard input and output.
 ghost use Rattle.std.specs.Prelude.{◌↔◌, ◌<◌, ◌*◌, IfOk, IfSome, IsTrue};
 ghost use Rattle.mq_request.specs.Range.{IsRun};
+ghost use Rattle.mq_process.specs.Links.{AsksOver};
 ghost use Rattle.mq_process.specs.Settings.{CanAsk};
 ghost use Rattle.mq_remote.specs.Filters.{AnswersLines, Begins, ChecksServer};
 ghost use Rattle.mq_remote.specs.Filters.{FiltersFile, FiltersNumbered, FiltersRun, streams};
 
 use crate::fault::FilterEnd;
-use log::sink::Console;
+use crate::measured_link::MeasuredLink;
+use crate::measured_log::MeasuredLog;
 use log::{LevelFilter, Log, Logged, error, info, warn};
-use mq_client::{Client, Spans, run_filter};
+use mq_client::{Client, Observer, Spans, run_filter};
 use mq_link::{Link, LoggedLink};
+use mq_metrics::FilterMetrics;
 use mq_process::{
-    Dial, FilterArguments, ProcessFault, Question, WallClock, ask_once, filter_settings, run_number,
+    Console, Dial, FilterArguments, ProcessFault, Question, WallClock, ask_once, filter_settings,
+    run_number,
 };
 use mq_request::EscapedText;
 use mq_settings::FilterSettings;
@@ -22,7 +26,7 @@ use std::rt::Files;
 
 /// Runs the filter until its input ends: the settings first, then the clock. What smtpd writes comes
 /// from `input`, and `output` takes what it is answered. With `check` it uses neither, and only asks
-/// whether the server of its settings takes the requests of its host.
+/// whether the server of its settings takes the requests of its host. Its figures name `version`.
 pub fn filter<
     R: Files + WallClock + Print + Eprint + AllocGlobal,
     D: Dial,
@@ -33,6 +37,7 @@ pub fn filter<
     rt: &R,
     dial: &D,
     given: FilterArguments<'_>,
+    version: &str,
     input: &mut S,
     output: &mut W,
     errors: &mut E,
@@ -46,17 +51,18 @@ pub fn filter<
 {
     match filter_settings(rt, given.config) {
         Ok(settings) if given.check => check_server(rt, dial, &settings, errors),
-        Ok(settings) => run_numbered(rt, dial, &settings, given.run, input, output),
+        Ok(settings) => run_numbered(rt, dial, &settings, given.run, version, input, output),
         Err(fault) => Err(FilterEnd::Process(fault)),
     }
 }
 
 /// Runs the filter under the run number that is given, or under the clock's.
-fn run_numbered<R: WallClock + Eprint + AllocGlobal, D: Dial, S: Source, W: Sink>(
+fn run_numbered<R: Files + WallClock + Eprint + AllocGlobal, D: Dial, S: Source, W: Sink>(
     rt: &R,
     dial: &D,
     settings: &FilterSettings,
     given: Option<u64>,
+    version: &str,
     input: &mut S,
     output: &mut W,
 ) -> Result<u8, FilterEnd>
@@ -69,7 +75,7 @@ fn run_numbered<R: WallClock + Eprint + AllocGlobal, D: Dial, S: Source, W: Sink
         (W.contents output.new) (W.has_failed output.new)) result }
 {
     match run_number(rt, given) {
-        Ok(run) => run_client(rt, dial, settings, run, input, output),
+        Ok(run) => run_client(rt, dial, settings, run, version, input, output),
         Err(fault) => Err(FilterEnd::Process(fault)),
     }
 }
@@ -133,11 +139,12 @@ fn client_of(alloc: Global, settings: &FilterSettings, run: u64) -> Result<Clien
 }
 
 /// Runs the filter under this run number, over a link to the server of the settings.
-fn run_client<R: Eprint + AllocGlobal, D: Dial, S: Source, W: Sink>(
+fn run_client<R: Files + WallClock + Eprint + AllocGlobal, D: Dial, S: Source, W: Sink>(
     rt: &R,
     dial: &D,
     settings: &FilterSettings,
     run: u64,
+    version: &str,
     input: &mut S,
     output: &mut W,
 ) -> Result<u8, FilterEnd>
@@ -156,17 +163,50 @@ fn run_client<R: Eprint + AllocGlobal, D: Dial, S: Source, W: Sink>(
     let host = EscapedText(settings.host.as_slice());
     let server = settings.server;
     info!(logged; "the filter of host {host} begins its run {run}, with the server {server}");
-    let timeout = u64::from(settings.timeout);
-    let mut link = LoggedLink::new(
-        dial.link(server, timeout, settings.keep_connection),
+    count_lines(
+        rt,
+        dial,
+        settings,
+        version,
         &logged,
-        settings.tries,
-    );
-    answer_lines(&logged, rt.alloc(), input, output, &mut link, &mut client)
+        input,
+        output,
+        &mut client,
+    )
+}
+
+/// Answers the lines of the input over a link to the server of the settings. What is done is
+/// counted, and written as the settings say.
+fn count_lines<R: Files + WallClock + AllocGlobal, D: Dial, G: Log, S: Source, W: Sink>(
+    rt: &R,
+    dial: &D,
+    settings: &FilterSettings,
+    version: &str,
+    log: &G,
+    input: &mut S,
+    output: &mut W,
+    client: &mut Client,
+) -> Result<u8, FilterEnd>
+    ensures { AsksOver (λ link address timeout. D.leads link address timeout
+        × D.keeps link settings.now.keep_connection) D.Link.told
+        settings.now.server settings.now.timeout (λ old new _ _. AnswersLines client.old client.new
+        result old new (streams (S.remaining input.old) (S.reads input.old) (S.has_failed input.old)
+        (W.contents output.old) (W.has_failed output.old))
+        (streams (S.remaining input.new) (S.reads input.new) (S.has_failed input.new)
+        (W.contents output.new) (W.has_failed output.new))) }
+{
+    let metrics = FilterMetrics::new();
+    let measured = MeasuredLog::new(rt, log, &metrics, version, settings);
+    let timeout = u64::from(settings.timeout);
+    let link = dial.link(settings.server, timeout, settings.keep_connection);
+    let mut link = LoggedLink::new(MeasuredLink::new(link, rt, &metrics), log, settings.tries);
+    let ended = answer_lines(&measured, rt.alloc(), input, output, &mut link, client);
+    measured.end(client);
+    ended
 }
 
 /// Answers the lines of the input. Why that ends before their end is logged.
-fn answer_lines<G: Log, S: Source, W: Sink, K: Link>(
+fn answer_lines<G: Observer, S: Source, W: Sink, K: Link>(
     log: &G,
     alloc: Global,
     input: &mut S,

@@ -12,12 +12,11 @@ use crate::subcommands::shares::{
     share_number,
 };
 use crate::subcommands::stop::setter_of;
-use log::sink::Console;
 use log::{LevelFilter, Logged};
 use mq_command::{ServerErrors, Setter, run_fresh, run_limit};
 use mq_process::{
-    Dial, LimitArgument, LimitArguments, ProcessFault, WallClock, ask_each, checked, day_named,
-    found_servers, link_to, refuse, run_number, servers_or, tell_note,
+    Console, Dial, LimitArgument, LimitArguments, ProcessFault, WallClock, ask_each, checked,
+    day_named, found_servers, link_to, refuse, run_number, servers_or, tell_note,
 };
 use mq_request::bounds::LAST_DAY;
 use std::io;

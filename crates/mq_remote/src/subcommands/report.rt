@@ -10,16 +10,15 @@ ghost use Rattle.mq_remote.specs.Asked.{ReportsBy, ReportsRows, ReportsThere, is
 
 use crate::subcommands::shares::{are_several, check_few};
 use crate::subcommands::sums::report_together;
-use log::sink::Console;
 use log::{LevelFilter, Logged};
 use mq_command::{
     Errors, Form, ReportOrder, ReportedLogins, ServerErrors, print_columns, run_report, run_top,
 };
 use mq_link::Link;
 use mq_process::{
-    Dial, LoginArgument, ProcessFault, ReportArguments, TIMEOUT, ask_each, check_addresses,
-    day_named, end_process, form_of, found_servers, link_to, login_of, names_login, refused_login,
-    servers_or, tell_note,
+    Console, Dial, LoginArgument, ProcessFault, ReportArguments, TIMEOUT, ask_each,
+    check_addresses, day_named, end_process, form_of, found_servers, link_to, login_of,
+    names_login, refused_login, servers_or, tell_note,
 };
 use mq_request::bounds::LAST_DAY;
 use std::alloc::Global;

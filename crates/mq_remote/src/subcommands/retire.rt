@@ -7,11 +7,10 @@ ghost use Rattle.mq_process.specs.Refusals.{HasNoAddress, RetireRefuses};
 ghost use Rattle.mq_remote.specs.Asked.{AsksRetire, FindsByFilter, IsTarget, IsTargetOfFilter};
 ghost use Rattle.mq_remote.specs.Asked.{SendsOrder};
 
-use log::sink::Console;
 use log::{LevelFilter, Logged};
 use mq_command::{ServerErrors, run_retire};
 use mq_process::{
-    Dial, ProcessFault, RetireArguments, TIMEOUT, WallClock, ask_each, check_addresses,
+    Console, Dial, ProcessFault, RetireArguments, TIMEOUT, WallClock, ask_each, check_addresses,
     filter_settings_in_place, found_servers, link_to, run_number, servers_in_place, servers_or,
     texts_of,
 };

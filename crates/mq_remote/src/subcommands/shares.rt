@@ -12,14 +12,13 @@ ghost use Rattle.mq_remote.specs.Shares.{SharesEach, SharesNumber, SharesThere};
 ghost use Rattle.mq_remote.specs.Shares.{share_by, status_with, sum_with};
 ghost use Rattle.mq_remote.specs.declared.subcommands.shares.ShareOrder.TheVariants.{More};
 
-use log::sink::Console;
 use log::{LevelFilter, Logged};
 use mq_command::{
     Errors, NoAnswer, ServerErrors, Setter, ask_default, print_heading, print_sum, run_fresh_at,
     run_limit_at, run_resume, say_undone, share_of,
 };
 use mq_link::Link;
-use mq_process::{Dial, ProcessFault, address_of, link_to, refuse};
+use mq_process::{Console, Dial, ProcessFault, address_of, link_to, refuse};
 use mq_request::{Id, Request};
 use std::alloc::{AllocError, Global};
 use std::io;

@@ -10,13 +10,12 @@ ghost use Rattle.mq_remote.specs.Stops.{AsksUse, UseAt};
 
 use crate::subcommands::shares::{ShareOrder, ShareTask, are_several, check_few, share_number};
 use crate::subcommands::stopping::{ask_use, stop_everywhere};
-use log::sink::Console;
 use log::{LevelFilter, Logged};
 use mq_command::{SentLately, ServerErrors, Setter, StopOrder, run_restore, run_resume};
 use mq_process::{
-    Dial, LoginArgument, ProcessFault, ResumeArguments, StopArguments, WallClock, address_of,
-    ask_each, checked, day_named, day_to_stop, found_servers, link_to, login_of, run_number,
-    servers_or, tell_note,
+    Console, Dial, LoginArgument, ProcessFault, ResumeArguments, StopArguments, WallClock,
+    address_of, ask_each, checked, day_named, day_to_stop, found_servers, link_to, login_of,
+    run_number, servers_or, tell_note,
 };
 use mq_request::Host;
 use mq_request::bounds::LAST_DAY;

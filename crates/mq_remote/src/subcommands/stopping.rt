@@ -10,12 +10,11 @@ ghost use Rattle.mq_process.specs.declared.asking.TheConstants.{TIMEOUT};
 ghost use Rattle.mq_remote.specs.Stops.{Adds, EndsAs, EndsWith, StopsAll, StopsAt, StopsEach};
 ghost use Rattle.mq_remote.specs.Stops.{StopsIn, StopsOn, StopsRest, UseAt};
 
-use log::sink::Console;
 use log::{LevelFilter, Logged};
 use mq_command::{
     SentLately, ServerErrors, Setter, StopEnd, StopOrder, has_sent, run_stop, say_undone,
 };
-use mq_process::{Dial, address_of, elapsed, link_to, tell_server};
+use mq_process::{Console, Dial, address_of, elapsed, link_to, tell_server};
 use std::io::Write;
 use std::net::SocketAddr;
 use std::rt::Clock;

@@ -6,12 +6,11 @@ ghost use Rattle.mq_command.specs.Totals.{IsMeant};
 ghost use Rattle.mq_process.specs.declared.asking.TheConstants.{TIMEOUT};
 ghost use Rattle.mq_remote.specs.Totals.{AsksTogether, InStep};
 
-use log::sink::Console;
 use log::{LevelFilter, Log, Logged};
 use mq_command::{ReportOrder, run_totals};
 use mq_dates::date_of_day;
 use mq_link::LoggedLink;
-use mq_process::{Dial, ProcessFault, address_of, link_to};
+use mq_process::{Console, Dial, ProcessFault, address_of, link_to};
 use std::alloc::{AllocError, Global};
 use std::io;
 use std::io::{BufWriter, Write};

@@ -23,6 +23,7 @@ pub enum Key {
     Idle,
     Log,
     Permits,
+    Metrics,
 }
 
 impl Key {
@@ -47,6 +48,7 @@ impl Key {
             Key::Idle => "idle",
             Key::Log => "log",
             Key::Permits => "permits",
+            Key::Metrics => "metrics",
         }
     }
 
@@ -67,7 +69,7 @@ impl Key {
             Key::KeepConnection => "true or false, without quotes",
             Key::Idle => "a whole number of seconds from 1 to 3600",
             Key::Log => "off, error, warn or info, in quotes",
-            Key::Permits => "the path of a file, in quotes",
+            Key::Permits | Key::Metrics => "the path of a file, in quotes",
         }
     }
 }

@@ -6,7 +6,7 @@ ghost use Rattle.toml.specs.View.{view, table_view};
 ghost use Rattle.mq_settings.specs.Settings.{IsTextAt, IsHostAt, IsAddressAt, count_at, count_in};
 ghost use Rattle.mq_settings.specs.Settings.{keep_at, keep_connection_at, IsZoneByRule, IsZoneAt};
 ghost use Rattle.mq_settings.specs.Settings.{level_named, level_at, zone_by_offset, IsPlaceAt};
-ghost use Rattle.mq_settings.specs.Settings.{IsPermitsPathAt};
+ghost use Rattle.mq_settings.specs.Settings.{IsPathAt};
 
 use crate::settings::address::address_flaw;
 use crate::settings::fault::SettingsFault;
@@ -215,17 +215,17 @@ pub fn read_place(alloc: Global, table: &Table) -> Result<Place, SettingsFault>
     Ok(Place::File(String::from_str(alloc, text)?))
 }
 
-/// The path of the file that lists who may ask what: none, where the key is absent.
-pub fn read_permits_path(alloc: Global, table: &Table) -> Result<Option<String>, SettingsFault>
-    ensures ok { IfOk result (λ path. IsPermitsPathAt (table_view table.now) (Ok path)) }
+/// The path of a file: none, where the key is absent.
+pub fn read_path(alloc: Global, table: &Table, key: Key) -> Result<Option<String>, SettingsFault>
+    ensures ok { IfOk result (λ path. IsPathAt key (table_view table.now) (Ok path)) }
     ensures fault { IfErr result (λ e. e ≢ SettingsFault.Memory
-        → IsPermitsPathAt (table_view table.now) (Err e)) }
+        → IsPathAt key (table_view table.now) (Err e)) }
 {
-    let Some(value) = value_at(table, Key::Permits) else {
+    let Some(value) = value_at(table, key) else {
         return Ok(None);
     };
     match value.as_str() {
         Some(path) if !path.is_empty() => Ok(Some(String::from_str(alloc, path)?)),
-        _ => Err(SettingsFault::Bad(Key::Permits)),
+        _ => Err(SettingsFault::Bad(key)),
     }
 }

@@ -2,12 +2,14 @@
 
 use super::{FIRST, Row, SECOND, THIRD, check_rows};
 use crate::server_end::asserts::{MEMORY, assert_bytes, assert_that};
+use crate::server_end::counting::metrics_of;
 use crate::server_end::fixtures::{bytes_of, request_of, stranger};
 use crate::server_end::serving::ledger;
 use crate::server_end::watching::Shown;
-use log::sink::Memory as Kept;
+use log::sink::{Discard, Memory as Kept};
 use mq_connections::ServingEnd;
 use mq_ledger::{Ledger, LedgerFault, Zone};
+use mq_metrics::{RequestKind, RequestResult};
 use mq_request::{Reply, Request};
 use mq_server::Connection;
 use mq_watch::{Hear, WatchedLedger};
@@ -317,5 +319,35 @@ fn each_is_logged_with_its_peer(rt: HostRuntime) -> Result<(), Fail> {
         assert_that(&rt, line.as_str() == wanted, line.as_str());
     }
     assert_that(&rt, lines.len() == 2, "two lines");
+    Ok(())
+}
+
+/// Each of those that are taken together is counted for itself, and the ledger's time once.
+#[test]
+fn requests_taken_together_are_counted(rt: HostRuntime) -> Result<(), Fail> {
+    let alloc = rt.alloc();
+    let (clock, rounds) = (Shown(Cell::new(86_400)), Cell::new((0, 0)));
+    let metrics = metrics_of(&rt, alloc);
+    let together = Together {
+        ledger: ledger(&rt, alloc, 3),
+        fault: None,
+        rounds: &rounds,
+    };
+    let mut watched = WatchedLedger::new(&clock, &Discard, alloc, together, None);
+    watched = watched.with_metrics(&metrics);
+    let mut replies = Vec::new(alloc);
+    let peers = vec![in alloc;
+        stranger("192.0.2.7:1".parse()?),
+        stranger("192.0.2.8:2".parse()?),
+    ]?;
+    let taken = watched.apply_all_of(None, peers, &far(&rt, alloc, 2), &mut replies);
+    drop(watched);
+    assert_that(&rt, taken == Ok(()), "they are taken");
+    let granted = metrics
+        .requests
+        .of(RequestKind::Reserve, RequestResult::Granted);
+    assert_that(&rt, granted.get() == 2, "both were granted");
+    assert_that(&rt, metrics.granted.get() == 2, "a recipient each");
+    assert_that(&rt, metrics.commits.count() == 1, "one time for both");
     Ok(())
 }

@@ -14,4 +14,4 @@ returns-clause-rows g c kept =
 
 pub returns-clause-listed : goal.returns-clause-listed
 returns-clause-listed g c kept =
-    listed_still (file_state c.in_ok-ledger.ledger.connection).now (file_state c.in_ok-ledger-2.ledger.connection).now _ _ (c.in_ok-ledger-2.ensures.same kept) (c.in_ok-ledger-2.ensures.listed kept)
+    listed_still c.args.form (file_state c.in_ok-ledger.ledger.connection).now (file_state c.in_ok-ledger-2.ledger.connection).now _ _ (c.in_ok-ledger-2.ensures.same kept) (c.in_ok-ledger-2.ensures.listed kept)

@@ -1,19 +1,20 @@
-use Rattle.std.proofs.Common.{◌≡◌, ◌∙◌, refl, sym, subst, subst₂}
+use Rattle.std.proofs.Common.{◌≡◌, ◌∙◌, ℕ, Ok, refl, sym, subst, subst₂}
 use Rattle.sqlite.specs.Held.{state}
 use Rattle.mq_store.specs.Soundness.{book_in, HasKept, IsSound}
 use Rattle.mq_connections.specs.Asking.{out}
 use Rattle.mq_connections.specs.Gained.{callers}
 use Rattle.mq_program.specs.Nights.{Begun, HasDawned, HasPassed}
 use Rattle.mq_program.proofs.NightSteps.{dawn_on, end_on, passed_still}
+use Rattle.mq_program.proofs.ServingEnds.{no_fault}
 use Rattle.mq_program.proofs.nights.pass_nights.Goals as goal
 
 pub loop-night-init : goal.loop-night-init
 loop-night-init g c =
     let l = c.args.ledger in
     let start = out (book_in l.zone l.default (state g.N.Store l.connection).now) (g.W.Network.wire c.args.network.now) in (
-      λ _. subst (λ x. HasKept (state g.N.Store x.connection) → HasKept (state g.N.Store l.connection)) (sym c.new-serving.ensures) (λ k. k),
-      λ _ _ sound. subst (λ x. HasKept (state g.N.Store x.connection) → (x.zone ≡ l.zone) × (x.default ≡ l.default) × HasDawned (callers c.args.nights.now.permits g.W.Network.peers) l.zone l.default start (state g.N.Store x.connection) (g.W.Network.wire c.args.network.now))
-          (sym c.new-serving.ensures) (λ _. (refl, refl, (sound, Begun))),
+      λ _. subst (λ x. HasKept (state g.N.Store x.connection) → HasKept (state g.N.Store l.connection)) (sym (c.counted-serving.ensures ∙ c.new-serving.ensures)) (λ k. k),
+      λ _ _ sound. subst (λ x. HasKept (state g.N.Store x.connection) → (x.zone ≡ l.zone) × (x.default ≡ l.default) × HasDawned (callers c.args.nights.now.permits g.W.Network.peers) g.R.Moments.shows c.args.nights.now.keep l.zone l.default start (state g.N.Store x.connection) (g.W.Network.wire c.args.network.now))
+          (sym (c.counted-serving.ensures ∙ c.new-serving.ensures)) (λ _. (refl, refl, (sound, Begun))),
     )
 
 -- one more night
@@ -47,7 +48,7 @@ returns-in-Err-clause-nights g c = λ kept fresh sound k.
     let e = c.in-Err.ensures in
     let (zone_is, default_is, (is, nights)) = c.loop-night.invariant.1 (e.closed kept) fresh sound (e.kept kept k) in
     end_on l.zone s.zone l.default s.default zone_is default_is (out (book_in l.zone l.default (state g.N.Store l.connection).now) (g.W.Network.wire c.args.network.now))
-    old (g.W.Network.wire c.loop-night.network) (state g.N.Store c.in-Err.served.ledger.connection) (g.W.Network.wire c.serve_to_dawn.new.network) nights
+    old (g.W.Network.wire c.loop-night.network) (state g.N.Store c.in-Err.served.ledger.connection) (g.W.Network.wire c.serve_to_dawn.new.network) nights c.in-Err.served.outcome
     (e.end kept fresh (subst₂ (λ z d. IsSound z d old) (sym zone_is) (sym default_is) is) k)
 
 -- after the last night of all
@@ -60,5 +61,5 @@ returns-clause-nights g c = λ kept fresh sound.
     let l = c.args.ledger in
     let s = c.loop-night.serving in
     let start = out (book_in l.zone l.default (state g.N.Store l.connection).now) (g.W.Network.wire c.args.network.now) in
-    subst (λ x. HasKept (state g.N.Store x.connection) → HasPassed (callers c.args.nights.now.permits g.W.Network.peers) l.zone l.default start (state g.N.Store x.connection) (g.W.Network.wire c.loop-night.network)) (sym c.into_inner.ensures) (λ k.
-    passed_still l.zone l.default start (state g.N.Store s.connection) (g.W.Network.wire c.loop-night.network) (c.nothing_is_served.ensures _) (c.loop-night.invariant.1 kept fresh sound k).2)
+    subst (λ x. HasKept (state g.N.Store x.connection) → HasPassed {A = ℕ} (callers c.args.nights.now.permits g.W.Network.peers) g.R.Moments.shows c.args.nights.now.keep l.zone l.default start (state g.N.Store x.connection) (g.W.Network.wire c.loop-night.network) (Ok 0)) (sym c.into_inner.ensures) (λ k.
+    passed_still l.zone l.default start (state g.N.Store s.connection) (g.W.Network.wire c.loop-night.network) (Ok 0) (no_fault 0) (c.nothing_is_served.ensures _) (c.loop-night.invariant.1 kept fresh sound k).2)

@@ -15,6 +15,6 @@ invariant-loop-night g l =
     → IsSound l.fn.ledger.zone l.fn.ledger.default (state g.N.Store l.fn.ledger.connection)
     → HasKept (state g.N.Store l.serving.connection)
     → (l.serving.zone ≡ l.fn.ledger.zone) × (l.serving.default ≡ l.fn.ledger.default)
-    × HasDawned (callers l.nights.permits g.W.Network.peers) l.fn.ledger.zone l.fn.ledger.default
+    × HasDawned (callers l.nights.permits g.W.Network.peers) g.R.Moments.shows l.nights.keep l.fn.ledger.zone l.fn.ledger.default
     (out (book_in l.fn.ledger.zone l.fn.ledger.default (state g.N.Store l.fn.ledger.connection).now) (g.W.Network.wire l.fn.network))
     (state g.N.Store l.serving.connection) (g.W.Network.wire l.network))

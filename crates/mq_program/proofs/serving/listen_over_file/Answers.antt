@@ -15,28 +15,28 @@ use Rattle.mq_program.proofs.serving.listen_over_file.Goals as goal
 pub returns-clause-begun : goal.returns-clause-begun
 returns-clause-begun g c opened kept =
     let before = file_state c.in_ok-ledger.ledger.connection in
-    let after = file_state c.listen_over.result.ledger.connection in
-    let outcome = c.listen_over.result.outcome in
+    let after = file_state c.listen_and_tend.result.ledger.connection in
+    let outcome = c.listen_and_tend.result.outcome in
     let wires = g.W.Network.wire c.args.network.now in
-    let wires_after = g.W.Network.wire c.listen_over.new.network in
+    let wires_after = g.W.Network.wire c.listen_and_tend.new.network in
     let (zone_is, default_is) = c.in_ok-ledger.ensures.lent in
     serves_from c.args.settings.now.zone c.args.settings.now.default before wires after wires_after outcome
-    (subst₂ (λ z d. IsSound z d before → IsSound z d after) zone_is default_is (c.listen_over.ensures.sound kept))
-    (subst₂ (λ z d. IsSound z d before → Serves (callers c.args.permits g.W.Network.peers) (out (book_in z d before.now) wires) (out (book_in z d after.now) wires_after) outcome) zone_is default_is (c.listen_over.ensures.serves kept))
-    (image_at g.S.Start) (c.in_ok-ledger.ensures.rows opened (c.listen_over.ensures.kept kept))
+    (subst₂ (λ z d. IsSound z d before → IsSound z d after) zone_is default_is (c.listen_and_tend.ensures.sound kept))
+    (subst₂ (λ z d. IsSound z d before → Serves (callers c.args.permits g.W.Network.peers) (out (book_in z d before.now) wires) (out (book_in z d after.now) wires_after) outcome) zone_is default_is (c.listen_and_tend.ensures.serves kept))
+    (image_at g.S.Start) (c.in_ok-ledger.ensures.rows opened (c.listen_and_tend.ensures.kept kept))
 
 pub returns-clause-made : goal.returns-clause-made
 returns-clause-made g c create kept =
     let before = file_state c.in_ok-ledger.ledger.connection in
-    let after = file_state c.listen_over.result.ledger.connection in
-    let outcome = c.listen_over.result.outcome in
+    let after = file_state c.listen_and_tend.result.ledger.connection in
+    let outcome = c.listen_and_tend.result.outcome in
     let wires = g.W.Network.wire c.args.network.now in
-    let wires_after = g.W.Network.wire c.listen_over.new.network in
+    let wires_after = g.W.Network.wire c.listen_and_tend.new.network in
     let (zone_is, default_is) = c.in_ok-ledger.ensures.lent in
     serves_from_nothing c.args.settings.now.zone c.args.settings.now.default before wires after wires_after outcome
-    (subst₂ (λ z d. IsSound z d before → IsSound z d after) zone_is default_is (c.listen_over.ensures.sound kept))
-    (subst₂ (λ z d. IsSound z d before → Serves (callers c.args.permits g.W.Network.peers) (out (book_in z d before.now) wires) (out (book_in z d after.now) wires_after) outcome) zone_is default_is (c.listen_over.ensures.serves kept))
-    (image_at g.S.Start) (c.in_ok-ledger.ensures.made create (c.listen_over.ensures.kept kept))
+    (subst₂ (λ z d. IsSound z d before → IsSound z d after) zone_is default_is (c.listen_and_tend.ensures.sound kept))
+    (subst₂ (λ z d. IsSound z d before → Serves (callers c.args.permits g.W.Network.peers) (out (book_in z d before.now) wires) (out (book_in z d after.now) wires_after) outcome) zone_is default_is (c.listen_and_tend.ensures.serves kept))
+    (image_at g.S.Start) (c.in_ok-ledger.ensures.made create (c.listen_and_tend.ensures.kept kept))
 
 pub returns-clause-remembered : goal.returns-clause-remembered
 returns-clause-remembered g c opened kept D H came legal in_range keeps =

@@ -1,0 +1,17 @@
+use Rattle.std.proofs.Common.{codes}
+use Rattle.std.specs.Fmt.{signed_decimal}
+use Rattle.std.specs.Prelude.{option_map}
+use Rattle.mq_command.proofs.Words.{rules, ◌++◌, ◌≡◌}
+use Rattle.mq_command.specs.Forms.{json_login}
+use Rattle.mq_command.specs.Listed.{json_date, json_limit}
+use Rattle.mq_command.proofs.Joins.{five_joined}
+use Rattle.mq_command.proofs.listed.push_limit.Goals as goal
+
+pub returns : goal.returns
+unfolding json_limit
+returns c =
+    let figure : c.push_figure.new.text.items ≡ c.push_login.new.text.items ++ (codes ",\"from_day\":" ++ signed_decimal c.args.day) = search rules in
+    let cap : c.push_figure-2.new.text.items ≡ c.push_date.new.text.items ++ (codes ",\"limit\":" ++ signed_decimal c.args.cap) = search rules in
+    five_joined c.args.text.now.items c.push_login.new.text.items c.push_figure.new.text.items c.push_date.new.text.items c.push_figure-2.new.text.items c.extend_from_slice.new.self.items
+    (codes "{\"login\":" ++ json_login c.args.login.now) (codes ",\"from_day\":" ++ signed_decimal c.args.day) (codes ",\"from_date\":" ++ json_date (option_map (λ d. d.now) c.args.date)) (codes ",\"limit\":" ++ signed_decimal c.args.cap) (codes "}")
+    c.in_ok-push_login.ensures figure c.in_ok-push_date.ensures cap c.in_ok-extend_from_slice.ensures.items
