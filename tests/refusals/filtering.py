@@ -113,8 +113,8 @@ def ending_of(status, output, last, told, exchanges, has_server):
 
 
 def wrong_log(log):
-    """What is wrong with the log, if anything: it has whole lines, each of what a filter has."""
-    if not all(re.match(r"\[(ERROR|WARN |INFO ) (filter|link)\] ", line) for line in log):
+    """What is wrong with the log, if anything: it has whole lines, each of a part of the filter."""
+    if not all(re.match(r"\[(ERROR|WARN |INFO ) (filter|link|settings)\] ", line) for line in log):
         return "lines of the log"
     return None
 
