@@ -93,8 +93,7 @@ def nights_until_the_next(world, checks):
 
         def stays(first):
             return (
-                f"[WARN  night] days before {first} stay: no new store; next attempt"
-                " in an hour"
+                f"[WARN  night] days before {first} stay: no new store; next attempt" " in an hour"
             )
 
         def lines():
@@ -245,8 +244,7 @@ def a_switch_and_its_repair(world, checks):
             ]
         else:
             wanted.append(
-                f"[INFO  night] ledger {path}: has days from {day} on, keeps {KEEP}"
-                " before today"
+                f"[INFO  night] ledger {path}: has days from {day} on, keeps {KEEP}" " before today"
             )
         checks.equal(
             f"{what}, and then none: what is logged of it and of days, and files",

@@ -395,9 +395,7 @@ def forgets_no_such_rows(world, checks):
         "--into",
         f"{source}.new",
     )
-    log = (
-        f"[INFO  ledger] {source}.new takes over what {source} has from day 1 on\n"
-    )
+    log = f"[INFO  ledger] {source}.new takes over what {source} has from day 1 on\n"
     checks.equal('forget with log = "info"', came, (0, b"kept answers=2 of 2, limits=0\n", log))
 
 

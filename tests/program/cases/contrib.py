@@ -1387,8 +1387,7 @@ def by_a_retired_filter(world, checks, server, host):
     smtpd.end()
     run = re.search(r" run (\d+) ", said[0])[1]
     return said, (
-        f"[WARN  filter] run {run} of host {host} isn't retired at the server that"
-        " answers now"
+        f"[WARN  filter] run {run} of host {host} isn't retired at the server that" " answers now"
     )
 
 

@@ -287,10 +287,7 @@ def of_sockets(world, checks):
             errno.ENOMEM,
             1,
             b"",
-            (
-                "[WARN  connections] connection of PEER: Cannot allocate memory (os"
-                " error 12)"
-            ),
+            ("[WARN  connections] connection of PEER: Cannot allocate memory (os" " error 12)"),
         ),
     ]:
         with Server(world, limit=("failing", f"{OF_SOCKETS[call]},{error},{before}")) as server:

@@ -212,8 +212,7 @@ def a_full_disk(world, checks, disk, larger, is_of_log):
         # room each minute)
         log = server.log_lines()[:-1]
         given_up, asks = (
-            f"[WARN  disk] {path}{it}: No space left on device (os error 28); make"
-            " room"
+            f"[WARN  disk] {path}{it}: No space left on device (os error 28); make" " room"
             for it in (".ballast is given up", "")
         )
         told = log[:-2]

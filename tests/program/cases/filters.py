@@ -66,14 +66,11 @@ SERVICE = b"reject|451 quota service unavailable"
 # what the log has of a login whose limit is reached, and of a server that gives no answer
 NAMED = "(host mx1, session 7641df9771b4ed00, login alice)"
 REFUSED_BY_LIMIT = (
-    f"[WARN  filter] reserve 1 of transaction 1 {NAMED}: refused by the limit, 3 used"
-    " of 3\n"
+    f"[WARN  filter] reserve 1 of transaction 1 {NAMED}: refused by the limit, 3 used" " of 3\n"
 )
 WHY_CLOSED = "[ERROR link] quota server ADDRESS: closed before its reply was whole"
 SERVER = "[WARN  link] quota server ADDRESS:"
-UNANSWERED_RESERVE = (
-    f"[INFO  filter] reserve 1 of transaction 1 {NAMED}: no answer in 3 tries"
-)
+UNANSWERED_RESERVE = f"[INFO  filter] reserve 1 of transaction 1 {NAMED}: no answer in 3 tries"
 UNANSWERED_RELEASE = (
     f"[INFO  filter] release 2 of transaction 1 {NAMED}: no answer in 3 tries, it waits"
 )
@@ -134,10 +131,7 @@ def scripted(
 def after_the_start(checks, what, errors, address):
     """The log of level info after its first line."""
     first, _, rest = errors.partition("\n")
-    wanted = (
-        "[INFO  filter] the filter of host mx1 begins its run 1, with the"
-        f" server {address}"
-    )
+    wanted = "[INFO  filter] the filter of host mx1 begins its run 1, with the" f" server {address}"
     checks.equal(f"{what}: the log's first line", first, wanted)
     return rest
 
@@ -445,10 +439,7 @@ def warnings(world, checks):
         log="error",
     )
     good = re.fullmatch(
-        (
-            r"\[ERROR link\] quota server 127.0.0.1:\d+: closed before its reply was"
-            r" whole\n"
-        ),
+        (r"\[ERROR link\] quota server 127.0.0.1:\d+: closed before its reply was" r" whole\n"),
         errors,
     )
     checks.holds(
@@ -556,9 +547,7 @@ def of_a_try(kind, number, said, level="WARN "):
 def told(checks, what, errors, lines):
     """These lines, next to what the link says of the server."""
     came = [
-        line
-        for line in errors.splitlines()
-        if not line.startswith("[ERROR link] quota server ")
+        line for line in errors.splitlines() if not line.startswith("[ERROR link] quota server ")
     ]
     checks.equal(f"{what}: the log", came, lines)
 
@@ -656,9 +645,7 @@ def holds_only(held):
 
 def settles_in(errors):
     """What the log says of settles: the level, the number, the transaction, and the rest."""
-    return re.findall(
-        r"\[(\w+) +filter\] settle (\d) of transaction (\d) [^:]*: (.*)\n", errors
-    )
+    return re.findall(r"\[(\w+) +filter\] settle (\d) of transaction (\d) [^:]*: (.*)\n", errors)
 
 
 def warnings_of_many_sessions(world, checks):
@@ -943,8 +930,7 @@ def without_a_question(world, checks):
         came = world.filter(server.address, INPUT + AUTH.replace(b"alice", b"bob") + RCPT)
     said = "the transaction began with another login or at another second"
     line = (
-        "[WARN  filter] session 7641df9771b4ed00 (login bob): recipients are refused,"
-        f" {said}\n"
+        "[WARN  filter] session 7641df9771b4ed00 (login bob): recipients are refused," f" {said}\n"
     )
     checks.equal(
         "another login within a transaction",

@@ -143,9 +143,7 @@ def a_switch_and_its_repair(world, checks):
         with nightly(world, path, log=level) as server:
             good = wait_until(lambda path=path: has_note(path))
             lines = [plain(it) for it in server.log_lines()]
-        undone = (
-            f"[INFO  night] {path}: an interrupted switch to a new file is undone"
-        )
+        undone = f"[INFO  night] {path}: an interrupted switch to a new file is undone"
         forgotten = (
             f"[INFO  night] ledger {path}: the days before {day} are forgotten, in N"
             " ms, the last N ms without an answer"
@@ -172,10 +170,7 @@ def pauses_of_a_filter(world, checks):
     pause = "no answer in time: nothing is asked for 30 seconds"
     reserves = f"of transaction 1 {NAMED}: no answer in 1 tries"
     wanted = [
-        (
-            "[INFO  filter] the filter of host mx1 begins its run 1, with"
-            " the server ADDRESS"
-        ),
+        ("[INFO  filter] the filter of host mx1 begins its run 1, with" " the server ADDRESS"),
         WHY,
         f"[INFO  filter] reserve 1 {reserves}",
         f"[WARN  filter] {pause}, recipients are answered 451",
@@ -210,20 +205,12 @@ def moves_of_a_filter(world, checks):
     too_many = [frame(b"\x89" + identity(n, **MX1) + number(0)) for n in (3, 4)]
     of_bob = NAMED.replace("alice", "bob").replace("7641df9771b4ed00", BOB.decode())
     wanted = [
-        (
-            "[INFO  filter] the filter of host mx1 begins its run 1, with"
-            " the server ADDRESS"
-        ),
+        ("[INFO  filter] the filter of host mx1 begins its run 1, with" " the server ADDRESS"),
         f"[WARN  filter] settle 3 of transaction 1 {NAMED}: {holds_only(0)}",
         f"[INFO  filter] settle 4 of transaction 2 {of_bob}: {holds_only(0)}",
         "[ERROR link] quota server ADDRESS: closed before its reply was whole",
         # (it is sent once more at the end)
-        *[
-            (
-                f"[INFO  filter] settle 6 of transaction 3 {NAMED}: no answer in 1 tries,"
-                " it waits"
-            )
-        ]
+        *[(f"[INFO  filter] settle 6 of transaction 3 {NAMED}: no answer in 1 tries," " it waits")]
         * 2,
         "[WARN  filter] the input ends, closings without an answer: 1",
     ]

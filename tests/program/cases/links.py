@@ -229,8 +229,5 @@ def a_port_in_use(world, checks):
             ' = "warn"\n'
         )
         came = world.run("server", "--config", file, "--connections", "1")
-    log = (
-        f"[ERROR server] listening on {address}: Address already in use (os error"
-        " 98)\n"
-    )
+    log = f"[ERROR server] listening on {address}: Address already in use (os error" " 98)\n"
     checks.equal("a port in use", came, (1, b"", log + "mailquota: listen failed\n"))

@@ -51,9 +51,7 @@ class Counting(Server):
         at its clock within five seconds."""
         before = moment_of(self.path)
         self.clock.pass_to(self.clock.now() + 61)
-        wait_until(
-            lambda: (not wakes or self.ask(wire.page())) and moment_of(self.path) != before
-        )
+        wait_until(lambda: (not wakes or self.ask(wire.page())) and moment_of(self.path) != before)
         return figures(self.path)
 
 
@@ -247,9 +245,7 @@ def connections(world, checks):
             labelled(came, "connections_given_up_total"),
             {("silent",): 1, ("cut_frame",): 1, ("bad_frame",): 1},
         )
-        buckets = [
-            value for key, value in came.items() if key.startswith("reply_seconds_bucket")
-        ]
+        buckets = [value for key, value in came.items() if key.startswith("reply_seconds_bucket")]
         checks.holds(
             "connections: the times of replies",
             buckets == sorted(buckets) and buckets[-1] == came["reply_seconds_count"] > 0,

@@ -259,10 +259,7 @@ def a_new_ledger(world, checks):
         wanted = [
             begun(path, default=DEFAULT),
             f"[INFO  night] ledger {path}: keeps {KEEP} days before today",
-            (
-                f"[INFO  server] listening on {server.listen} for any number of"
-                " connections"
-            ),
+            (f"[INFO  server] listening on {server.listen} for any number of" " connections"),
         ]
         checks.equal(
             "a new ledger: the log, and that it has the time of the start",
@@ -958,10 +955,7 @@ def a_switch_that_fails(world, checks):
                 ]
             if is_early:
                 break
-        stays = (
-            f"[WARN  night] {path}{of}: {why}; the former ledger stays until the"
-            " next night"
-        )
+        stays = f"[WARN  night] {path}{of}: {why}; the former ledger stays until the" " next night"
         wanted = (
             (True, 1, [of_store(f"{path}{of}", why).rstrip(), f"mailquota: {NOT_OPENED}"])
             if left

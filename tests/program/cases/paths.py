@@ -316,10 +316,7 @@ def links_beside_a_ledger(world, checks):
             came = is_through(server), warned_of(server)
         prevented = [
             of_store(f"{path}.old", "not a plain file").rstrip(),
-            (
-                f"[WARN  night] days before {day} stay: no new store; next attempt in"
-                " an hour"
-            ),
+            (f"[WARN  night] days before {day} stay: no new store; next attempt in" " an hour"),
         ]
         is_over = left == NOTED
         checks.equal(
@@ -447,10 +444,7 @@ def nights_of_others(world, checks, user):
             warned_of(server),
             [
                 of_store(f"{path}.part", NOT_ALLOWED).rstrip(),
-                (
-                    f"[WARN  night] days before {day} stay: no new store; next attempt"
-                    " in an hour"
-                ),
+                (f"[WARN  night] days before {day} stay: no new store; next attempt" " in an hour"),
             ],
         )
         server.process.kill()

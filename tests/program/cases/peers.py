@@ -494,8 +494,7 @@ def ends(world, checks):
             ),
         )
         log = (
-            f"[ERROR server] listening on {one.address}: Address already in use (os"
-            " error 98)\n"
+            f"[ERROR server] listening on {one.address}: Address already in use (os" " error 98)\n"
         )
         checks.equal("a port in use", two, (1, b"", log + "mailquota: listen failed\n"))
     with Server(world, connections=1, log="info") as server:
@@ -520,10 +519,7 @@ def ends(world, checks):
         server.ask(usage())
         wanted = [
             begun("memory"),
-            (
-                f"[INFO  server] listening on {server.listen} for any number of"
-                " connections"
-            ),
+            (f"[INFO  server] listening on {server.listen} for any number of" " connections"),
         ]
         checks.equal(
             '--endless, with log = "info": its start', without_time(server.log_lines()), wanted

@@ -21,8 +21,5 @@ def no_file_to_wait_by(world, checks):
         toml({"listen": "127.0.0.1:0", "store": "memory", "default": 3, "offset": 0})
     )
     came = world.run("server", "--config", file, limit=("RLIMIT_NOFILE", 4))
-    log = (
-        "[ERROR connections] waiting for connections: Too many open files (os error"
-        " 24)\n"
-    )
+    log = "[ERROR connections] waiting for connections: Too many open files (os error" " 24)\n"
     checks.equal("a server with four files", came, fault("accept failed", log=log))

@@ -152,9 +152,7 @@ RUN_IS_RETIRED = (
     "[ERROR filter] run 1 of host mx1 is retired, recipients are answered 451: restart"
     ' smtpd, but first see "A filter that is retired" in OPERATING.md'
 )
-RUN_IS_TAKEN = (
-    "[WARN  filter] run 1 of host mx1 isn't retired at the server that answers now"
-)
+RUN_IS_TAKEN = "[WARN  filter] run 1 of host mx1 isn't retired at the server that answers now"
 ANOTHER_ZONE, NOT_OURS = "store has another zone", "store is not this ledger"
 BY_RULE = {"offset": None, "rule": CENTRAL_EUROPE}
 
