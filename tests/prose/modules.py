@@ -40,9 +40,7 @@ class Crate:
             words = tuple(os.path.splitext(name)[0].split("/"))
             self.texts[() if words in (("lib",), ("main",)) else words] = UNREAD.sub("", text)
         of_tests = [
-            (*at, name)
-            for at, text in self.texts.items()
-            for name in MODULE_OF_TESTS.findall(text)
+            (*at, name) for at, text in self.texts.items() for name in MODULE_OF_TESTS.findall(text)
         ]
         for it in [it for it in self.texts for test in of_tests if it[: len(test)] == test]:
             self.texts.pop(it, None)
