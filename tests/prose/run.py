@@ -1085,22 +1085,27 @@ WRONG = [
 ]
 
 
+def write(tree, file, text):
+    os.makedirs(os.path.dirname(f"{tree}/{file}"), exist_ok=True)
+    with open(f"{tree}/{file}", "w", encoding="utf-8") as it:
+        it.write(text)
+
+
 def own_test():
     """Yields of each wrong thing whether its checks, and no other, find it."""
-    for file, old, new, *checks in [("docs/GATE.md", "A gate", "A gate"), *WRONG]:
-        with tempfile.TemporaryDirectory(prefix="prose-") as tree:
-            for name, text in TREE.items():
-                os.makedirs(os.path.dirname(f"{tree}/{name}"), exist_ok=True)
-                text = text.replace(old, new, 1) if name == file else text
-                with open(f"{tree}/{name}", "w", encoding="utf-8") as it:
-                    it.write(text)
+    with tempfile.TemporaryDirectory(prefix="prose-") as tree:
+        for file, text in TREE.items():
+            write(tree, file, text)
+        for file, old, new, *checks in [("docs/GATE.md", "A gate", "A gate"), *WRONG]:
+            write(tree, file, TREE[file].replace(old, new, 1))
             found = {it.__name__ for it in CHECKS if any(wrong for _, wrong in it(tree))}
-        wanted = {it.__name__ for it in checks}
-        yield f"{new!r} in {file}", (
-            []
-            if old in TREE[file] and found == wanted
-            else [f"it is found by {sorted(found)}, and not by {sorted(wanted)}"]
-        )
+            write(tree, file, TREE[file])
+            wanted = {it.__name__ for it in checks}
+            yield f"{new!r} in {file}", (
+                []
+                if old in TREE[file] and found == wanted
+                else [f"it is found by {sorted(found)}, and not by {sorted(wanted)}"]
+            )
 
 
 def main():
