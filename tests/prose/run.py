@@ -17,6 +17,8 @@
   others, and that page says what each of them does. man/mailquota.8 lists the commands, and the
   pages have at most 7,200 words. Each diagnostic of the commands stands in one page, once.
 - No modules of a crate use each other in a circle, but those that tests/prose/circles.txt has.
+- A name is defined once in all `specs/`, but for those that names.txt still has, which only gets
+  shorter.
 - Names of code that were given up stand in no source, definition or proof.
 - No lemma or definition of two lines or more stands twice.
 - The program's version is that of CHANGELOG's first release, and of the package.
@@ -50,15 +52,18 @@ sys.path += [f"{TOP}/scripts", f"{TOP}/gate"]
 
 import commands
 import completion
+import definitions
 import drawing
 import edit
 import last_runs
 import lemmas
 import modules
+import shrinking
 from results import status_of
 
 SOURCES = ["crates/*/src/**/*.rt"]
-DEFINITIONS = ["crates/*/specs/**/*.antt", "crates/*/proofs/**/*.antt"]
+SPECS = ["crates/*/specs/**/*.antt"]
+DEFINITIONS = [*SPECS, "crates/*/proofs/**/*.antt"]
 # The roots of tests say which libraries they call, and crates.txt has them.
 OF_TESTS = ("mq_ends_tests", "mq_store_tests")
 # The folders of tests/bodies that have wrong texts, each of the folder of that name.
@@ -137,6 +142,8 @@ TOKEN = re.compile(
 )
 # Which modules of a crate still use each other in a circle: a line for each.
 CIRCLES = "tests/prose/circles.txt"
+# What is left of names with several definitions.
+NAMED_TWICE = "tests/prose/names.txt"
 PLACE = re.compile(r"`([a-z_]+/(?:src/[a-z_/]+\.rt|proofs/\w+\.antt))`")
 
 
@@ -284,6 +291,29 @@ def circles(tree):
             *(f"they go in a circle: {', '.join(it)}" for it in sorted(found - its)),
             *(f"no circle of all these is left: {', '.join(it)}" for it in sorted(its - found)),
         ]
+
+
+def named_twice(tree):
+    """The places of each name that has a definition in more than one, of all `specs/`."""
+    return definitions.more_than_once(
+        {
+            re.sub(r"crates/(.*)/specs/(.*)\.antt", r"\1/\2", it): read(tree, it)
+            for it in files(tree, SPECS)
+        }
+    )
+
+
+def defined_once(tree):
+    """Yields which definitions have a name that another has."""
+    yield "names of definitions", [
+        *shrinking.words_wrong(
+            shrinking.words_of(read(tree, NAMED_TWICE)),
+            named_twice(tree),
+            NAMED_TWICE,
+            "has one of several definitions in",
+            "give it another name there, or use the definition that there is",
+        )
+    ]
 
 
 def sent_to(tree):
@@ -814,6 +844,7 @@ CHECKS = [
     layered,
     drawn,
     circles,
+    defined_once,
     sent_to,
     carriers,
     commands.known,
@@ -918,7 +949,16 @@ TREE = {
         " 1\nman/mailquota-go.8 | steps , N to .. by default N | mq_high/src/steps.rt | read\\((\\d+),"
         " (\\d+)\\)\n"
     ),
-    "crates/mq_high/specs/Done.antt": "-- done\nIsDone n = n ≡ 1\n",
+    "crates/mq_high/specs/Done.antt": (
+        "-- done\npub use Rattle.mq_high.specs.Far.{Far}\n\nabbrev pub IsDone : ℕ → Type"
+        " 0\nIsDone n = n ≡ 1\n\nabbrev pub Sound : Type 0\nSound = IsDone 1\n"
+    ),
+    "crates/mq_low/specs/Low.antt": (
+        "-- low\npub use Rattle.mq_high.specs.Done.{IsDone}\n\n{- no more:\nIsDone : ℕ -}\nmodule"
+        " _\n    (n : ℕ)\n    (m : ℕ) where\n  abbrev pub Sound : Type 0\n  Sound = n ≡ m\n   "
+        " where\n    IsDone : ℕ\n    IsDone = n\n\npub record Row : Type 0 where\n  IsDone : ℕ\n"
+    ),
+    NAMED_TWICE: "# The names.\nSound: mq_high/Done mq_low/Low\n",
     "crates/mq_lemmas/src/lib.rt": (
         "//! Lemmas. From `mq_lemmas/proofs/Both.antt`:\n//!\n//!     both true = refl\n//!\n//! It"
         " stands on no crate of ours. Begin with that.\n"
@@ -990,6 +1030,15 @@ WRONG = [
     ),
     (CIRCLES, "mq_high: high steps\n", "", circles),
     (CIRCLES, "high steps", "high log steps", circles),
+    ("crates/mq_low/specs/Low.antt", "{- no more:", "", defined_once),
+    ("crates/mq_low/specs/Low.antt", "record Row", "record IsDone", defined_once),
+    ("crates/mq_low/specs/Low.antt", "  abbrev pub Sound", "  pub IsDone", defined_once),
+    ("crates/mq_low/specs/Low.antt", "    where\n    IsDone", "\n  IsDone", defined_once),
+    ("crates/mq_low/specs/Low.antt", "pub Sound", "pub Loud", defined_once),
+    (NAMED_TWICE, "Sound: mq_high/Done mq_low/Low\n", "", defined_once),
+    (NAMED_TWICE, " mq_low/Low", "", defined_once),
+    (NAMED_TWICE, "mq_low/Low", "mq_low/Low mq_low/Lower", defined_once),
+    (NAMED_TWICE, "mq_low/Low\n", "mq_low/Low\nIsDone: mq_high/Done\n", defined_once),
     ("CONTRIBUTING.md", "`call`", "`calls`", sent_to),
     ("CONTRIBUTING.md", "`done`", "`well`", sent_to),
     ("CONTRIBUTING.md", "specs/Done", "specs/Gone", sent_to),
