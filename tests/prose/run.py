@@ -17,8 +17,8 @@
   others, and that page says what each of them does. man/mailquota.8 lists the commands, and the
   pages have at most 7,200 words. Each diagnostic of the commands stands in one page, once.
 - No modules of a crate use each other in a circle, but those that tests/prose/circles.txt has.
-- A name is defined once in all `specs/`, but for those that names.txt still has, which only gets
-  shorter.
+- A name is defined once in all `specs/`, and a function has at most ten clauses, but for what
+  names.txt and clauses.txt still have, which only get shorter.
 - Names of code that were given up stand in no source, definition or proof.
 - No lemma or definition of two lines or more stands twice.
 - The program's version is that of CHANGELOG's first release, and of the package.
@@ -50,6 +50,7 @@ sys.dont_write_bytecode = True
 TOP = os.path.dirname(os.path.dirname(os.path.dirname(os.path.realpath(__file__))))
 sys.path += [f"{TOP}/scripts", f"{TOP}/gate"]
 
+import clauses
 import commands
 import completion
 import definitions
@@ -142,8 +143,10 @@ TOKEN = re.compile(
 )
 # Which modules of a crate still use each other in a circle: a line for each.
 CIRCLES = "tests/prose/circles.txt"
-# What is left of names with several definitions.
+# What is left of names with several definitions, and of functions with more clauses than these.
 NAMED_TWICE = "tests/prose/names.txt"
+LONG_CONTRACTS = "tests/prose/clauses.txt"
+CLAUSES = 10
 PLACE = re.compile(r"`([a-z_]+/(?:src/[a-z_/]+\.rt|proofs/\w+\.antt))`")
 
 
@@ -314,6 +317,43 @@ def defined_once(tree):
             "give it another name there, or use the definition that there is",
         )
     ]
+
+
+def long_contracts(tree):
+    """The clauses of each function of the files that have one with too many."""
+    found = {}
+    for file in files(tree, SOURCES):
+        text = read(tree, file)
+        if clauses.may_exceed(text, CLAUSES):
+            of_file = clauses.clauses_of(text).items()
+            found.update(
+                {f"{file.removeprefix('crates/')}: {it}": number for it, number in of_file}
+            )
+    return found
+
+
+def contracts_fit(tree):
+    """Yields of each crate which functions have a contract of too many clauses."""
+    yield from by_crate(
+        tree,
+        "the contracts of",
+        shrinking.numbers_of(read(tree, LONG_CONTRACTS)),
+        long_contracts(tree),
+        CLAUSES,
+        LONG_CONTRACTS,
+        "clauses",
+        "say several by one definition of specs/, or part the function",
+    )
+
+
+def by_crate(tree, of_what, listed, found, *said):
+    """Yields of each crate what is wrong with numbers of its files, given those of all crates."""
+    parts = {it: ({}, {}) for it in crates_of(tree)}
+    for at, its in enumerate((listed, found)):
+        for name, number in its.items():
+            parts.setdefault(name.partition("/")[0], ({}, {}))[at][name] = number
+    for crate, its in parts.items():
+        yield f"{of_what} {crate}", [*shrinking.numbers_wrong(*its, *said)]
 
 
 def sent_to(tree):
@@ -845,6 +885,7 @@ CHECKS = [
     drawn,
     circles,
     defined_once,
+    contracts_fit,
     sent_to,
     carriers,
     commands.known,
@@ -863,6 +904,7 @@ CHECKS = [
     noted,
 ]
 
+TEN_CLAUSES = "\n".join(f"        ensures is_{it} {{ result ≡ {it} }}" for it in range(10))
 # A tree with nothing wrong, and what each of these changes makes of it: the file, the text there,
 # what takes its place, and the checks that find it.
 TREE = {
@@ -959,6 +1001,15 @@ TREE = {
         " where\n    IsDone : ℕ\n    IsDone = n\n\npub record Row : Type 0 where\n  IsDone : ℕ\n"
     ),
     NAMED_TWICE: "# The names.\nSound: mq_high/Done mq_low/Low\n",
+    # (a function without a body that has one more than ten, and one that has ten, with a closure)
+    "crates/mq_low/src/wide.rt": (
+        "//! What is wide.\npub trait Wide {\n    fn ask(&self) -> u8\n        requires { 1 ≡ 1"
+        f" }}\n{TEN_CLAUSES};\n}}\n\nimpl Wide for Low {{\n    // ensures so {{ 1 ≡ 1 }}\n    fn"
+        f" tell(&self) -> u8\n{TEN_CLAUSES}\n    {{\n        let same = |at| -> u8\n           "
+        " ensures { result ≡ at }\n        {\n            at\n        };\n        same(1)\n   "
+        " }\n}\n"
+    ),
+    LONG_CONTRACTS: "# The contracts.\nmq_low/src/wide.rt: Wide::ask 11\n",
     "crates/mq_lemmas/src/lib.rt": (
         "//! Lemmas. From `mq_lemmas/proofs/Both.antt`:\n//!\n//!     both true = refl\n//!\n//! It"
         " stands on no crate of ours. Begin with that.\n"
@@ -1039,6 +1090,26 @@ WRONG = [
     (NAMED_TWICE, " mq_low/Low", "", defined_once),
     (NAMED_TWICE, "mq_low/Low", "mq_low/Low mq_low/Lower", defined_once),
     (NAMED_TWICE, "mq_low/Low\n", "mq_low/Low\nIsDone: mq_high/Done\n", defined_once),
+    (
+        "crates/mq_low/src/wide.rt",
+        "{ 1 ≡ 1 }\n",
+        "{ 1 ≡ 1 }\n        requires* so { 1 ≡ 1 }\n",
+        contracts_fit,
+    ),
+    ("crates/mq_low/src/wide.rt", "        requires { 1 ≡ 1 }\n", "", contracts_fit),
+    ("crates/mq_low/src/wide.rt", "// ensures", "/// ensures"),
+    (
+        "crates/mq_low/src/wide.rt",
+        "tell(&self) -> u8\n",
+        "tell(&self) -> u8\n        requires { 1 ≡ 1 }\n",
+        contracts_fit,
+    ),
+    ("crates/mq_low/src/wide.rt", "fn ask", "fn asked", contracts_fit),
+    (LONG_CONTRACTS, "mq_low/src/wide.rt: Wide::ask 11\n", "", contracts_fit),
+    (LONG_CONTRACTS, "ask 11", "ask 12", contracts_fit),
+    (LONG_CONTRACTS, "ask 11", "ask 10", contracts_fit),
+    (LONG_CONTRACTS, "ask 11\n", "ask 11\nmq_low/src/wide.rt: LowWide::tell 10\n", contracts_fit),
+    (LONG_CONTRACTS, "ask 11\n", "ask 11\nmq_lower/src/wide.rt: Wide::ask 11\n", contracts_fit),
     ("CONTRIBUTING.md", "`call`", "`calls`", sent_to),
     ("CONTRIBUTING.md", "`done`", "`well`", sent_to),
     ("CONTRIBUTING.md", "specs/Done", "specs/Gone", sent_to),

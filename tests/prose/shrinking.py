@@ -1,10 +1,16 @@
-"""Lists of what is left of something that is to go. A list only gets shorter: what is
-new fails, and what was mended goes from it.
+"""Lists of what is left of something that is to go. A list only gets shorter, and its numbers only
+get smaller: what is new fails, and what was mended goes from it.
 """
 
 
 def is_row(line):
     return line[:1] not in ("", "#")
+
+
+def number_in(row):
+    """What a row is of, and the number that stands last in it."""
+    name, _, number = row.rpartition(" ")
+    return name.removesuffix(":"), int(number)
 
 
 def words_in(row):
@@ -13,9 +19,26 @@ def words_in(row):
     return name, words.split()
 
 
+def numbers_of(text):
+    return dict(number_in(it) for it in text.splitlines() if is_row(it))
+
+
 def words_of(text):
     rows = (words_in(it) for it in text.splitlines() if is_row(it))
     return {name: {*words} for name, words in rows}
+
+
+def numbers_wrong(listed, found, most, file, what, instead):
+    """Yields which things have more of `what` than the most and than the list in the file allows,
+    with what to do instead, and which have less than the list says."""
+    for name in sorted({*listed, *found}):
+        number, allowed = found.get(name, 0), listed.get(name, most)
+        if number > allowed:
+            yield f"{name} has {number} {what}, and may have {allowed}: {instead}"
+        elif name in listed and number <= most:
+            yield f"{name} is mended, or gone: take its row from {file}"
+        elif name in listed and number < allowed:
+            yield f"{name} has {number} {what}: write this in place of {allowed} in {file}"
 
 
 def words_wrong(listed, found, file, what, instead):
