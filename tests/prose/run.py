@@ -17,8 +17,9 @@
   others, and that page says what each of them does. man/mailquota.8 lists the commands, and the
   pages have at most 7,200 words. Each diagnostic of the commands stands in one page, once.
 - No modules of a crate use each other in a circle, but those that tests/prose/circles.txt has.
-- A name is defined once in all `specs/`, and a function has at most ten clauses, but for what
-  names.txt and clauses.txt still have, which only get shorter.
+- A name is defined once in all `specs/`, a function has at most ten clauses, and a line of `specs/`
+  at most 100 columns, but for what names.txt, clauses.txt and columns.txt still have, which only
+  get shorter.
 - Names of code that were given up stand in no source, definition or proof.
 - No lemma or definition of two lines or more stands twice.
 - The program's version is that of CHANGELOG's first release, and of the package.
@@ -143,9 +144,11 @@ TOKEN = re.compile(
 )
 # Which modules of a crate still use each other in a circle: a line for each.
 CIRCLES = "tests/prose/circles.txt"
-# What is left of names with several definitions, and of functions with more clauses than these.
+# What is left of names with several definitions, of functions with more clauses than these, and of
+# long lines of definitions.
 NAMED_TWICE = "tests/prose/names.txt"
 LONG_CONTRACTS = "tests/prose/clauses.txt"
+LONG_LINES = "tests/prose/columns.txt"
 CLAUSES = 10
 PLACE = re.compile(r"`([a-z_]+/(?:src/[a-z_/]+\.rt|proofs/\w+\.antt))`")
 
@@ -343,6 +346,28 @@ def contracts_fit(tree):
         LONG_CONTRACTS,
         "clauses",
         "say several by one definition of specs/, or part the function",
+    )
+
+
+def long_lines(tree):
+    """The number of long lines of each file of all `specs/`."""
+    return {
+        it.removeprefix("crates/"): sum(len(line) > COLUMNS for line in read(tree, it).split("\n"))
+        for it in files(tree, SPECS)
+    }
+
+
+def specs_fit(tree):
+    """Yields of each crate which files of its `specs/` have too many long lines."""
+    yield from by_crate(
+        tree,
+        "the specs of",
+        shrinking.numbers_of(read(tree, LONG_LINES)),
+        long_lines(tree),
+        0,
+        LONG_LINES,
+        f"of its lines beyond {COLUMNS} columns",
+        "break them",
     )
 
 
@@ -886,6 +911,7 @@ CHECKS = [
     circles,
     defined_once,
     contracts_fit,
+    specs_fit,
     sent_to,
     carriers,
     commands.known,
@@ -991,9 +1017,11 @@ TREE = {
         " 1\nman/mailquota-go.8 | steps , N to .. by default N | mq_high/src/steps.rt | read\\((\\d+),"
         " (\\d+)\\)\n"
     ),
+    # (its last lines have 100 columns, in more bytes, and 101)
     "crates/mq_high/specs/Done.antt": (
         "-- done\npub use Rattle.mq_high.specs.Far.{Far}\n\nabbrev pub IsDone : ℕ → Type"
-        " 0\nIsDone n = n ≡ 1\n\nabbrev pub Sound : Type 0\nSound = IsDone 1\n"
+        f" 0\nIsDone n = n ≡ 1\n\nabbrev pub Sound : Type 0\nSound = IsDone 1\n\n-- {'ℕ' * 97}\n--"
+        f" {'n' * 98}\n"
     ),
     "crates/mq_low/specs/Low.antt": (
         "-- low\npub use Rattle.mq_high.specs.Done.{IsDone}\n\n{- no more:\nIsDone : ℕ -}\nmodule"
@@ -1001,6 +1029,7 @@ TREE = {
         " where\n    IsDone : ℕ\n    IsDone = n\n\npub record Row : Type 0 where\n  IsDone : ℕ\n"
     ),
     NAMED_TWICE: "# The names.\nSound: mq_high/Done mq_low/Low\n",
+    LONG_LINES: "# The lines.\nmq_high/specs/Done.antt: 1\n",
     # (a function without a body that has one more than ten, and one that has ten, with a closure)
     "crates/mq_low/src/wide.rt": (
         "//! What is wide.\npub trait Wide {\n    fn ask(&self) -> u8\n        requires { 1 ≡ 1"
@@ -1110,6 +1139,12 @@ WRONG = [
     (LONG_CONTRACTS, "ask 11", "ask 10", contracts_fit),
     (LONG_CONTRACTS, "ask 11\n", "ask 11\nmq_low/src/wide.rt: LowWide::tell 10\n", contracts_fit),
     (LONG_CONTRACTS, "ask 11\n", "ask 11\nmq_lower/src/wide.rt: Wide::ask 11\n", contracts_fit),
+    ("crates/mq_high/specs/Done.antt", "-- ℕ", "--  ℕ", specs_fit),
+    ("crates/mq_high/specs/Done.antt", "-- n", "n", specs_fit),
+    ("crates/mq_low/specs/Low.antt", "no more", "more " * 20, specs_fit),
+    (LONG_LINES, "mq_high/specs/Done.antt: 1\n", "", specs_fit),
+    (LONG_LINES, "Done.antt: 1", "Done.antt: 2", specs_fit),
+    (LONG_LINES, "Done.antt: 1\n", "Done.antt: 1\nmq_low/specs/Low.antt: 0\n", specs_fit),
     ("CONTRIBUTING.md", "`call`", "`calls`", sent_to),
     ("CONTRIBUTING.md", "`done`", "`well`", sent_to),
     ("CONTRIBUTING.md", "specs/Done", "specs/Gone", sent_to),
