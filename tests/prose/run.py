@@ -17,9 +17,9 @@
   others, and that page says what each of them does. man/mailquota.8 lists the commands, and the
   pages have at most 7,200 words. Each diagnostic of the commands stands in one page, once.
 - No modules of a crate use each other in a circle, but those that tests/prose/circles.txt has.
-- A name is defined once in all `specs/`, a function has at most ten clauses, and a line of `specs/`
-  at most 100 columns, but for what names.txt, clauses.txt and columns.txt still have, which only
-  get shorter.
+- A name is defined once in all `specs/`, a function has at most ten clauses, a line of `specs/` at
+  most 100 columns, and what a crate hands out another takes, but for what names.txt, clauses.txt,
+  columns.txt and exports.txt still have, which only get shorter.
 - Names of code that were given up stand in no source, definition or proof.
 - No lemma or definition of two lines or more stands twice.
 - The program's version is that of CHANGELOG's first release, and of the package.
@@ -57,6 +57,7 @@ import completion
 import definitions
 import drawing
 import edit
+import exports
 import last_runs
 import lemmas
 import modules
@@ -66,6 +67,8 @@ from results import status_of
 SOURCES = ["crates/*/src/**/*.rt"]
 SPECS = ["crates/*/specs/**/*.antt"]
 DEFINITIONS = [*SPECS, "crates/*/proofs/**/*.antt"]
+# What runs crates besides the program and the tests.
+BENCHES = ["bench/**/*.rattle"]
 # The roots of tests say which libraries they call, and crates.txt has them.
 OF_TESTS = ("mq_ends_tests", "mq_store_tests")
 # The folders of tests/bodies that have wrong texts, each of the folder of that name.
@@ -144,11 +147,12 @@ TOKEN = re.compile(
 )
 # Which modules of a crate still use each other in a circle: a line for each.
 CIRCLES = "tests/prose/circles.txt"
-# What is left of names with several definitions, of functions with more clauses than these, and of
-# long lines of definitions.
+# What is left of names with several definitions, of functions with more clauses than these, of long
+# lines of definitions, and of what a crate hands out for nobody.
 NAMED_TWICE = "tests/prose/names.txt"
 LONG_CONTRACTS = "tests/prose/clauses.txt"
 LONG_LINES = "tests/prose/columns.txt"
+TAKEN_BY_NONE = "tests/prose/exports.txt"
 CLAUSES = 10
 PLACE = re.compile(r"`([a-z_]+/(?:src/[a-z_/]+\.rt|proofs/\w+\.antt))`")
 
@@ -379,6 +383,39 @@ def by_crate(tree, of_what, listed, found, *said):
             parts.setdefault(name.partition("/")[0], ({}, {}))[at][name] = number
     for crate, its in parts.items():
         yield f"{of_what} {crate}", [*shrinking.numbers_wrong(*its, *said)]
+
+
+def taken_by_none(tree):
+    """The functions and constants that each crate hands out and no other takes."""
+    crates, found = crates_of(tree), {}
+    words = {
+        crate: exports.words_in(
+            read(tree, it)
+            for it in files(tree, [f"crates/{crate}/src/**/*.rt", f"crates/{crate}/*/**/*.antt"])
+        )
+        for crate in crates
+    }
+    words[""] = exports.words_in(read(tree, it) for it in files(tree, BENCHES))
+    for crate in crates:
+        place = f"crates/{crate}/src/"
+        its = exports.handed_out(
+            {it.removeprefix(place): read(tree, it) for it in files(tree, [f"{place}**/*.rt"])}
+        )
+        found[crate] = exports.taken_by_none(crate, its, words)
+    return found
+
+
+def taken(tree):
+    """Yields what crates hand out and no other takes."""
+    yield "what crates hand out", [
+        *shrinking.words_wrong(
+            shrinking.words_of(read(tree, TAKEN_BY_NONE)),
+            taken_by_none(tree),
+            TAKEN_BY_NONE,
+            "hands out, and no other crate names,",
+            "take it from lib.rt, or make it pub(crate)",
+        )
+    ]
 
 
 def sent_to(tree):
@@ -912,6 +949,7 @@ CHECKS = [
     defined_once,
     contracts_fit,
     specs_fit,
+    taken,
     sent_to,
     carriers,
     commands.known,
@@ -968,13 +1006,14 @@ TREE = {
     ),
     "crates/mq_low/src/lib.rt": (
         "//! Low. From `mq_high/src/lib.rt`:\n//!\n//!     low(1)\n//!\n//! It stands on no crate"
-        " of ours. Begin with `low.rt`.\npub fn low(at: u8) -> &'static str {\n    let bar = b'\"';"
-        ' // after it\n    "after"\n}\n'
+        " of ours. Begin with `low.rt`.\npub mod laws;\nmod order;\npub use laws::always;\npub use"
+        " order::{MOST, Order, least, timed};\npub fn low(at: u8) -> &'static str {\n    let bar ="
+        ' b\'"\'; // after it\n    "after"\n}\n'
     ),
     "crates/mq_high/src/lib.rt": (
         "//! High. From `mq_high/src/lib.rt`:\n//!\n//!     low(1)\n//!\n//! It stands on `mq_low`."
-        " Begin with `high.rt`.\npub fn call(byte: u8) -> u8\n    ensures done { IsDone result"
-        " }\n{\n    low(1)\n}\n\nstruct Far;\n"
+        " Begin with `high.rt`.\nuse mq_low::{MOST, low};\npub fn call(byte: u8) -> u8\n    ensures"
+        " done { IsDone result }\n{\n    low(1)\n}\n\nstruct Far;\n"
     ),
     "crates/mq_high/src/high.rt": "//! What is high.\nuse crate::steps::{STEPS, Steps};\n",
     CIRCLES: "# The circles.\nmq_high: high steps\n",
@@ -1039,6 +1078,13 @@ TREE = {
         " }\n}\n"
     ),
     LONG_CONTRACTS: "# The contracts.\nmq_low/src/wide.rt: Wide::ask 11\n",
+    "crates/mq_low/src/order.rt": (
+        "//! Orders.\npub const MOST: u8 = 1;\n\npub fn least() -> u8 {\n    MOST\n}\n\npub fn"
+        " timed() {}\n\npub struct Order;\n"
+    ),
+    "bench/time/main.rattle": "use mq_low::timed;\n",
+    "crates/mq_low/src/laws.rt": "//! Laws.\npub fn always() {}\n",
+    TAKEN_BY_NONE: "# What is handed out.\nmq_high: call\nmq_low: least\n",
     "crates/mq_lemmas/src/lib.rt": (
         "//! Lemmas. From `mq_lemmas/proofs/Both.antt`:\n//!\n//!     both true = refl\n//!\n//! It"
         " stands on no crate of ours. Begin with that.\n"
@@ -1145,6 +1191,20 @@ WRONG = [
     (LONG_LINES, "mq_high/specs/Done.antt: 1\n", "", specs_fit),
     (LONG_LINES, "Done.antt: 1", "Done.antt: 2", specs_fit),
     (LONG_LINES, "Done.antt: 1\n", "Done.antt: 1\nmq_low/specs/Low.antt: 0\n", specs_fit),
+    ("crates/mq_high/src/lib.rt", "{MOST, low}", "low", taken),
+    (
+        "crates/mq_high/src/lib.rt",
+        "use mq_low::{MOST, low};\n",
+        "use mq_low::{MOST, least, low};\n",
+        taken,
+    ),
+    ("crates/mq_high/src/lib.rt", "use mq_low::", "use crate::", taken),
+    ("crates/mq_low/src/lib.rt", "least, ", "", taken),
+    ("crates/mq_low/src/lib.rt", "mod order;", "pub mod order;", taken),
+    ("bench/time/main.rattle", "timed", "Timed", taken),
+    (TAKEN_BY_NONE, "mq_low: least\n", "", taken),
+    (TAKEN_BY_NONE, "least", "least MOST", taken),
+    (TAKEN_BY_NONE, "least\n", "least\nmq_lemmas:\n", taken),
     ("CONTRIBUTING.md", "`call`", "`calls`", sent_to),
     ("CONTRIBUTING.md", "`done`", "`well`", sent_to),
     ("CONTRIBUTING.md", "specs/Done", "specs/Gone", sent_to),
@@ -1236,6 +1296,7 @@ WRONG = [
         "mq_low.proofs.low",
         "mq_high.proofs.call",
         standing_twice,
+        taken,
     ),
 ]
 
