@@ -418,6 +418,17 @@ def taken(tree):
     ]
 
 
+def shrink(tree):
+    """Takes from the lists of what is left what was mended."""
+    for file, found in ((NAMED_TWICE, named_twice), (TAKEN_BY_NONE, taken_by_none)):
+        write(tree, file, shrinking.words_left(read(tree, file), found(tree)))
+    for file, found, most in (
+        (LONG_CONTRACTS, long_contracts, CLAUSES),
+        (LONG_LINES, long_lines, 0),
+    ):
+        write(tree, file, shrinking.numbers_left(read(tree, file), found(tree), most))
+
+
 def sent_to(tree):
     """Yields of each row of CONTRIBUTING.md that sends a reader into the source what isn't
     there."""
@@ -1301,6 +1312,25 @@ WRONG = [
 ]
 
 
+# Lists that say something else, and what is left of that once what was mended is taken from them.
+LEFT = [
+    (NAMED_TWICE, " mq_low/Low", " mq_low/Low mq_lower/Low", " mq_low/Low"),
+    (NAMED_TWICE, "Sound", "Sounds: mq_high/Done mq_low/Low\nSound", "Sound"),
+    (LONG_CONTRACTS, "ask 11", "ask 12", "ask 11"),
+    (
+        LONG_CONTRACTS,
+        "mq_low/src/wide.rt: Wide::ask 11\n",
+        "mq_low/src/wide.rt: Wide::tell 11\n",
+        "",
+    ),
+    (LONG_CONTRACTS, "ask 11\n", "ask 11\nmq_low/src/wide.rt: LowWide::tell 11\n", "ask 11\n"),
+    (LONG_LINES, "Done.antt: 1", "Done.antt: 3", "Done.antt: 1"),
+    (LONG_LINES, "Done.antt: 1\n", "Done.antt: 1\nmq_low/specs/Low.antt: 1\n", "Done.antt: 1\n"),
+    (TAKEN_BY_NONE, "least", "MOST least", "least"),
+    (TAKEN_BY_NONE, "mq_low: least\n", "mq_low: MOST\n", ""),
+]
+
+
 def write(tree, file, text):
     os.makedirs(os.path.dirname(f"{tree}/{file}"), exist_ok=True)
     with open(f"{tree}/{file}", "w", encoding="utf-8") as it:
@@ -1322,6 +1352,14 @@ def own_test():
                 if old in TREE[file] and found == wanted
                 else [f"it is found by {sorted(found)}, and not by {sorted(wanted)}"]
             )
+        for file, old, new, left in LEFT:
+            write(tree, file, TREE[file].replace(old, new, 1))
+            shrink(tree)
+            found, wanted = read(tree, file), TREE[file].replace(old, left, 1)
+            write(tree, file, TREE[file])
+            yield f"what is left of {new!r} in {file}", (
+                [] if old in TREE[file] and found == wanted else [f"it is {found!r}"]
+            )
 
 
 def main():
@@ -1335,8 +1373,15 @@ def main():
         default=TOP,
         help="by default the one that this file is in",
     )
-    tree = parser.parse_args().tree
-    return status_of(itertools.chain(own_test(), *(it(tree) for it in CHECKS)))
+    parser.add_argument(
+        "--shrink",
+        action="store_true",
+        help="take what was mended from the lists beside this of what is left",
+    )
+    given = parser.parse_args()
+    if given.shrink:
+        shrink(given.tree)
+    return status_of(itertools.chain(own_test(), *(it(given.tree) for it in CHECKS)))
 
 
 if __name__ == "__main__":

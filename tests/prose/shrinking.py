@@ -52,3 +52,30 @@ def words_wrong(listed, found, file, what, instead):
             yield f"{name} is mended, or gone: take its row from {file}"
         elif gone := sorted(allowed - its):
             yield f"{name} is mended as to {', '.join(gone)}: take this from its row in {file}"
+
+
+def numbers_left(text, found, most):
+    """A list of numbers without what was mended. Nothing comes in."""
+
+    def left(row):
+        name, number = number_in(row)
+        number = min(number, found.get(name, 0))
+        return f"{row.rpartition(' ')[0]} {number}" if number > most else None
+
+    return rows_left(text, left)
+
+
+def words_left(text, found):
+    """A list of words without what was mended. Nothing comes in."""
+
+    def left(row):
+        name, words = words_in(row)
+        words = [it for it in words if it in found.get(name, ())]
+        return f"{name}: {' '.join(words)}" if words else None
+
+    return rows_left(text, left)
+
+
+def rows_left(text, left):
+    rows = (left(it) if is_row(it) else it for it in text.splitlines())
+    return "".join(f"{it}\n" for it in rows if it is not None)
