@@ -17,6 +17,9 @@
   others, and that page says what each of them does. man/mailquota.8 lists the commands, and the
   pages have at most 7,200 words. Each diagnostic of the commands stands in one page, once.
 - No modules of a crate use each other in a circle, but those that tests/prose/circles.txt has.
+- A name is defined once in all `specs/`, a function has at most ten clauses, a line of `specs/` at
+  most 100 columns, and what a crate hands out another takes, but for what names.txt, clauses.txt,
+  columns.txt and exports.txt still have, which only get shorter.
 - Names of code that were given up stand in no source, definition or proof.
 - No lemma or definition of two lines or more stands twice.
 - The program's version is that of CHANGELOG's first release, and of the package.
@@ -48,17 +51,24 @@ sys.dont_write_bytecode = True
 TOP = os.path.dirname(os.path.dirname(os.path.dirname(os.path.realpath(__file__))))
 sys.path += [f"{TOP}/scripts", f"{TOP}/gate"]
 
+import clauses
 import commands
 import completion
+import definitions
 import drawing
 import edit
+import exports
 import last_runs
 import lemmas
 import modules
+import shrinking
 from results import status_of
 
 SOURCES = ["crates/*/src/**/*.rt"]
-DEFINITIONS = ["crates/*/specs/**/*.antt", "crates/*/proofs/**/*.antt"]
+SPECS = ["crates/*/specs/**/*.antt"]
+DEFINITIONS = [*SPECS, "crates/*/proofs/**/*.antt"]
+# What runs crates besides the program and the tests.
+BENCHES = ["bench/**/*.rattle"]
 # The roots of tests say which libraries they call, and crates.txt has them.
 OF_TESTS = ("mq_ends_tests", "mq_store_tests")
 # The folders of tests/bodies that have wrong texts, each of the folder of that name.
@@ -137,6 +147,13 @@ TOKEN = re.compile(
 )
 # Which modules of a crate still use each other in a circle: a line for each.
 CIRCLES = "tests/prose/circles.txt"
+# What is left of names with several definitions, of functions with more clauses than these, of long
+# lines of definitions, and of what a crate hands out for nobody.
+NAMED_TWICE = "tests/prose/names.txt"
+LONG_CONTRACTS = "tests/prose/clauses.txt"
+LONG_LINES = "tests/prose/columns.txt"
+TAKEN_BY_NONE = "tests/prose/exports.txt"
+CLAUSES = 10
 PLACE = re.compile(r"`([a-z_]+/(?:src/[a-z_/]+\.rt|proofs/\w+\.antt))`")
 
 
@@ -284,6 +301,132 @@ def circles(tree):
             *(f"they go in a circle: {', '.join(it)}" for it in sorted(found - its)),
             *(f"no circle of all these is left: {', '.join(it)}" for it in sorted(its - found)),
         ]
+
+
+def named_twice(tree):
+    """The places of each name that has a definition in more than one, of all `specs/`."""
+    return definitions.more_than_once(
+        {
+            re.sub(r"crates/(.*)/specs/(.*)\.antt", r"\1/\2", it): read(tree, it)
+            for it in files(tree, SPECS)
+        }
+    )
+
+
+def defined_once(tree):
+    """Yields which definitions have a name that another has."""
+    yield "names of definitions", [
+        *shrinking.words_wrong(
+            shrinking.words_of(read(tree, NAMED_TWICE)),
+            named_twice(tree),
+            NAMED_TWICE,
+            "has one of several definitions in",
+            "give it another name there, or use the definition that there is",
+        )
+    ]
+
+
+def long_contracts(tree):
+    """The clauses of each function of the files that have one with too many."""
+    found = {}
+    for file in files(tree, SOURCES):
+        text = read(tree, file)
+        if clauses.may_exceed(text, CLAUSES):
+            of_file = clauses.clauses_of(text).items()
+            found.update(
+                {f"{file.removeprefix('crates/')}: {it}": number for it, number in of_file}
+            )
+    return found
+
+
+def contracts_fit(tree):
+    """Yields of each crate which functions have a contract of too many clauses."""
+    yield from by_crate(
+        tree,
+        "the contracts of",
+        shrinking.numbers_of(read(tree, LONG_CONTRACTS)),
+        long_contracts(tree),
+        CLAUSES,
+        LONG_CONTRACTS,
+        "clauses",
+        "say several by one definition of specs/, or part the function",
+    )
+
+
+def long_lines(tree):
+    """The number of long lines of each file of all `specs/`."""
+    return {
+        it.removeprefix("crates/"): sum(len(line) > COLUMNS for line in read(tree, it).split("\n"))
+        for it in files(tree, SPECS)
+    }
+
+
+def specs_fit(tree):
+    """Yields of each crate which files of its `specs/` have too many long lines."""
+    yield from by_crate(
+        tree,
+        "the specs of",
+        shrinking.numbers_of(read(tree, LONG_LINES)),
+        long_lines(tree),
+        0,
+        LONG_LINES,
+        f"of its lines beyond {COLUMNS} columns",
+        "break them",
+    )
+
+
+def by_crate(tree, of_what, listed, found, *said):
+    """Yields of each crate what is wrong with numbers of its files, given those of all crates."""
+    parts = {it: ({}, {}) for it in crates_of(tree)}
+    for at, its in enumerate((listed, found)):
+        for name, number in its.items():
+            parts.setdefault(name.partition("/")[0], ({}, {}))[at][name] = number
+    for crate, its in parts.items():
+        yield f"{of_what} {crate}", [*shrinking.numbers_wrong(*its, *said)]
+
+
+def taken_by_none(tree):
+    """The functions and constants that each crate hands out and no other takes."""
+    crates, found = crates_of(tree), {}
+    words = {
+        crate: exports.words_in(
+            read(tree, it)
+            for it in files(tree, [f"crates/{crate}/src/**/*.rt", f"crates/{crate}/*/**/*.antt"])
+        )
+        for crate in crates
+    }
+    words[""] = exports.words_in(read(tree, it) for it in files(tree, BENCHES))
+    for crate in crates:
+        place = f"crates/{crate}/src/"
+        its = exports.handed_out(
+            {it.removeprefix(place): read(tree, it) for it in files(tree, [f"{place}**/*.rt"])}
+        )
+        found[crate] = exports.taken_by_none(crate, its, words)
+    return found
+
+
+def taken(tree):
+    """Yields what crates hand out and no other takes."""
+    yield "what crates hand out", [
+        *shrinking.words_wrong(
+            shrinking.words_of(read(tree, TAKEN_BY_NONE)),
+            taken_by_none(tree),
+            TAKEN_BY_NONE,
+            "hands out, and no other crate names,",
+            "take it from lib.rt, or make it pub(crate)",
+        )
+    ]
+
+
+def shrink(tree):
+    """Takes from the lists of what is left what was mended."""
+    for file, found in ((NAMED_TWICE, named_twice), (TAKEN_BY_NONE, taken_by_none)):
+        write(tree, file, shrinking.words_left(read(tree, file), found(tree)))
+    for file, found, most in (
+        (LONG_CONTRACTS, long_contracts, CLAUSES),
+        (LONG_LINES, long_lines, 0),
+    ):
+        write(tree, file, shrinking.numbers_left(read(tree, file), found(tree), most))
 
 
 def sent_to(tree):
@@ -814,6 +957,10 @@ CHECKS = [
     layered,
     drawn,
     circles,
+    defined_once,
+    contracts_fit,
+    specs_fit,
+    taken,
     sent_to,
     carriers,
     commands.known,
@@ -832,6 +979,7 @@ CHECKS = [
     noted,
 ]
 
+TEN_CLAUSES = "\n".join(f"        ensures is_{it} {{ result ≡ {it} }}" for it in range(10))
 # A tree with nothing wrong, and what each of these changes makes of it: the file, the text there,
 # what takes its place, and the checks that find it.
 TREE = {
@@ -869,13 +1017,14 @@ TREE = {
     ),
     "crates/mq_low/src/lib.rt": (
         "//! Low. From `mq_high/src/lib.rt`:\n//!\n//!     low(1)\n//!\n//! It stands on no crate"
-        " of ours. Begin with `low.rt`.\npub fn low(at: u8) -> &'static str {\n    let bar = b'\"';"
-        ' // after it\n    "after"\n}\n'
+        " of ours. Begin with `low.rt`.\npub mod laws;\nmod order;\npub use laws::always;\npub use"
+        " order::{MOST, Order, least, timed};\npub fn low(at: u8) -> &'static str {\n    let bar ="
+        ' b\'"\'; // after it\n    "after"\n}\n'
     ),
     "crates/mq_high/src/lib.rt": (
         "//! High. From `mq_high/src/lib.rt`:\n//!\n//!     low(1)\n//!\n//! It stands on `mq_low`."
-        " Begin with `high.rt`.\npub fn call(byte: u8) -> u8\n    ensures done { IsDone result"
-        " }\n{\n    low(1)\n}\n\nstruct Far;\n"
+        " Begin with `high.rt`.\nuse mq_low::{MOST, low};\npub fn call(byte: u8) -> u8\n    ensures"
+        " done { IsDone result }\n{\n    low(1)\n}\n\nstruct Far;\n"
     ),
     "crates/mq_high/src/high.rt": "//! What is high.\nuse crate::steps::{STEPS, Steps};\n",
     CIRCLES: "# The circles.\nmq_high: high steps\n",
@@ -918,7 +1067,35 @@ TREE = {
         " 1\nman/mailquota-go.8 | steps , N to .. by default N | mq_high/src/steps.rt | read\\((\\d+),"
         " (\\d+)\\)\n"
     ),
-    "crates/mq_high/specs/Done.antt": "-- done\nIsDone n = n ≡ 1\n",
+    # (its last lines have 100 columns, in more bytes, and 101)
+    "crates/mq_high/specs/Done.antt": (
+        "-- done\npub use Rattle.mq_high.specs.Far.{Far}\n\nabbrev pub IsDone : ℕ → Type"
+        f" 0\nIsDone n = n ≡ 1\n\nabbrev pub Sound : Type 0\nSound = IsDone 1\n\n-- {'ℕ' * 97}\n--"
+        f" {'n' * 98}\n"
+    ),
+    "crates/mq_low/specs/Low.antt": (
+        "-- low\npub use Rattle.mq_high.specs.Done.{IsDone}\n\n{- no more:\nIsDone : ℕ -}\nmodule"
+        " _\n    (n : ℕ)\n    (m : ℕ) where\n  abbrev pub Sound : Type 0\n  Sound = n ≡ m\n   "
+        " where\n    IsDone : ℕ\n    IsDone = n\n\npub record Row : Type 0 where\n  IsDone : ℕ\n"
+    ),
+    NAMED_TWICE: "# The names.\nSound: mq_high/Done mq_low/Low\n",
+    LONG_LINES: "# The lines.\nmq_high/specs/Done.antt: 1\n",
+    # (a function without a body that has one more than ten, and one that has ten, with a closure)
+    "crates/mq_low/src/wide.rt": (
+        "//! What is wide.\npub trait Wide {\n    fn ask(&self) -> u8\n        requires { 1 ≡ 1"
+        f" }}\n{TEN_CLAUSES};\n}}\n\nimpl Wide for Low {{\n    // ensures so {{ 1 ≡ 1 }}\n    fn"
+        f" tell(&self) -> u8\n{TEN_CLAUSES}\n    {{\n        let same = |at| -> u8\n           "
+        " ensures { result ≡ at }\n        {\n            at\n        };\n        same(1)\n   "
+        " }\n}\n"
+    ),
+    LONG_CONTRACTS: "# The contracts.\nmq_low/src/wide.rt: Wide::ask 11\n",
+    "crates/mq_low/src/order.rt": (
+        "//! Orders.\npub const MOST: u8 = 1;\n\npub fn least() -> u8 {\n    MOST\n}\n\npub fn"
+        " timed() {}\n\npub struct Order;\n"
+    ),
+    "bench/time/main.rattle": "use mq_low::timed;\n",
+    "crates/mq_low/src/laws.rt": "//! Laws.\npub fn always() {}\n",
+    TAKEN_BY_NONE: "# What is handed out.\nmq_high: call\nmq_low: least\n",
     "crates/mq_lemmas/src/lib.rt": (
         "//! Lemmas. From `mq_lemmas/proofs/Both.antt`:\n//!\n//!     both true = refl\n//!\n//! It"
         " stands on no crate of ours. Begin with that.\n"
@@ -990,6 +1167,55 @@ WRONG = [
     ),
     (CIRCLES, "mq_high: high steps\n", "", circles),
     (CIRCLES, "high steps", "high log steps", circles),
+    ("crates/mq_low/specs/Low.antt", "{- no more:", "", defined_once),
+    ("crates/mq_low/specs/Low.antt", "record Row", "record IsDone", defined_once),
+    ("crates/mq_low/specs/Low.antt", "  abbrev pub Sound", "  pub IsDone", defined_once),
+    ("crates/mq_low/specs/Low.antt", "    where\n    IsDone", "\n  IsDone", defined_once),
+    ("crates/mq_low/specs/Low.antt", "pub Sound", "pub Loud", defined_once),
+    (NAMED_TWICE, "Sound: mq_high/Done mq_low/Low\n", "", defined_once),
+    (NAMED_TWICE, " mq_low/Low", "", defined_once),
+    (NAMED_TWICE, "mq_low/Low", "mq_low/Low mq_low/Lower", defined_once),
+    (NAMED_TWICE, "mq_low/Low\n", "mq_low/Low\nIsDone: mq_high/Done\n", defined_once),
+    (
+        "crates/mq_low/src/wide.rt",
+        "{ 1 ≡ 1 }\n",
+        "{ 1 ≡ 1 }\n        requires* so { 1 ≡ 1 }\n",
+        contracts_fit,
+    ),
+    ("crates/mq_low/src/wide.rt", "        requires { 1 ≡ 1 }\n", "", contracts_fit),
+    ("crates/mq_low/src/wide.rt", "// ensures", "/// ensures"),
+    (
+        "crates/mq_low/src/wide.rt",
+        "tell(&self) -> u8\n",
+        "tell(&self) -> u8\n        requires { 1 ≡ 1 }\n",
+        contracts_fit,
+    ),
+    ("crates/mq_low/src/wide.rt", "fn ask", "fn asked", contracts_fit),
+    (LONG_CONTRACTS, "mq_low/src/wide.rt: Wide::ask 11\n", "", contracts_fit),
+    (LONG_CONTRACTS, "ask 11", "ask 12", contracts_fit),
+    (LONG_CONTRACTS, "ask 11", "ask 10", contracts_fit),
+    (LONG_CONTRACTS, "ask 11\n", "ask 11\nmq_low/src/wide.rt: LowWide::tell 10\n", contracts_fit),
+    (LONG_CONTRACTS, "ask 11\n", "ask 11\nmq_lower/src/wide.rt: Wide::ask 11\n", contracts_fit),
+    ("crates/mq_high/specs/Done.antt", "-- ℕ", "--  ℕ", specs_fit),
+    ("crates/mq_high/specs/Done.antt", "-- n", "n", specs_fit),
+    ("crates/mq_low/specs/Low.antt", "no more", "more " * 20, specs_fit),
+    (LONG_LINES, "mq_high/specs/Done.antt: 1\n", "", specs_fit),
+    (LONG_LINES, "Done.antt: 1", "Done.antt: 2", specs_fit),
+    (LONG_LINES, "Done.antt: 1\n", "Done.antt: 1\nmq_low/specs/Low.antt: 0\n", specs_fit),
+    ("crates/mq_high/src/lib.rt", "{MOST, low}", "low", taken),
+    (
+        "crates/mq_high/src/lib.rt",
+        "use mq_low::{MOST, low};\n",
+        "use mq_low::{MOST, least, low};\n",
+        taken,
+    ),
+    ("crates/mq_high/src/lib.rt", "use mq_low::", "use crate::", taken),
+    ("crates/mq_low/src/lib.rt", "least, ", "", taken),
+    ("crates/mq_low/src/lib.rt", "mod order;", "pub mod order;", taken),
+    ("bench/time/main.rattle", "timed", "Timed", taken),
+    (TAKEN_BY_NONE, "mq_low: least\n", "", taken),
+    (TAKEN_BY_NONE, "least", "least MOST", taken),
+    (TAKEN_BY_NONE, "least\n", "least\nmq_lemmas:\n", taken),
     ("CONTRIBUTING.md", "`call`", "`calls`", sent_to),
     ("CONTRIBUTING.md", "`done`", "`well`", sent_to),
     ("CONTRIBUTING.md", "specs/Done", "specs/Gone", sent_to),
@@ -1081,26 +1307,59 @@ WRONG = [
         "mq_low.proofs.low",
         "mq_high.proofs.call",
         standing_twice,
+        taken,
     ),
 ]
 
 
+# Lists that say something else, and what is left of that once what was mended is taken from them.
+LEFT = [
+    (NAMED_TWICE, " mq_low/Low", " mq_low/Low mq_lower/Low", " mq_low/Low"),
+    (NAMED_TWICE, "Sound", "Sounds: mq_high/Done mq_low/Low\nSound", "Sound"),
+    (LONG_CONTRACTS, "ask 11", "ask 12", "ask 11"),
+    (
+        LONG_CONTRACTS,
+        "mq_low/src/wide.rt: Wide::ask 11\n",
+        "mq_low/src/wide.rt: Wide::tell 11\n",
+        "",
+    ),
+    (LONG_CONTRACTS, "ask 11\n", "ask 11\nmq_low/src/wide.rt: LowWide::tell 11\n", "ask 11\n"),
+    (LONG_LINES, "Done.antt: 1", "Done.antt: 3", "Done.antt: 1"),
+    (LONG_LINES, "Done.antt: 1\n", "Done.antt: 1\nmq_low/specs/Low.antt: 1\n", "Done.antt: 1\n"),
+    (TAKEN_BY_NONE, "least", "MOST least", "least"),
+    (TAKEN_BY_NONE, "mq_low: least\n", "mq_low: MOST\n", ""),
+]
+
+
+def write(tree, file, text):
+    os.makedirs(os.path.dirname(f"{tree}/{file}"), exist_ok=True)
+    with open(f"{tree}/{file}", "w", encoding="utf-8") as it:
+        it.write(text)
+
+
 def own_test():
     """Yields of each wrong thing whether its checks, and no other, find it."""
-    for file, old, new, *checks in [("docs/GATE.md", "A gate", "A gate"), *WRONG]:
-        with tempfile.TemporaryDirectory(prefix="prose-") as tree:
-            for name, text in TREE.items():
-                os.makedirs(os.path.dirname(f"{tree}/{name}"), exist_ok=True)
-                text = text.replace(old, new, 1) if name == file else text
-                with open(f"{tree}/{name}", "w", encoding="utf-8") as it:
-                    it.write(text)
+    with tempfile.TemporaryDirectory(prefix="prose-") as tree:
+        for file, text in TREE.items():
+            write(tree, file, text)
+        for file, old, new, *checks in [("docs/GATE.md", "A gate", "A gate"), *WRONG]:
+            write(tree, file, TREE[file].replace(old, new, 1))
             found = {it.__name__ for it in CHECKS if any(wrong for _, wrong in it(tree))}
-        wanted = {it.__name__ for it in checks}
-        yield f"{new!r} in {file}", (
-            []
-            if old in TREE[file] and found == wanted
-            else [f"it is found by {sorted(found)}, and not by {sorted(wanted)}"]
-        )
+            write(tree, file, TREE[file])
+            wanted = {it.__name__ for it in checks}
+            yield f"{new!r} in {file}", (
+                []
+                if old in TREE[file] and found == wanted
+                else [f"it is found by {sorted(found)}, and not by {sorted(wanted)}"]
+            )
+        for file, old, new, left in LEFT:
+            write(tree, file, TREE[file].replace(old, new, 1))
+            shrink(tree)
+            found, wanted = read(tree, file), TREE[file].replace(old, left, 1)
+            write(tree, file, TREE[file])
+            yield f"what is left of {new!r} in {file}", (
+                [] if old in TREE[file] and found == wanted else [f"it is {found!r}"]
+            )
 
 
 def main():
@@ -1114,8 +1373,15 @@ def main():
         default=TOP,
         help="by default the one that this file is in",
     )
-    tree = parser.parse_args().tree
-    return status_of(itertools.chain(own_test(), *(it(tree) for it in CHECKS)))
+    parser.add_argument(
+        "--shrink",
+        action="store_true",
+        help="take what was mended from the lists beside this of what is left",
+    )
+    given = parser.parse_args()
+    if given.shrink:
+        shrink(given.tree)
+    return status_of(itertools.chain(own_test(), *(it(given.tree) for it in CHECKS)))
 
 
 if __name__ == "__main__":
