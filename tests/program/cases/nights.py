@@ -30,6 +30,7 @@ from cases.failures import Disk, can_mount
 from cases.filters import LIMIT, PROCEED
 from cases.retiring import of_version, written
 from ends import (
+    BUSY,
     LOCKED,
     LONG,
     NO_FILE,
@@ -567,7 +568,7 @@ def leaves_what_is_locked(world, checks):
             fcntl.lockf(file, fcntl.LOCK_EX | fcntl.LOCK_NB, LOCK[1], LOCK[0])
             came = world.run("audit", "--config", ledger_settings(world, path, default=DEFAULT))
             checks.equal(
-                f"{what}: audit", came, fault(NOT_OPENED, log=of_store(path + locked, LOCKED))
+                f"{what}: audit", came, fault(NOT_OPENED, log=of_store(path + locked, BUSY))
             )
             checks.equal(f"{what}: files", names(path), before)
         checks.equal(f"{what}, which has ended: audit", audit(world, path, default=DEFAULT)[0], 0)
