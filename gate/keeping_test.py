@@ -28,7 +28,7 @@ open(os.environ["NOTED"], "a").write("".join(f"first {it}\\n" for it in first) o
 broken = [it for it in first if it == os.environ.get("BROKEN")]
 for it in first or ["cases"]:
     print(f"NOT {it}: 1 passed, 1 failed, 0 s" if it in broken else f"ok  {it}: 2 passed, 0 s")
-if sys.argv[1] == "--over" and "1.0.0 (" not in open(sys.argv[2]).read():
+if sys.argv[1] == "--over" and "1.1.0 (" not in open(sys.argv[2]).read():
     sys.exit("the program's version has no commit")
 print(f"{2 * len(first or ['cases']) - len(broken)} passed, {len(broken)} failed")
 sys.exit(len(broken))
@@ -55,7 +55,7 @@ FILES = {
     "crates/high/must-fail/high.edit": "case: peers: one\n" + EDIT.format(name="high"),
     "crates/high/must-fail/witness.edit": EDIT.format(name="high_witness"),
     "crates/mailquota/src/main.rt": "main\n",
-    "crates/mailquota/src/version.rt": 'pub const VERSION: &str = "1.0.0";\n',
+    "crates/mailquota/src/version.rt": 'pub const VERSION: &str = "1.1.0";\n',
     "crates/mq_store_tests/src/lib.rt": "test\n",
     "scripts/tests.py": "tests\n",
     "contrib/smtpd.conf": "listen\n",

@@ -71,7 +71,7 @@ def of_the_figures(checks, day):
         text = read(f"{day.folder_of(machine)}/mailquota-{kind}.prom")
         came = monitors.run("promtool", "check", "metrics", text=text)
         checks.equal(f"{machine}: promtool check metrics", came, (0, ""))
-    # (some are known only for a time, as those of the last night up to the next start)
+    # (some aren't known at each moment, as those of a night before the first one)
     hourly = [text for moment, _, text in day.scrapes if moment % HOUR == MINUTE - 1]
     figures = boards.figures_of("\n".join(hourly))
     for alert in boards.alerts():

@@ -262,8 +262,13 @@ NOBODY_LISTENS, NO_FILE = (
     "No such file or directory (os error 2)",
 )
 NOT_ALLOWED = "Permission denied (os error 13)"
-# What the store says of a file that another process has open, and of one that is no database.
-LOCKED, NO_DATABASE = "database is locked", "file is not a database that obeys its schema"
+# What the store says of a file that another process has open, with what works beside it, and of one
+# that is no database.
+BUSY, NO_DATABASE = "database is locked", "file is not a database that obeys its schema"
+LOCKED = (
+    f"{BUSY}: a server or another command has it open; mailquota-limits and mailquota-backup read it"
+    " meanwhile"
+)
 
 
 def unreached(address, cause=NOBODY_LISTENS):

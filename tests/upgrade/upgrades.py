@@ -8,11 +8,10 @@ of which one has the address that two mail hosts ask. run.sh starts it, in names
    commands ask new servers. The other way round only commands do, at the first server while the
    second isn't upgraded yet: INSTALL has servers upgraded first, and STABLE promises no more.
 3. Settings, counts, limits and the answers to repeated requests are the same before and after.
-4. Then all go back, mail hosts first. CHANGELOG promises no way back in so many words. By STABLE it
-   says where the ledger's file gets a later version, which earlier programs refuse, and it says so
-   of none since this release: so its program opens what a new one wrote, with nothing lost. A
-   release that makes a later version has to try here that the earlier program refuses it, and that
-   the backup of before goes on.
+4. Then all go back, mail hosts first, as CHANGELOG says: the ledger's file gets no later version,
+   so the earlier program opens what a new one wrote, with nothing lost. A release that makes a later
+   version has to try here that the earlier program refuses it, and that the backup of before goes
+   on.
 5. The servers are upgraded once more, over what the release wrote by then.
 6. Both programs print the same over the same ledgers: compare.py.
 """

@@ -11,10 +11,10 @@
 //!     let _ended = serve_connections(
 //!
 //! It stands on `mq_request`, `mq_permits`, `mq_ledger`, `mq_chore`, `mq_metrics`, `mq_server`,
-//! `mq_link` and `mq_watch`: it knows how a connection is answered and when it is late, over any ledger that is
-//! told each peer and what it may ask, and neither tables nor what a chore does. Begin with `serving.rt`, the rounds
-//! over all that is open, and `specs/Sessions.antt`, what came on each connection and what it was
-//! answered.
+//! `mq_link` and `mq_watch`: it knows how a connection is answered and when it is late, over any
+//! ledger that is told each peer and what it may ask, and neither tables nor what a chore does. Begin
+//! with `serving.rt`, the rounds over all that is open, and `specs/Sessions.antt`, what came on each
+//! connection and what it was answered.
 #![tactic(auto)]
 
 mod accept;

@@ -3,8 +3,8 @@
 //! A [`Counter`], a [`Gauge`] and a [`Histogram`] count through a `&`, so a set of them is lent to
 //! whoever has something to count, as the log is. [`ServerMetrics`] is the server's set, and
 //! [`FilterMetrics`] the filter's. Each is displayed in Prometheus' text format, whose parts stand in
-//! [`text`], and [`write_file`] writes that in place of the file before. [`CountedLog`] counts the
-//! warnings of a log. From `mq_watch/src/counting.rt`:
+//! [`text`], and a [`MetricsFile`] is written once a minute. [`CountedLog`] counts the warnings of a
+//! log. From `mq_watch/src/counting.rt`:
 //!
 //!     self.metrics.requests.of(kind, outcome).increment();
 //!
@@ -28,7 +28,7 @@ mod warnings;
 pub use connections::{ConnectionCounts, GivenUp};
 pub use counted_log::CountedLog;
 pub use counts::{Counter, Gauge};
-pub use file::write_file;
+pub use file::{MetricsFile, UnwrittenFigures};
 pub use filter::{AnswerCounts, ExchangeCounts, FilterFigures, FilterMetrics, HeldBackCounts};
 pub use histogram::Histogram;
 pub use part::ProgramPart;

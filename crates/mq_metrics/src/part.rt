@@ -39,7 +39,7 @@ impl ProgramPart {
             "mq_program::memory" | "mq_program::metrics" | "mq_program::serving" => {
                 ProgramPart::Server
             }
-            "mq_remote::metrics_file" | "mq_remote::subcommands::filter" => ProgramPart::Filter,
+            "mq_remote::measured_log" | "mq_remote::subcommands::filter" => ProgramPart::Filter,
             other => ProgramPart::of_crate(crate_of(other)),
         }
     }

@@ -71,7 +71,7 @@ impl RequestKind {
 pub enum RequestResult {
     /// Its recipients are reserved.
     Granted,
-    /// They were reserved before, and this is the reply of then.
+    /// They were reserved since it is counted, and this is the reply of then.
     Repeated,
     /// They would pass the limit.
     Full,

@@ -28,16 +28,18 @@ pub struct ServerMetrics {
     /// When the figures are told.
     pub written: Gauge,
     pub requests: RequestCounts,
-    /// Recipients that reserves were granted.
+    /// Recipients that reserves were granted, each once since this counts.
     pub granted: Counter,
-    /// Recipients that releases gave back, and that settles left over.
+    /// Recipients that releases gave back, and that settles left over of transactions that began
+    /// since this counts.
     pub released: Counter,
     pub connections: ConnectionCounts,
     /// What the ledger took for a request, or for those of a round together.
     pub commits: Histogram,
     /// From the read that brought a request until its reply was handed to the system.
     pub replies: Histogram,
-    /// The answers that the ledger had as they were counted last: at the start, or after a night.
+    /// The answers that the ledger had as they were counted last: with nights at the start and after
+    /// each of them, else as the figures were told.
     pub answers: Gauge,
     /// The open transactions that began since it is counted.
     pub transactions: Gauge,
@@ -127,17 +129,19 @@ impl ServerMetrics {
         self.requests.write(
             f,
             "mailquota_server_requests_total",
-            "Requests by their kinds and by what they came to.",
+            "Requests by their kinds and by what they came to. A reserve that was granted since the \
+                server started, and comes again, is repeated; others count each time as what they came to.",
         )?;
         self.granted.write(
             f,
             "mailquota_server_recipients_granted_total",
-            "Recipients that reserves were granted, each once.",
+            "Recipients that reserves were granted, each once since the server started.",
         )?;
         self.released.write(
             f,
             "mailquota_server_recipients_released_total",
-            "Recipients that releases gave back and settles left over, each once.",
+            "Recipients that releases gave back, and that settles left over of transactions that \
+                began since the server started, each once.",
         )
     }
 
@@ -175,12 +179,13 @@ impl ServerMetrics {
         self.answers.write(
             f,
             "mailquota_server_answers",
-            "Answers that the ledger had as they were counted last: at the start, or after a night.",
+            "Answers that the ledger had as they were counted last: with the setting keep at the \
+                start and after each night, else as this was written.",
         )?;
         self.transactions.write(
             f,
             "mailquota_server_open_transactions",
-            "Open transactions that began since the server started.",
+            "Open transactions that began since the server started, of 100,000 at most.",
         )?;
         self.write_files(f)?;
         self.memory_bytes.write(

@@ -75,7 +75,7 @@ pub struct Caretaker<'a, R, G> {
     rt: &'a R,
     log: &'a G,
     names: &'a Names,
-    metrics: &'a MetricsWriter<'a, R, G>,
+    pub metrics: &'a MetricsWriter<'a, R, G>,
     /// Whether days leave the ledger, so that the former one is of a night.
     has_nights: bool,
     /// Whether it has looked, and when it did last.

@@ -3,31 +3,24 @@ ghost use Rattle.std.specs.Prelude.{◌≡◌};
 ghost use Rattle.sqlite.specs.Held.{state};
 ghost use Rattle.mq_store.specs.Soundness.{HasKept, IsSound};
 
-use crate::elapsed_time::Elapsed;
+use crate::last_night::NightReport;
 use crate::refusal::days_by;
 use log::{Log, warn};
 use mq_chore::{Chore, Piece};
 use mq_ledger::Zone;
-use mq_metrics::{Gauge, ServerBuild, ServerMetrics, write_file};
-use mq_process::elapsed;
+use mq_metrics::{Gauge, MetricsFile, NightMetrics, ServerBuild, ServerMetrics};
 use mq_settings::{Place, ServerSettings};
 use mq_store::SqlLedger;
+use mq_watch::millis_of;
 use sqlite::Alter;
 use std::alloc::{AllocError, Global};
-use std::cell::Cell;
+use std::fs;
 use std::fs::File;
 use std::rt::{Clock, Files};
-use std::time::{Duration, Instant, SystemTime, UNIX_EPOCH};
-use std::{fs, io};
+use std::time::Duration;
 
 /// How often it is looked whether it is time to write, in seconds.
 const LOOK: u64 = 5;
-
-/// How often the file is written, in seconds.
-const MINUTE: u64 = 60;
-
-/// How often it is logged that it can't be, in seconds.
-const HOUR: u64 = 3_600;
 
 /// What the system says of the memory of this process, in pages: all of it, and then what is in the
 /// machine's memory.
@@ -47,7 +40,7 @@ pub fn figures_of<R: Clock + AllocGlobal>(
         zone: zone_text(rt.alloc(), &settings.zone)?,
     };
     let figures = ServerMetrics::new(build);
-    set(&figures.started, time_of_day(rt));
+    set(&figures.started, millis_of(rt));
     figures.default_limit.set(u64::from(settings.default));
     Ok(figures)
 }
@@ -56,13 +49,6 @@ pub fn figures_of<R: Clock + AllocGlobal>(
 fn zone_text(alloc: Global, zone: &Zone) -> Result<String, AllocError> {
     let terms = days_by(zone);
     format!(in alloc; "{terms}")
-}
-
-/// The time of day: milliseconds since 1970-01-01T00:00:00Z, where the clock can be read.
-fn time_of_day<R: Clock>(rt: &R) -> Option<u64> {
-    let now = SystemTime::now(rt).ok()?;
-    let passed = now.duration_since(UNIX_EPOCH).ok()?;
-    u64::try_from(passed.as_millis()).ok()
 }
 
 /// Sets a gauge to what was found.
@@ -85,21 +71,24 @@ fn memory_in_use<R: Files + AllocGlobal>(rt: &R) -> Option<u64> {
     pages.checked_mul(PAGE)
 }
 
-/// Writes a server's metrics into the file that its settings name, where they name one. It notes in
-/// cells what it did, so that it can be lent to each that looks after something between the rounds
-/// over the connections.
+/// Sets the figures of the last night.
+pub fn set_night(figures: &NightMetrics, night: &NightReport) {
+    set(&figures.over, night.over);
+    set(&figures.took, night.took.millis());
+    set(&figures.answers, night.answers);
+    figures.day.set(u64::from(night.day));
+}
+
+/// Writes a server's metrics into the file that its settings name, where they name one, once a
+/// minute. It is lent to each that looks after something between the rounds over the connections.
 #[derive(Drop)]
 pub struct MetricsWriter<'a, R, G> {
     rt: &'a R,
     log: &'a G,
     figures: &'a ServerMetrics,
-    path: Option<&'a str>,
+    file: Option<MetricsFile<'a>>,
     /// The ledger's file and its log, where it isn't in memory.
     files: Option<LedgerFiles<'a>>,
-    /// When the file was written last, or that was tried.
-    tried: Cell<Option<Instant>>,
-    /// When it was logged last that it can't be written.
-    told: Cell<Option<Instant>>,
 }
 
 /// The path of a ledger's file, and that of its log.
@@ -137,32 +126,25 @@ impl<'a, R: Files<File = File> + Clock + AllocGlobal, G: Log> MetricsWriter<'a, 
             rt,
             log,
             figures,
-            path: settings.metrics.as_deref(),
+            file: settings.metrics.as_deref().map(MetricsFile::new),
             files: LedgerFiles::of_settings(rt.alloc(), settings)?,
-            tried: Cell::new(None),
-            told: Cell::new(None),
         })
     }
 
     /// The figures, where they are wanted.
     pub fn counted(&self) -> Option<&'a ServerMetrics> {
-        match self.path {
+        match &self.file {
             Some(_) => Some(self.figures),
             None => None,
         }
     }
 
-    /// Whether so many seconds have passed since then.
-    fn has_passed(&self, seconds: u64, since: Option<Instant>) -> bool {
-        match elapsed(self.rt, since) {
-            Some(passed) => passed.as_secs() >= seconds,
-            None => true,
-        }
-    }
-
     /// Whether it is time to write the file.
     fn is_due(&self) -> bool {
-        self.path.is_some() && self.has_passed(MINUTE, self.tried.get())
+        match (&self.file, millis_of(self.rt)) {
+            (Some(file), Some(now)) => file.is_due(now / 1_000),
+            _ => false,
+        }
     }
 
     /// Writes the file, where it is time to.
@@ -193,52 +175,31 @@ impl<'a, R: Files<File = File> + Clock + AllocGlobal, G: Log> MetricsWriter<'a, 
 
     /// Writes the file, where there is one. That it can't be written is logged once an hour.
     pub fn write(&self) {
-        let Some(path) = self.path else {
-            return;
-        };
-        self.tried.set(Instant::now(self.rt).ok());
-        self.measure();
-        if let Err(cause) = self.write_to(path) {
-            self.log_failure(path, &cause);
+        if let (Some(file), Some(now)) = (&self.file, millis_of(self.rt)) {
+            self.measure(now);
+            if let Some(unwritten) = file.write(self.rt, now / 1_000, self.figures) {
+                warn!(self.log; "{unwritten}");
+            }
         }
     }
 
-    /// Finds the figures that nobody counts.
-    fn measure(&self) {
+    /// Finds the figures that nobody counts, at this time of day.
+    fn measure(&self, now: u64) {
         let figures = self.figures;
+        figures.written.set(now);
         if let Some(files) = &self.files {
             set(&figures.ledger_bytes, size_of(self.rt, files.ledger));
             set(&figures.log_bytes, size_of(self.rt, files.log.as_str()));
         }
         set(&figures.memory_bytes, memory_in_use(self.rt));
-        set(&figures.written, time_of_day(self.rt));
-    }
-
-    /// Writes the file at a path.
-    fn write_to(&self, path: &str) -> io::Result<()> {
-        let text = self.figures.to_string(self.rt.alloc())?;
-        write_file(self.rt, path, text.as_str())
-    }
-
-    /// Logs that the file at a path can't be written, unless it was within the last hour.
-    fn log_failure(&self, path: &str, cause: &io::Error) {
-        if self.has_passed(HOUR, self.told.get()) {
-            self.told.set(Instant::now(self.rt).ok());
-            warn!(self.log; "metrics {path}: {cause}");
-        }
     }
 }
 
-impl<'a, R: Clock, G> MetricsWriter<'a, R, G> {
-    /// Notes that a night is over, which took so long: the days before this one were forgotten, and
-    /// so many answers were kept.
-    pub fn note_night(&self, day: u32, took: Elapsed, answers: Option<u64>) {
-        let night = &self.figures.night;
-        set(&night.over, time_of_day(self.rt));
-        set(&night.took, took.millis());
-        set(&night.answers, answers);
-        night.day.set(u64::from(day));
-        set(&self.figures.answers, answers);
+impl<'a, R, G> MetricsWriter<'a, R, G> {
+    /// Notes that this night is over.
+    pub fn note_night(&self, night: &NightReport) {
+        set_night(&self.figures.night, night);
+        set(&self.figures.answers, night.answers);
     }
 }
 
@@ -254,7 +215,7 @@ impl<R: Files<File = File> + Clock + AllocGlobal, G: Log, S: Alter> Chore<SqlLed
 
     fn go_on(&mut self, ledger: &mut SqlLedger<S>) -> Piece {
         self.metrics.look_at(ledger);
-        if self.metrics.path.is_some() {
+        if self.metrics.file.is_some() {
             Piece::Later(Duration::from_secs(LOOK))
         } else {
             Piece::Nothing

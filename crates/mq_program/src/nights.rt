@@ -16,8 +16,8 @@ use crate::caretaker::Caretaker;
 use crate::elapsed_time::Elapsed;
 use crate::fault::ProgramFault;
 use crate::host::Databases;
-use crate::last_night::{last_night, note_night};
-use crate::metrics::MetricsWriter;
+use crate::last_night::{NightReport, last_night, last_report, note_night};
+use crate::metrics::{MetricsWriter, set_night};
 use crate::serving::{
     EndedServing, bind, counted, days_of, log_begin, log_end, log_ledger, outcome_of, times_of,
 };
@@ -33,7 +33,7 @@ use mq_permits::Permits;
 use mq_process::elapsed;
 use mq_settings::ServerSettings;
 use mq_store::SqlLedger;
-use mq_watch::{LedgerDays, WatchedLedger};
+use mq_watch::{LedgerDays, WatchedLedger, millis_of};
 use sqlite::{Alter, Connection, Unknown};
 use std::alloc::AllocError;
 use std::rt::{Clock, Files};
@@ -96,7 +96,6 @@ struct NightFiles<'a, R, G> {
     rt: &'a R,
     log: &'a G,
     names: &'a Names,
-    metrics: &'a MetricsWriter<'a, R, G>,
     caretaker: Caretaker<'a, R, G>,
 }
 
@@ -131,7 +130,7 @@ impl<R: Databases + Clock, G: Log> Parts<PartStore> for NightFiles<'_, R, G> {
 
     fn look(&mut self, renews: bool) -> Look {
         let look = self.caretaker.look(renews);
-        self.metrics.look();
+        self.caretaker.metrics.look();
         look
     }
 }
@@ -164,8 +163,14 @@ where
             self.log;
             "ledger {ledger}: the days before {day} are forgotten, in {took}, the last {switched} without an answer"
         );
-        note_night(self.rt, self.log, ledger, zone, day, took);
-        self.metrics.note_night(day, took, night.answers);
+        let report = NightReport {
+            day,
+            took,
+            over: millis_of(self.rt),
+            answers: night.answers,
+        };
+        note_night(self.rt, self.log, ledger, zone, &report);
+        self.caretaker.metrics.note_night(&report);
         Ok(())
     }
 }
@@ -531,6 +536,17 @@ fn log_start<R, G: Log, S: Alter>(
     log_keep(nights.log, nights.path, ledger, nights.keep)
 }
 
+/// Tells the log and the figures what the last night did, where that is noted.
+fn tell_last_night<R: Files + AllocGlobal, G: Log>(nights: &Nights<'_, R, G>) {
+    let path = nights.path;
+    if let Some(night) = last_night(nights.rt, path) {
+        info!(nights.log; "ledger {path}: {night}");
+    }
+    if let (Some(figures), Some(night)) = (nights.figures, last_report(nights.rt, path)) {
+        set_night(&figures.night, &night);
+    }
+}
+
 /// Logs the start over a ledger, with what its last night did, and listens at the address of the
 /// settings. It gives the days on which something was reserved.
 fn prepare<R, G: Log, W: Port, S: Alter>(
@@ -560,9 +576,7 @@ where
             return Err(ProgramFault::Audit(fault));
         }
     };
-    if let Some(night) = last_night(nights.rt, path) {
-        info!(log; "ledger {path}: {night}");
-    }
+    tell_last_night(nights);
     bind(log, network, nights.settings.listen)?;
     Ok(days)
 }
@@ -652,7 +666,6 @@ where
         rt,
         log,
         names,
-        metrics,
         caretaker: Caretaker::new(rt, log, names, metrics, true),
     };
     // (the files of nights have one type, and of one that a renewal makes nothing is known before)

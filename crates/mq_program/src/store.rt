@@ -38,6 +38,10 @@ use std::{fs, io};
 /// Who may read and write a file that is made: its owner alone.
 pub const MODE: u32 = 0o600;
 
+/// What the log says of a file that another process has open.
+const LOCKED: &str =
+    "database is locked: a server or another command has it open; mailquota-limits and mailquota-backup read it meanwhile";
+
 /// A new ledger in the memory of the server. `default` is 0 to 1,000,000.
 pub fn memory_ledger(
     alloc: Global,
@@ -149,6 +153,7 @@ fn connect<R: Databases, G: Log, S: Start>(
     match rt.open_database(path, start) {
         Ok(connection) => Ok(connection),
         Err(Error::SqliteFailure(ErrorCode::OutOfMemory)) => Err(ProgramFault::Memory),
+        Err(Error::SqliteFailure(ErrorCode::DatabaseBusy)) => Err(unopened(log, path, LOCKED)),
         Err(cause) => Err(unopened(log, path, cause)),
     }
 }

@@ -14,7 +14,6 @@
 mod fault;
 mod measured_link;
 mod measured_log;
-mod metrics_file;
 mod seconds;
 mod subcommands;
 

@@ -1,12 +1,11 @@
 //! The log of a filter that counts what it does, and has the figures written.
 
-use crate::metrics_file::MetricsFile;
 use crate::seconds::seconds_now;
 use log::kv::Source;
 use log::span::Spans;
-use log::{Log, Metadata, Record};
+use log::{Log, Metadata, Record, warn};
 use mq_client::{AnswerKind, Client, FilterEvent, Observer};
-use mq_metrics::{FilterFigures, FilterMetrics};
+use mq_metrics::{FilterFigures, FilterMetrics, MetricsFile};
 use mq_process::WallClock;
 use mq_settings::FilterSettings;
 use std::fmt::Display;
@@ -51,7 +50,15 @@ impl<'a, R: Files + WallClock + AllocGlobal, G: Log> MeasuredLog<'a, R, G> {
     pub fn end(&self, client: &Client) {
         self.note(client.held_count(), client.outbox_count());
         if let (Some(file), Some(now)) = (&self.file, seconds_now(self.rt)) {
-            file.write(self.rt, self.log, &self.figures(now, false));
+            self.write(file, now, false);
+        }
+    }
+
+    /// Writes the figures at this second into their file. A file that can't be written has a warning
+    /// an hour, and the filter goes on.
+    fn write(&self, file: &MetricsFile<'_>, now: u64, runs: bool) {
+        if let Some(unwritten) = file.write(self.rt, now, &self.figures(now, runs)) {
+            warn!(self.log; "{unwritten}");
         }
     }
 
@@ -130,9 +137,7 @@ impl<R: Files + WallClock + AllocGlobal, G: Log> Observer for MeasuredLog<'_, R,
         self.note(open, waiting);
         if let Some(file) = &self.file {
             match seconds_now(self.rt) {
-                Some(now) if file.is_due(now) => {
-                    file.write(self.rt, self.log, &self.figures(now, true));
-                }
+                Some(now) if file.is_due(now) => self.write(file, now, true),
                 _ => {}
             }
         }

@@ -11,9 +11,9 @@
 //!     let mut chore = InnerChore { chore };
 //!
 //! It stands on `mq_request`, `mq_permits`, `mq_ledger`, `mq_chore` and `mq_metrics`: it knows
-//! requests, replies and days, and of a connection its peer alone. [`InnerChore`] has a chore of the other ledger go
-//! on. Begin with `watch.rt`, which requests are put to the ledger, and `specs/Seen.antt`, what is
-//! to be seen of each: `watch.rt` finds it, and `watched.rt` logs it.
+//! requests, replies and days, and of a connection its peer alone. [`InnerChore`] has a chore of the
+//! other ledger go on. Begin with `watch.rt`, which requests are put to the ledger, and
+//! `specs/Seen.antt`, what is to be seen of each: `watch.rt` finds it, and `watched.rt` logs it.
 #![tactic(auto)]
 
 mod ahead;
@@ -39,6 +39,7 @@ mod watch;
 mod watched;
 
 pub use calendar::LedgerDays;
+pub use clock::millis_of;
 pub use hear::Hear;
 pub use hours::are_far;
 pub use inner_chore::InnerChore;

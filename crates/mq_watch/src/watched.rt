@@ -141,7 +141,8 @@ impl<'a, L: Ledger, C: Clock, G: Log> WatchedLedger<'a, L, C, G> {
         ledger
     }
 
-    /// The same log around another ledger: what was noted stays, and what counts as today. The former ledger comes back.
+    /// The same log around another ledger: what was noted stays, and what counts as today. The former
+    /// ledger comes back.
     pub fn take_over<M: Ledger>(self, ledger: M) -> (L, WatchedLedger<'a, M, C, G>)
         ensures former { result.0 ≡ self.entry }
         ensures ledger { result.1 ≡ ledger }

@@ -269,7 +269,8 @@ def a_night(world, checks):
             [True, day, kept, kept],
         )
         with open(f"{path}.night", encoding="ascii") as file:
-            took = int(re.search(r"in (\d+) ms", file.read())[1])
+            note = file.read()
+        took = int(re.search(r"in (\d+) ms", note)[1])
         checks.equal("a night: how long it took", came["last_night_seconds"], took / 1000)
         checks.holds(
             "a night: when it was",
@@ -290,6 +291,25 @@ def a_night(world, checks):
             ({("reserve", "granted"): 1}, DEFAULT),
         )
         reads_promtool(checks, server.path)
+    last = {key: value for key, value in came.items() if key.startswith("last_night_")}
+    restarts_after_a_night(world, checks, settings, note, last)
+
+
+def restarts_after_a_night(world, checks, settings, note, last):
+    """A start has the figures of the last night, which are noted beside the ledger. A note of 1.0.0
+    has none."""
+    for what, said, wanted in (
+        ("restarted", note, last),
+        ("restarted over a note of one line", note.splitlines(keepends=True)[0], {}),
+        ("restarted over no note", "", {}),
+    ):
+        with open(f"{settings['store']}.night", "w", encoding="ascii") as file:
+            file.write(said)
+        with Counting(world, what.replace(" ", "-"), **settings) as server:
+            wait_until(lambda: os.path.exists(server.path))
+            came = figures(server.path)
+        told = {key: value for key, value in came.items() if key.startswith("last_night_")}
+        checks.equal(f"a night: {what}", (told, len(last)), (wanted, 4))
 
 
 def whole_at_any_moment(world, checks):
@@ -328,10 +348,10 @@ def whole_at_any_moment(world, checks):
 def a_folder_that_isnt_there(world, checks):
     """A file that can't be written is told once an hour, and keeps nobody waiting."""
     prom = f"{world.folder}/nowhere/mailquota.prom"
-    wanted = f"[WARN  server] metrics {prom}: {NO_FILE}"
+    wanted = f"[WARN  server] no figures can be written to {prom}: {NO_FILE}"
 
     def told():
-        return [it for it in server.all_log_lines() if "metrics" in it]
+        return [it for it in server.all_log_lines() if "figures" in it]
 
     with Server(world, metrics=prom, limit=clocks.limit(0)) as server:
         clock = clocks.Clock(server.process.pid)

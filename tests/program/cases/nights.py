@@ -30,6 +30,7 @@ from cases.failures import Disk, can_mount
 from cases.filters import LIMIT, PROCEED
 from cases.retiring import of_version, written
 from ends import (
+    BUSY,
     LOCKED,
     LONG,
     NO_FILE,
@@ -318,14 +319,24 @@ def forgets_at_a_start(world, checks):
     )
 
 
+def line_of_note(path):
+    """The line of a night's note that people read."""
+    with open(f"{path}.night", encoding="ascii") as file:
+        return file.readline()
+
+
 def is_noted(world, checks, path, day):
     """The last night is noted beside the ledger, for `status` and a later start. Who may not read
     the note does without."""
     with open(f"{path}.night", encoding="ascii") as file:
         note = file.read()
-    good = re.fullmatch(rf"forgot the days before {day} on day {today()}, in \d+ ms\n", note)
-    checks.holds("a night's note", good, "which days, on which one, how long", note)
-    line = f"ledger {path}: {note}"
+    wanted = (
+        rf"(forgot the days before {day} on day {today()}, in (\d+) ms\n)"
+        rf"day={day} took=\2 over=\d{{13}} answers=\d+\n"
+    )
+    good = re.fullmatch(wanted, note)
+    checks.holds("a night's note", good, "which days, on which one, how long; figures", note)
+    line = f"ledger {path}: {line_of_note(path)}"
     config = ledger_settings(world, path, default=DEFAULT)
     came = world.run("status", "--config", config)
     checks.equal(
@@ -554,7 +565,7 @@ def leaves_what_is_locked(world, checks):
             fcntl.lockf(file, fcntl.LOCK_EX | fcntl.LOCK_NB, LOCK[1], LOCK[0])
             came = world.run("audit", "--config", ledger_settings(world, path, default=DEFAULT))
             checks.equal(
-                f"{what}: audit", came, fault(NOT_OPENED, log=of_store(path + locked, LOCKED))
+                f"{what}: audit", came, fault(NOT_OPENED, log=of_store(path + locked, BUSY))
             )
             checks.equal(f"{what}: files", names(path), before)
         checks.equal(f"{what}, which has ended: audit", audit(world, path, default=DEFAULT)[0], 0)
@@ -1042,12 +1053,11 @@ def of_thousands(world, checks):
         "the longer time first",
         (took, last),
     )
-    with open(f"{path}.night", encoding="ascii") as file:
-        checks.equal(
-            f"{what}: its note",
-            file.read(),
-            f"forgot the days before {first_day()} on day {today()}, in {took} ms\n",
-        )
+    checks.equal(
+        f"{what}: its note",
+        line_of_note(path),
+        f"forgot the days before {first_day()} on day {today()}, in {took} ms\n",
+    )
     same_rows(checks, what, path, books.remembered(first_day()))
 
 
@@ -1207,15 +1217,14 @@ def notes_of_nights(world, checks):
                     server.all_log_lines()[-2:],
                 )
             else:
-                with open(f"{path}.night", encoding="ascii") as file:
-                    checks.equal(
-                        f"{what}: what it says",
-                        file.read(),
-                        (
-                            f"forgot the days before {first} on day {there}, in"
-                            f" {said[2] if said else 'N ms'}\n"
-                        ),
-                    )
+                checks.equal(
+                    f"{what}: what it says",
+                    line_of_note(path),
+                    (
+                        f"forgot the days before {first} on day {there}, in"
+                        f" {said[2] if said else 'N ms'}\n"
+                    ),
+                )
 
 
 def a_note_of_the_small_hours(world, checks):
@@ -1227,8 +1236,7 @@ def a_note_of_the_small_hours(world, checks):
     with server:
         wait_until(lambda: has_note(path))
         checks.equal(f"{what}: what is forgotten", forgotten_from(server), [day - 1 - KEEP])
-    with open(f"{path}.night", encoding="ascii") as file:
-        said = file.read()
+    said = line_of_note(path)
     begins = f"forgot the days before {day - 1 - KEEP} on day {day}, in "
     checks.holds(f"{what}: the note", said.startswith(begins), begins, said)
 
@@ -1301,9 +1309,8 @@ def takes_its_own_time(world, checks):
         "less than a minute of the clock, and no more than that",
         times,
     )
-    with open(f"{path}.night", encoding="ascii") as file:
-        wanted = f"forgot the days before {day - KEEP} on day {day}, in {times[0]} ms\n"
-        checks.equal(f"{what}: its note", file.read(), wanted)
+    wanted = f"forgot the days before {day - KEEP} on day {day}, in {times[0]} ms\n"
+    checks.equal(f"{what}: its note", line_of_note(path), wanted)
     checks.equal(f"{what}: files", names(path), NOTED)
 
 
@@ -1611,8 +1618,7 @@ def at_other_times(world, checks):
                 (forgotten_from(server), warnings(server)),
                 ([day - KEEP], []),
             )
-        with open(f"{path}.night", encoding="ascii") as file:
-            said = file.read()
+        said = line_of_note(path)
         begins = f"forgot the days before {day - KEEP} on day {day}, in "
         checks.holds(f"{what}: the note", said.startswith(begins), begins, said)
     line = "[WARN  night] days to be forgotten: no clock; next attempt in an hour"

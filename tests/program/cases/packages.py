@@ -247,12 +247,12 @@ def a_purge(world, checks):
 def other_steps(world, checks):
     """At the other steps of an upgrade nothing is stopped, changed or said."""
     for script, words in (
-        ("prerm", ["upgrade", "1.0.1"]),
+        ("prerm", ["upgrade", "1.1.1"]),
         ("prerm", ["failed-upgrade", "1.0.0"]),
-        ("postrm", ["upgrade", "1.0.1"]),
+        ("postrm", ["upgrade", "1.1.1"]),
         ("postrm", ["abort-install"]),
         ("postrm", ["disappear", "other", "1.0.0"]),
-        ("postinst", ["abort-upgrade", "1.0.1"]),
+        ("postinst", ["abort-upgrade", "1.1.1"]),
         ("postinst", ["abort-remove"]),
     ):
         machine = Installed(world, f"{script}-{words[0]}", [TIMER], [TIMER])

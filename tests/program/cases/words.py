@@ -82,7 +82,7 @@ def helps(world, checks):
 
 
 def version(world, checks):
-    wanted = f"mailquota 1.0.0{built_of(world.program)}\n".encode()
+    wanted = f"mailquota 1.1.0{built_of(world.program)}\n".encode()
     for word in ("--version", "-V"):
         checks.equal(f"mailquota {word}", world.run(word), (0, wanted, ""))
 
