@@ -42,16 +42,16 @@ NO_SERVER = (
     2,
     b"",
     (
-        "mailquota: no server is named; use --server, or copy the server's settings to"
-        f" {PLACE}/server.toml or the filter's to {PLACE}/filter.toml\n"
+        f"mailquota: no server is named; use --server, list it in {PLACE}/servers.toml, or copy the"
+        f" server's settings to {PLACE}/server.toml or the filter's to {PLACE}/filter.toml\n"
     ),
 )
 NO_DAY = (
     2,
     b"",
     (
-        "mailquota: no day is named; use --day or --from, or copy the server's settings to"
-        f" {PLACE}/server.toml\n"
+        "mailquota: which day is today isn't known; use --day or --from with a date, or copy the"
+        f" server's settings, which have the zone, to {PLACE}/server.toml\n"
     ),
 )
 NO_HOST = (
@@ -195,6 +195,31 @@ def by_the_servers_settings(world, checks):
             "stop of yesterday",
             with_settings(world, "stop", "--login", "u", "--ago", "1", **found),
             not_today(today - 1, today),
+        )
+        date = time.strftime("%Y-%m-%d", time.gmtime((today + 1) * 86_400))
+        for words in (["tomorrow"], [date], [str(today + 1)]):
+            checks.equal(
+                f"a stop of tomorrow's {'date' if words == [date] else 'day'}",
+                with_settings(world, "stop", "--login", "u", "--day", *words, **found),
+                not_today(today + 1, today),
+            )
+        # (where the zone isn't known that may be today)
+        came = with_settings(
+            world,
+            *["stop", "--login", "u", "--day", date, "--server", server.address],
+            server="listen = 1\n",
+        )
+        checks.holds(
+            "a stop of tomorrow's date, beside wrong settings",
+            came[:2] == (0, f"stopped: u used 0 on day {today + 1}\nlimit before: 9\n".encode())
+            and came[2].startswith(f"[ERROR settings] {PLACE}/server.toml: "),
+            "it is stopped, and what is wrong is logged",
+            came,
+        )
+        checks.equal(
+            "a resume of tomorrow's date",
+            with_settings(world, "resume", "--login", "u", "--day", date, **found),
+            (0, f"resumed: u may use 9 on day {today + 1}\nlimit after: 9\n".encode(), ""),
         )
         checks.equal(
             "stop of yesterday by force",

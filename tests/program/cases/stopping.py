@@ -979,8 +979,8 @@ def today_alone(world, checks):
             2,
             b"",
             (
-                "mailquota: no day is named; use --day or --from, or copy the server's settings to"
-                " /etc/mailquota/server.toml\n"
+                "mailquota: which day is today isn't known; use --day or --from with a date, or copy"
+                " the server's settings, which have the zone, to /etc/mailquota/server.toml\n"
             ),
         ),
     )
