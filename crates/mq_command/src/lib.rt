@@ -46,7 +46,7 @@ pub use heading::{print_heading, say_undone};
 pub use listed::{json_of_sound, json_of_wrong, push_json_limit};
 pub use note::note_of;
 pub use order::{NUMBERS, OrderFault, run_fresh, run_limit, run_retire};
-pub use outcome::{print_sum, run_fresh_at, run_limit_at};
+pub use outcome::{SetEnd, print_sum, run_fresh_at, run_limit_at};
 pub use output::{OutputFault, write_whole};
 pub use printed::{is_login_text, login_of_text, login_text};
 pub use probe::{HostFault, ProbeEnd, run_check, run_host_probe, run_probe};

@@ -698,7 +698,9 @@ def by_a_list(world, checks):
             ]:
                 sums = b"      0       0 %7d %s\n" % (7 * len(servers), login.encode())
                 # (a number is shared out)
-                in_all = in_all_of(5 * len(servers)) if name == "resume" and servers[1:] else b""
+                in_all = (
+                    in_all_of(5 * len(servers), today) if name == "resume" and servers[1:] else b""
+                )
                 checks.equal(
                     f"{' '.join([name, *words])}, by a list of {len(servers)}",
                     with_settings(world, name, *words, **found),
@@ -812,8 +814,9 @@ def three_words(world, checks):
             )
 
 
-def in_all_of(number):
-    return f"in all at most {number} a day\n".encode()
+
+def refused_by(first):
+    return f"mailquota: not done by any server: {first.address}, the first, refuses this\n"
 
 
 def set_at(numbers, servers):
@@ -830,6 +833,11 @@ def shares_of_a_list(world, checks):
     with Server(world, default=1000) as first, Server(world, default=101) as second:
         both = (first, second)
         found = {
+def in_all_of(number, after=None):
+    """The sum of limits, which holds on each day, or on those after one."""
+    return (
+        f"in all at most {number} a day{'' if after is None else f' after day {after}'}\n".encode()
+    )
             "servers": listed(*(it.address for it in both)),
             "server": server_settings("127.0.0.1:1"),
         }
@@ -856,15 +864,7 @@ def shares_of_a_list(world, checks):
         checks.equal(
             "limit of a run whose number was used with another",
             with_settings(world, "limit", "a", "7", "--run", "5", **found),
-            (
-                1,
-                b"",
-                "".join(
-                    "mailquota: number used with another limit\n"
-                    f"mailquota: not done by server {it.address}\n"
-                    for it in both
-                ),
-            ),
+            (1, b"", "mailquota: number used with another limit\n" + refused_by(first)),
         )
         checks.equal(
             "limit a 2000 at both by the words",
@@ -893,7 +893,7 @@ def shares_of_a_list(world, checks):
                 0,
                 f"server {first.address}:\nresumed: a may use 502 on day {today}\n"
                 f"server {second.address}:\nresumed: a may use 51 on day {today}\n".encode()
-                + in_all_of(551),
+                + in_all_of(551, today),
                 "",
             ),
         )
@@ -903,6 +903,24 @@ def shares_of_a_list(world, checks):
         checks.equal(
             "resume without a number gives each its own",
             (status, output.count(b"limit after: "), b"in all" in output, errors),
+        checks.equal(
+            "limit a 1, where it used 2 at the first",
+            with_settings(world, "limit", "a", "1", **found),
+            (1, b"", f"mailquota: over day {today} used 2\n" + refused_by(first)),
+        )
+        checks.equal("its limits at both, as before", limits(b"a"), [[1000, 1000], [101, 101]])
+        second.ask(reserve(1, count=4, at=today * 86_400, login=b"c"))
+        checks.equal(
+            "limit c 20, where it used more than its share at the second",
+            with_settings(world, "limit", "c", "20", **found),
+            (
+                1,
+                f"set 20 at {first.address}\n".encode(),
+                f"mailquota: over day {today} used 4\n"
+                f"mailquota: not done by server {second.address}\n",
+            ),
+        )
+        checks.equal("its limits at both", limits(b"c"), [[20, 20], [101, 101]])
             (0, 2, False, ""),
         )
         shares_with_one_away(world, checks, first, today)
