@@ -317,14 +317,14 @@ const ACTS: [(Act, &str); 22] = [
         Act::Stop(0, true),
         "stopped: u may use 3 on day 0\nlimit before: 3\nlimit after: 4 up to day 1\n||0",
     ),
-    // On day 0 it had the default, which is less than is used on day 1.
+    // On day 0 it had the default, which is less than is used on day 1. It was stopped from day 2 on.
     (
         Act::Restore(1),
-        "resumed: u may use 4 on day 1\nlimit after: 3\n||0",
+        "resumed: u may use 4 on day 1\nlimit after: 3\n|mailquota: note: a limit of 0 stays in force from day 3 on; use resume --day 3\n|0",
     ),
     (
         Act::Restore(1),
-        "|mailquota: not stopped after day 1; use --cap\n|1",
+        "not stopped: u may use 4 on day 1\nlimit after: 3\n|mailquota: note: a limit of 0 stays in force from day 3 on; use resume --day 3\n|0",
     ),
     // The last second of a day of winter, and the first of the next.
     (Act::Day(1576105199), "18241\n||0"),

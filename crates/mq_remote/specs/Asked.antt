@@ -21,11 +21,12 @@ use Rattle.mq_process.specs.declared.arguments.ReportArguments.{ReportArguments}
 use Rattle.mq_process.specs.declared.arguments.ResumeArguments.{ResumeArguments}
 use Rattle.mq_process.specs.declared.arguments.RetireArguments.{RetireArguments}
 use Rattle.mq_process.specs.declared.arguments.StopArguments.{StopArguments}
-use Rattle.mq_command.specs.Allowing.{limit_of, resumed_line}
+use Rattle.mq_command.specs.Allowing.{limit_of}
 use Rattle.mq_command.specs.Asking.{status_of}
+use Rattle.mq_command.specs.Lower.{FoundLower}
 use Rattle.mq_command.specs.Orders.{Orders, OrdersFresh, Prints, PrintsLine, word}
 use Rattle.mq_command.specs.Report.{Reports}
-use Rattle.mq_command.specs.Stopping.{GivesMore, Restores, restored_lines}
+use Rattle.mq_command.specs.Resuming.{RunsRestore, RunsResume}
 use Rattle.mq_command.specs.Top.{ReportsTop, columns_line}
 use Rattle.mq_command.specs.declared.allow.Setter.{Setter}
 use Rattle.mq_command.specs.declared.order.OrderFault.{OrderFault}
@@ -173,11 +174,9 @@ pub record AsksStop {L F : Type 0} (leads : L → SocketAddr → ℕ → Type 0)
 -- the login was to have so many more from this day on, or the limit that it had
 abbrev pub ResumesThere : Setter → ℕ → Option ℕ → ℕ → Option (List ReportedExchange) → Option (List ReportedExchange) → Option (List ℕ) → Option (List ℕ) → Type 0
 ResumesThere setter day (Some more) status old new output output' =
-    (ended : Result ℕ OrderFault) × GivesMore setter day more old new ended
-    × Prints (λ cap. resumed_line setter.login cap day) output output' ended status
+    (found : FoundLower) × RunsResume setter day more found status old new output output'
 ResumesThere setter day None status old new output output' =
-    (ended : _) × Restores setter day old new ended
-    × Prints (λ restored. restored_lines setter.login restored day) output output' ended status
+    (found : FoundLower) × RunsRestore setter day found status old new output output'
 
 -- How a login is to have more again at these servers: so many, of which each of several that settings name gets its share, or at
 -- each the limit that it had.

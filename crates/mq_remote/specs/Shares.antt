@@ -6,11 +6,12 @@ use Rattle.std.specs.declared.net.SocketAddr.{SocketAddr}
 use Rattle.mq_request.specs.Range.{IsAmount}
 use Rattle.mq_request.specs.declared.message.Request.{Request}
 use Rattle.mq_link.specs.declared.link.ReportedExchange.{ReportedExchange}
-use Rattle.mq_command.specs.Allowing.{limit_of, resumed_line}
+use Rattle.mq_command.specs.Allowing.{limit_of}
+use Rattle.mq_command.specs.Lower.{FoundLower}
 use Rattle.mq_command.specs.Orders.{Orders, OrdersFresh, Prints, PrintsLine}
 use Rattle.mq_command.specs.Printed.{heading_line}
+use Rattle.mq_command.specs.Resuming.{RunsResume}
 use Rattle.mq_command.specs.Shares.{AsksDefault, cap_of, printed_end, set_end, set_line, share_of, sum_line}
-use Rattle.mq_command.specs.Stopping.{GivesMore}
 use Rattle.mq_command.specs.declared.allow.Setter.{Setter}
 use Rattle.mq_command.specs.declared.ask.NoAnswer.{NoAnswer}
 use Rattle.mq_command.specs.declared.order.OrderFault.{OrderFault}
@@ -53,9 +54,8 @@ SetsShare false request server end old new output output' =
 -- the login was to have so many more from this day on, and that was printed below a line that names the server
 abbrev pub GivesMoreAt : Setter → ℕ → List ℕ → ℕ → ℕ → Option (List ReportedExchange) → Option (List ReportedExchange) → Option (List ℕ) → Option (List ℕ) → Type 0
 GivesMoreAt setter day server more status old new output output' =
-    (headed : Option (List ℕ)) × (told said : ℕ) × (ended : Result ℕ OrderFault) × PrintsLine (heading_line server) output headed told
-    × GivesMore setter day more old new ended × Prints (λ cap. resumed_line setter.login cap day) headed output' ended said
-    × (status ≡ max told said)
+    (headed : Option (List ℕ)) × (told said : ℕ) × (found : FoundLower) × PrintsLine (heading_line server) output headed told
+    × RunsResume setter day more found said old new headed output' × (status ≡ max told said)
 
 -- the server of this name was asked for a share of a login's, which ended so; whether it refuses that it may have more isn't told apart
 abbrev pub GivesShare : ShareOrder → Setter → ℕ → List ℕ → ℕ → SetEnd → Option (List ReportedExchange) → Option (List ReportedExchange) → Option (List ℕ) → Option (List ℕ) → Type 0

@@ -812,7 +812,31 @@ def three_words(world, checks):
                 [caps(it, b"thief", today, today + 1) for it in (first, second)],
                 [[9, 9], [5, 5]],
             )
+            typed("stop")
+            with_settings(world, "resume", "thief", "--server", first.address, **found)
+            still = "not stopped: thief may use {0} on day {1}\nlimit after: {0}\n"
+            checks.equal(
+                "resume thief, which the first server has resumed before",
+                typed("resume"),
+                (0, of_both(still.format(9, today), back.format(5, today)), ""),
+            )
+            checks.equal(
+                "resume thief, which both have resumed",
+                typed("resume"),
+                (0, of_both(still.format(9, today), still.format(5, today)), ""),
+            )
+            checks.equal(
+                "the limits of a thief that was let go before",
+                [caps(it, b"thief", today, today + 1) for it in (first, second)],
+                [[9, 9], [5, 5]],
+            )
 
+
+def in_all_of(number, after=None):
+    """The sum of limits, which holds on each day, or on those after one."""
+    return (
+        f"in all at most {number} a day{'' if after is None else f' after day {after}'}\n".encode()
+    )
 
 
 def refused_by(first):
@@ -833,11 +857,6 @@ def shares_of_a_list(world, checks):
     with Server(world, default=1000) as first, Server(world, default=101) as second:
         both = (first, second)
         found = {
-def in_all_of(number, after=None):
-    """The sum of limits, which holds on each day, or on those after one."""
-    return (
-        f"in all at most {number} a day{'' if after is None else f' after day {after}'}\n".encode()
-    )
             "servers": listed(*(it.address for it in both)),
             "server": server_settings("127.0.0.1:1"),
         }
@@ -884,6 +903,24 @@ def in_all_of(number, after=None):
             )
         checks.equal("its limits at both", limits(b"a"), [[1000, 1000], [101, 101]])
         first.ask(reserve(1, count=2, at=today * 86_400, login=b"a"))
+        checks.equal(
+            "limit a 1, where it used 2 at the first",
+            with_settings(world, "limit", "a", "1", **found),
+            (1, b"", f"mailquota: over day {today} used 2\n" + refused_by(first)),
+        )
+        checks.equal("its limits at both, as before", limits(b"a"), [[1000, 1000], [101, 101]])
+        second.ask(reserve(1, count=4, at=today * 86_400, login=b"c"))
+        checks.equal(
+            "limit c 20, where it used more than its share at the second",
+            with_settings(world, "limit", "c", "20", **found),
+            (
+                1,
+                f"set 20 at {first.address}\n".encode(),
+                f"mailquota: over day {today} used 4\n"
+                f"mailquota: not done by server {second.address}\n",
+            ),
+        )
+        checks.equal("its limits at both", limits(b"c"), [[20, 20], [101, 101]])
         with_settings(world, "stop", "a", **found)
         checks.equal("its limits while it is stopped", limits(b"a"), [[2, 0], [0, 0]])
         checks.equal(
@@ -903,24 +940,6 @@ def in_all_of(number, after=None):
         checks.equal(
             "resume without a number gives each its own",
             (status, output.count(b"limit after: "), b"in all" in output, errors),
-        checks.equal(
-            "limit a 1, where it used 2 at the first",
-            with_settings(world, "limit", "a", "1", **found),
-            (1, b"", f"mailquota: over day {today} used 2\n" + refused_by(first)),
-        )
-        checks.equal("its limits at both, as before", limits(b"a"), [[1000, 1000], [101, 101]])
-        second.ask(reserve(1, count=4, at=today * 86_400, login=b"c"))
-        checks.equal(
-            "limit c 20, where it used more than its share at the second",
-            with_settings(world, "limit", "c", "20", **found),
-            (
-                1,
-                f"set 20 at {first.address}\n".encode(),
-                f"mailquota: over day {today} used 4\n"
-                f"mailquota: not done by server {second.address}\n",
-            ),
-        )
-        checks.equal("its limits at both", limits(b"c"), [[20, 20], [101, 101]])
             (0, 2, False, ""),
         )
         shares_with_one_away(world, checks, first, today)

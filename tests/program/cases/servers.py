@@ -9,6 +9,7 @@ from cases.as_used import quiet_port
 from cases.stopping import (
     SET,
     caps,
+    most_limit,
     no_limit,
     nothing_sent,
     orders_of,
@@ -531,8 +532,8 @@ def one_number_for_all(world, checks):
         f"from {before} on, and not later",
         first.heard,
     )
-    with Script([usage_reply(2, 3), is_set, is_set]) as first, Script(
-        [usage_reply(1, 0), is_set, is_set]
+    with Script([usage_reply(2, 3), is_set, is_set], otherwise=most_limit) as first, Script(
+        [usage_reply(1, 0), is_set, is_set], otherwise=most_limit
     ) as second:
         before = clock()
         world.run(
