@@ -6,11 +6,13 @@ use Rattle.mq_command.specs.Allowing.{day_line}
 use Rattle.mq_command.specs.Holding.{Holds, HoldsLater}
 use Rattle.mq_command.specs.Later.{ClearsLater}
 use Rattle.mq_command.specs.Orders.{Prints}
+use Rattle.mq_command.specs.Probing.{Probes}
 use Rattle.mq_command.specs.Usage.{ByUsage, FailsToAsk, LooksBack}
 use Rattle.mq_command.specs.declared.allow.AllowFault.{AllowFault}
 use Rattle.mq_command.specs.declared.allow.AllowFault.TheVariants.{Order, Idle}
 use Rattle.mq_command.specs.declared.allow.Setter.{Setter}
 use Rattle.mq_command.specs.declared.ask.NoAnswer.{NoAnswer}
+use Rattle.mq_command.specs.declared.ask.NoAnswer.TheVariants.{NotTaken, Unavailable, Memory}
 use Rattle.mq_command.specs.declared.hold.HeldLimit.{HeldLimit}
 use Rattle.mq_command.specs.declared.hold.LaterUse.{LaterUse}
 use Rattle.mq_command.specs.declared.later.LaterLimit.{LaterLimit}
@@ -30,12 +32,28 @@ use Rattle.mq_link.specs.declared.link.ReportedExchange.{ReportedExchange}
 abbrev pub unanswered : NoAnswer → AllowFault
 unanswered fault = Order (Unanswered fault)
 
+-- what is said where no answer came: that the server didn't take the question, or nothing
+abbrev pub unsaid : NoAnswer → SentLately
+unsaid NotTaken = sent.NotTaken
+unsaid Unavailable = sent.Unanswered
+unsaid Memory = sent.Unanswered
+
+-- no answer came to a question whether the server answers at all, which was asked once, or to a later one about the login
+abbrev pub IsUnsaid : List ℕ → ℕ → Option (List ReportedExchange) → Option (List ReportedExchange) → SentLately → Type 0
+IsUnsaid login day old new said =
+    (cause : NoAnswer) × (said ≡ unsaid cause)
+    × (Probes old new (Err cause)
+    ⊎ ((asked : Option (List ReportedExchange)) × Probes old asked (Ok tt) × LooksBack Use login day 3 asked new (Err cause)))
+
 -- What asking whether a login sent something lately leads to: it did where it used something on the day or one of the two
 -- before, and didn't where nothing is found; or no answer comes.
 abbrev pub HasSent : List ℕ → ℕ → Option (List ReportedExchange) → Option (List ReportedExchange) → SentLately → Type 0
-HasSent login day old new sent.Yes = (found : ℕ) × LooksBack Use login day 3 old new (Ok (Some found))
-HasSent login day old new sent.No = LooksBack Use login day 3 old new (Ok None)
-HasSent login day old new sent.Unanswered = (cause : NoAnswer) × LooksBack Use login day 3 old new (Err cause)
+HasSent login day old new sent.Yes =
+    (asked : Option (List ReportedExchange)) × (found : ℕ) × Probes old asked (Ok tt) × LooksBack Use login day 3 asked new (Ok (Some found))
+HasSent login day old new sent.No =
+    (asked : Option (List ReportedExchange)) × Probes old asked (Ok tt) × LooksBack Use login day 3 asked new (Ok None)
+HasSent login day old new sent.NotTaken = IsUnsaid login day old new sent.NotTaken
+HasSent login day old new sent.Unanswered = IsUnsaid login day old new sent.Unanswered
 
 -- What checking that a login is meant leads to: nothing where that is clear, else it used something on the day or one of the
 -- two before.

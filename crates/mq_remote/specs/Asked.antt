@@ -52,6 +52,7 @@ use Rattle.mq_remote.specs.Servers.{AsksAll}
 use Rattle.mq_remote.specs.Shares.{AreSeveral, SharesAmong, SharesNumber}
 use Rattle.mq_remote.specs.Stops.{AsksUse, StopsAll, UseAt}
 use Rattle.mq_remote.specs.Totals.{AsksTogether}
+use Rattle.mq_remote.specs.declared.subcommands.stopping.TheConstants.{SHORT}
 use Rattle.mq_remote.specs.declared.subcommands.retire.Target.{Target}
 use Rattle.mq_remote.specs.declared.subcommands.shares.ShareOrder.{ShareOrder}
 use Rattle.mq_remote.specs.declared.subcommands.shares.ShareOrder.TheVariants.{Numbered, Fresh, More}
@@ -150,11 +151,11 @@ pub record AsksLimit {L F : Type 0} (leads : L → SocketAddr → ℕ → Type 0
 -- ---- `stop` and `resume`
 
 -- Whether a login is meant at each of these servers: it is said so, or several were asked, and one knows that it used something on
--- this day or one of the two before, or else one gives no answer. Of one server alone nothing is asked beforehand.
+-- this day or one of the two before, or else one doesn't say. Of one server alone nothing is asked beforehand.
 abbrev pub IsMeant : {L : Type 0} → (L → SocketAddr → ℕ → Type 0) → (L → Option (List ReportedExchange)) → List ℕ → ℕ → Bool → List (List ℕ) → Bool → Type 0
 IsMeant leads told login day true servers meant = meant ≡ true
 IsMeant leads told login day false servers meant =
-    ((length servers < 2) × (meant ≡ false)) ⊎ ((1 < length servers) × AsksUse (UseAt leads told login day) servers false meant)
+    ((length servers < 2) × (meant ≡ false)) ⊎ ((1 < length servers) × AsksUse (UseAt leads told login day SHORT) servers false meant)
 
 -- what `stop` asks: of each server the same, in a run of the clock's, from the day on that the words or the clock say, and again
 -- of those that give no answer where the words say so
