@@ -79,7 +79,10 @@ def doesnt_take(address):
 
 
 def not_known(address):
-    return f"mailquota: not known to be stopped at server {address}, which gave no answer\n"
+    return (
+        f"mailquota: not known to be stopped at server {address}, which gave no answer or didn't"
+        " take this\n"
+    )
 
 
 def is_awaited(address):
@@ -403,6 +406,13 @@ def use_at_one_of_them(world, checks):
         7 <= took < 9,
         "from 7 seconds to 9",
         took,
+    )
+    with Script([RETRY] * 3) as first, Server(world, default=9) as second:
+        came = world.run(*words, "v", "--force", *at(first.address, second.address))
+    checks.equal(
+        "stop at two, of which one doesn't take it",
+        (came[0], came[1].count(b"stopped"), came[2].splitlines(True)[-1]),
+        (1, 1, not_known(first.address)),
     )
     with Script(
         [RETRY, usage_reply(0, 0, day=today), is_set, is_set], otherwise=no_limit

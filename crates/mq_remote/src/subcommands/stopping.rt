@@ -258,12 +258,12 @@ fn stop_rest<'a, R: Clock + Print + Eprint + AllocGlobal, D: Dial, E: Write>(
 }
 
 /// Says on `errors` at which servers the login isn't known to be stopped, since they gave no
-/// answer.
+/// answer, or that they don't take this.
 fn say_left<E: Write>(left: &[&str], errors: &mut E) {
     for server in left {
         let _ = writeln!(
             errors,
-            "mailquota: not known to be stopped at server {server}, which gave no answer"
+            "mailquota: not known to be stopped at server {server}, which gave no answer or didn't take this"
         );
     }
 }
