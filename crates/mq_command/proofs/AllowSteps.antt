@@ -1,5 +1,5 @@
 -- The room that grows with each refusal, and the line that is told.
-use Rattle.mq_command.proofs.Words.{AsksUsed, ClearsLater, DayUsage, Err, GivesLimit, Failed, IfOk, Keeps, LaterLimit, List, LooksLater, MatchResult, Ok, Option, OrderFault, PrintsLine, ReportedExchange, Result, SetsBoth, Setter, StopEnd, StopOrder, StoppedLogin, [], ap, appends_kept, arith, at_least, inr, later_end, min, refl, room, subst, suc, sym, zero, ℕ, ◌*◌, ◌+◌, ◌∙◌, ◌≡◌}
+use Rattle.mq_command.proofs.Words.{arith, None, FoundLower, AsksUsed, ClearsLater, DayUsage, Err, GivesLimit, Failed, IfOk, Keeps, LaterLimit, List, LooksLater, MatchResult, Ok, Option, OrderFault, PrintsLine, ReportedExchange, Result, SetsBoth, Setter, StopEnd, StopOrder, StoppedLogin, [], ap, appends_kept, arith, at_least, inr, later_end, min, refl, room, subst, suc, sym, zero, ℕ, ◌*◌, ◌+◌, ◌∙◌, ◌≡◌}
 
 pub room_more : (refused grown : ℕ) → grown ≡ room refused → min (grown * 2 + 8) 1000000 ≡ room (refused + 1)
 room_more refused grown is =
@@ -33,3 +33,12 @@ pub looked_later : (setter : Setter) (order : StopOrder) (stopped : StoppedLogin
     → LooksLater setter order (Ok stopped) first end old new
 looked_later setter order stopped first end old new found whole is looks =
     subst (λ f. LooksLater setter order (Ok stopped) f end old new) (sym whole) (found, is, looks)
+
+-- nothing was said by either, where both say nothing
+pub quiet_both : {E : Type 0} (before between after : E) (status : ℕ) (found : FoundLower) → (status ≡ 0 → between ≡ before) → (found ≡ Ok None → after ≡ between)
+    → status ≡ 0 → found ≡ Ok None → after ≡ before
+quiet_both before between after status found first second done none = second none ∙ first done
+
+-- it isn't asked where that failed
+pub quiet_never : {E : Type 0} (before after : E) (status : ℕ) (found : FoundLower) → status ≡ 1 → status ≡ 0 → found ≡ Ok None → after ≡ before
+quiet_never before after status found one done none = absurd (omega (arith, one, done))

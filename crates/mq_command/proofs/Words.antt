@@ -43,11 +43,13 @@ pub use Rattle.mq_command.specs.Asking.{Asks, CameBack, ComesTo, attempt_of, IsA
 pub use Rattle.mq_command.specs.Forms.{json_byte, json_row, next_row}
 pub use Rattle.mq_command.specs.Holding.{AreHeld, AreRefusedAgain, later_day, no_later_day, none_sent, one_refused}
 pub use Rattle.mq_command.specs.Later.{AreCleared, ClearsLater, cleared}
+pub use Rattle.mq_command.specs.Lower.{AreNotLower, FoundLower, not_lower}
 pub use Rattle.mq_command.specs.Orders.{AnswersOrder, AreTaken, IsLimit, IsOrder, Orders, PrintsLine, Says, ahead, later, no_number, number}
 pub use Rattle.mq_command.specs.Printed.{ArePrinted, IsNoText, IsTextOf}
 pub use Rattle.mq_command.specs.Probing.{host_question, moment_of_run, next_run, settings_line}
 pub use Rattle.mq_command.specs.Report.{AnswersList, AnswersUsage, AreFullPages, AsksPage, IsAscendingAbove, IsPage, IsUsage, PrintsFront, PrintsRow, ReportsAll, ReportsOne, TakesPage, last_login, no_page, output_fault, page, report_lines, row_line}
-pub use Rattle.mq_command.specs.Stopping.{GivesLimit, LooksLater, at_least, later_end}
+pub use Rattle.mq_command.specs.Resuming.{GivesLimit, at_least}
+pub use Rattle.mq_command.specs.Stopping.{LooksLater, later_end}
 pub use Rattle.mq_command.specs.Top.{CollectsAll, used_of, uses_more}
 pub use Rattle.mq_command.specs.Totals.{AreAsked, AreCompleted, AreLogins, Completes, CompletesPart, FindsRow, Gathers, HasListed, IsListing, IsUnlisted, Lists, ListsAll, ListsPart, Picks, RunsOut, is_there, names, next_login, no_login, no_row, row_at, rows_of, total, totals}
 pub use Rattle.mq_command.specs.Unchanged.{AreAlike}

@@ -4,10 +4,12 @@ pub mod Forms
 pub mod Holding
 pub mod Later
 pub mod Listed
+pub mod Lower
 pub mod Orders
 pub mod Printed
 pub mod Probing
 pub mod Report
+pub mod Resuming
 pub mod Shares
 pub mod Stopping
 pub mod Top

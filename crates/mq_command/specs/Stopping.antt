@@ -1,21 +1,22 @@
 -- What stopping a login and letting it go again leads to.
-use Rattle.std.specs.Prelude.{◌≡◌, ◌⊎◌, ◌<◌, ◌+◌, ◌-◌, ◌++◌, ◌∷◌, ◌==◌, ◌||◌, [], ℕ, zero, suc, List, true, false, Bool, not, Option, None, Some, Result, Ok, Err, max, min, codes}
+use Rattle.std.specs.Prelude.{◌≡◌, ◌⊎◌, ◌++◌, ◌∷◌, ◌==◌, ◌||◌, [], ℕ, zero, suc, List, true, false, Bool, not, Option, None, Some, Result, Ok, Err, codes}
 use Rattle.std.specs.Prelude.{if◌then◌else◌}
 use Rattle.std.specs.Fmt.{decimal}
-use Rattle.mq_command.specs.Allowing.{SetsBoth, day_line}
+use Rattle.mq_command.specs.Allowing.{day_line}
 use Rattle.mq_command.specs.Holding.{Holds, HoldsLater}
 use Rattle.mq_command.specs.Later.{ClearsLater}
 use Rattle.mq_command.specs.Orders.{Prints}
-use Rattle.mq_command.specs.Usage.{AsksUsed, ByUsage, FailsToAsk, LooksBack}
+use Rattle.mq_command.specs.Probing.{Probes}
+use Rattle.mq_command.specs.Usage.{ByUsage, FailsToAsk, LooksBack}
 use Rattle.mq_command.specs.declared.allow.AllowFault.{AllowFault}
-use Rattle.mq_command.specs.declared.allow.AllowFault.TheVariants.{Order, Idle, NotStopped, NoFormer}
-use Rattle.mq_command.specs.declared.allow.RestoredLimit.{RestoredLimit}
+use Rattle.mq_command.specs.declared.allow.AllowFault.TheVariants.{Order, Idle}
 use Rattle.mq_command.specs.declared.allow.Setter.{Setter}
 use Rattle.mq_command.specs.declared.ask.NoAnswer.{NoAnswer}
+use Rattle.mq_command.specs.declared.ask.NoAnswer.TheVariants.{NotTaken, Unavailable, Memory}
 use Rattle.mq_command.specs.declared.hold.HeldLimit.{HeldLimit}
 use Rattle.mq_command.specs.declared.hold.LaterUse.{LaterUse}
 use Rattle.mq_command.specs.declared.later.LaterLimit.{LaterLimit}
-use Rattle.mq_command.specs.declared.look_back.SoughtDay.TheVariants.{Use, Limit}
+use Rattle.mq_command.specs.declared.look_back.SoughtDay.TheVariants.{Use}
 use Rattle.mq_command.specs.declared.order.OrderFault.{OrderFault}
 use Rattle.mq_command.specs.declared.order.OrderFault.TheVariants.{Unanswered}
 use Rattle.mq_command.specs.declared.stop.SentLately.{SentLately}
@@ -31,12 +32,28 @@ use Rattle.mq_link.specs.declared.link.ReportedExchange.{ReportedExchange}
 abbrev pub unanswered : NoAnswer → AllowFault
 unanswered fault = Order (Unanswered fault)
 
+-- what is said where no answer came: that the server didn't take the question, or nothing
+abbrev pub unsaid : NoAnswer → SentLately
+unsaid NotTaken = sent.NotTaken
+unsaid Unavailable = sent.Unanswered
+unsaid Memory = sent.Unanswered
+
+-- no answer came to a question whether the server answers at all, which was asked once, or to a later one about the login
+abbrev pub IsUnsaid : List ℕ → ℕ → Option (List ReportedExchange) → Option (List ReportedExchange) → SentLately → Type 0
+IsUnsaid login day old new said =
+    (cause : NoAnswer) × (said ≡ unsaid cause)
+    × (Probes old new (Err cause)
+    ⊎ ((asked : Option (List ReportedExchange)) × Probes old asked (Ok tt) × LooksBack Use login day 3 asked new (Err cause)))
+
 -- What asking whether a login sent something lately leads to: it did where it used something on the day or one of the two
 -- before, and didn't where nothing is found; or no answer comes.
 abbrev pub HasSent : List ℕ → ℕ → Option (List ReportedExchange) → Option (List ReportedExchange) → SentLately → Type 0
-HasSent login day old new sent.Yes = (found : ℕ) × LooksBack Use login day 3 old new (Ok (Some found))
-HasSent login day old new sent.No = LooksBack Use login day 3 old new (Ok None)
-HasSent login day old new sent.Unanswered = (cause : NoAnswer) × LooksBack Use login day 3 old new (Err cause)
+HasSent login day old new sent.Yes =
+    (asked : Option (List ReportedExchange)) × (found : ℕ) × Probes old asked (Ok tt) × LooksBack Use login day 3 asked new (Ok (Some found))
+HasSent login day old new sent.No =
+    (asked : Option (List ReportedExchange)) × Probes old asked (Ok tt) × LooksBack Use login day 3 asked new (Ok None)
+HasSent login day old new sent.NotTaken = IsUnsaid login day old new sent.NotTaken
+HasSent login day old new sent.Unanswered = IsUnsaid login day old new sent.Unanswered
 
 -- What checking that a login is meant leads to: nothing where that is clear, else it used something on the day or one of the
 -- two before.
@@ -73,65 +90,6 @@ Stops setter day meant old new (Err fault) =
     ⊎ ByUsage setter day old (λ usage asked. (clear : Option (List ReportedExchange)) × (cause : OrderFault)
     × ChecksUse setter.login day (is_clear meant usage) asked clear (Ok tt)
     × HoldsAll setter day usage clear new (Err cause) × (fault ≡ Order cause)))
-
--- What letting a login have so many more leads to, up to the most that a limit may be.
-abbrev pub GivesMore : Setter → ℕ → ℕ → Option (List ReportedExchange) → Option (List ReportedExchange) → Result ℕ OrderFault → Type 0
-GivesMore setter day more old new (Ok cap) =
-    ByUsage setter day old (λ usage asked. SetsBoth setter day 1000000 more usage.used asked new (Ok cap))
-GivesMore setter day more old new (Err fault) =
-    FailsToAsk setter day old new fault
-    ⊎ ByUsage setter day old (λ usage asked. SetsBoth setter day 1000000 more usage.used asked new (Err fault))
-
--- the limit of a day that is to be this one, or what is used where that is more
-abbrev pub at_least : ℕ → ℕ → ℕ
-at_least limit used = min (max limit used) 1000000
-
--- What giving a login a limit leads to: no limit of the day is above it, unless more is used.
-abbrev pub GivesLimit : Setter → ℕ → ℕ → Option (List ReportedExchange) → Option (List ReportedExchange) → Result ℕ OrderFault → Type 0
-GivesLimit setter day limit old new (Ok cap) =
-    ByUsage setter day old (λ usage asked. SetsBoth setter day (at_least limit usage.used) limit usage.used asked new (Ok cap))
-GivesLimit setter day limit old new (Err fault) =
-    FailsToAsk setter day old new fault
-    ⊎ ByUsage setter day old (λ usage asked. SetsBoth setter day (at_least limit usage.used) limit usage.used asked new (Err fault))
-
--- the limit of the next day is 0, as was asked and answered
-abbrev pub IsStopped : List ℕ → ℕ → Option (List ReportedExchange) → Option (List ReportedExchange) → Type 0
-IsStopped login day old new = (next : DayUsage) × AsksUsed login (day + 1) old new (Ok next) × (next.cap ≡ 0)
-
--- the latest day is this one, from a day back, whose limit isn't 0, and the day after it is the first of a login that is stopped
-abbrev pub IsLatest : List ℕ → ℕ → ℕ → Option (List ReportedExchange) → Option (List ReportedExchange) → Type 0
-IsLatest login day latest old new =
-    (asked : Option (List ReportedExchange)) × IsStopped login day old asked × LooksBack Limit login day 400 asked new (Ok (Some latest))
-
--- What looking for the limit that a login had before it was stopped leads to: that of the day before the latest whose limit
--- isn't 0.
-abbrev pub FindsFormer : List ℕ → ℕ → Option (List ReportedExchange) → Option (List ReportedExchange) → Result ℕ AllowFault → Type 0
-FindsFormer login day old new (Ok limit) =
-    (latest : ℕ) × (mid : Option (List ReportedExchange)) × (usage : DayUsage) × (0 < latest) × IsLatest login day latest old mid
-    × AsksUsed login (latest - 1) mid new (Ok usage) × (usage.cap ≡ limit) × (0 < limit)
-FindsFormer login day old new (Err (NotStopped other)) =
-    (other ≡ day) × ((next : DayUsage) × AsksUsed login (day + 1) old new (Ok next) × (0 < next.cap))
-FindsFormer login day old new (Err NoFormer) =
-    ((asked : Option (List ReportedExchange)) × IsStopped login day old asked × LooksBack Limit login day 400 asked new (Ok None))
-    ⊎ (IsLatest login day 0 old new
-    ⊎ ((latest : ℕ) × (mid : Option (List ReportedExchange)) × (usage : DayUsage) × (0 < latest) × IsLatest login day latest old mid
-    × AsksUsed login (latest - 1) mid new (Ok usage) × (usage.cap ≡ 0)))
-FindsFormer login day old new (Err (Order (Unanswered cause))) =
-    AsksUsed login (day + 1) old new (Err cause)
-    ⊎ (((asked : Option (List ReportedExchange)) × IsStopped login day old asked × LooksBack Limit login day 400 asked new (Err cause))
-    ⊎ ((latest : ℕ) × (mid : Option (List ReportedExchange)) × (0 < latest) × IsLatest login day latest old mid
-    × AsksUsed login (latest - 1) mid new (Err cause)))
-FindsFormer login day old new (Err _) = ⊥
-
--- What `resume` without a number leads to: the limit that the login had before it was stopped.
-abbrev pub Restores : Setter → ℕ → Option (List ReportedExchange) → Option (List ReportedExchange) → Result RestoredLimit AllowFault → Type 0
-Restores setter day old new (Ok restored) =
-    (asked : Option (List ReportedExchange)) × FindsFormer setter.login day old asked (Ok restored.limit)
-    × GivesLimit setter day restored.limit asked new (Ok restored.cap)
-Restores setter day old new (Err fault) =
-    FindsFormer setter.login day old new (Err fault)
-    ⊎ ((limit : ℕ) × (asked : Option (List ReportedExchange)) × (cause : OrderFault) × FindsFormer setter.login day old asked (Ok limit)
-    × GivesLimit setter day limit asked new (Err cause) × (fault ≡ Order cause))
 
 -- what it did on the day, or may do
 abbrev pub verb : Bool → List ℕ
@@ -189,9 +147,3 @@ RunsStop setter order end old new output output' =
     × Stops setter order.day order.is_meant old mid ended
     × Prints (λ stopped. stopped_lines setter.login stopped order.day) output output' ended first
     × LooksLater setter order ended first end mid new
-
--- what `resume` prints where it gave a limit back
-abbrev pub restored_lines : List ℕ → RestoredLimit → ℕ → List ℕ
-restored_lines login restored day =
-    day_line (codes "resumed: ") login (codes " may use ") restored.cap day
-    ++ codes "limit after: " ++ decimal restored.limit ++ 10 ∷ []

@@ -21,7 +21,7 @@ use std::fmt;
 use std::io::Write;
 
 /// How many requests a look at later days takes, those that set a limit not counted.
-const LOOKS: u32 = 400;
+pub(crate) const LOOKS: u32 = 400;
 
 /// The number of the first limit that is set so; those of a `stop` are below it.
 const FIRST_NUMBER: u32 = NUMBERS_OF_DAY * (LATER_DAYS + 1);

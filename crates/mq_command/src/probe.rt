@@ -71,7 +71,7 @@ fn ask_once<L: Link>(alloc: Global, link: &mut L, request: &Request) -> Result<R
 
 /// Asks the server once what login `-` used on day 0. It is a few rows to look for, and changes
 /// nothing.
-fn probe<L: Link>(alloc: Global, link: &mut L) -> Result<(), NoAnswer>
+pub(crate) fn probe<L: Link>(alloc: Global, link: &mut L) -> Result<(), NoAnswer>
     ensures { Probes (L.told link.old) (L.told link.new) result }
 {
     let login = match Login::from_slice(alloc, b"-") {

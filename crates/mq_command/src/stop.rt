@@ -4,14 +4,16 @@ ghost use Rattle.mq_request.specs.Range.{IsAmount, IsDay, IsLogin};
 ghost use Rattle.mq_command.specs.Allowing.{IsSetter};
 ghost use Rattle.mq_command.specs.Stopping.{ChecksUse, HasSent, HoldsAll, RunsStop, Stops};
 ghost use Rattle.mq_command.specs.Stopping.{former_lines, later_line, stop_status};
-ghost use Rattle.mq_command.specs.Stopping.{stopped_lines, verb};
+ghost use Rattle.mq_command.specs.Stopping.{stopped_lines, unsaid, verb};
 
 use crate::allow::{AllowFault, Setter, line_of};
+use crate::ask::NoAnswer;
 use crate::errors::Errors;
 use crate::hold::{HeldLimit, LaterUse, hold, hold_later};
 use crate::later::clear_and_say;
 use crate::look_back::{SoughtDay, look_back};
 use crate::order::OrderFault;
+use crate::probe::probe;
 use crate::stop_end::{StopEnd, leave_unstopped};
 use crate::telling::tell_line;
 use crate::usage::{DayUsage, ask_used};
@@ -31,6 +33,8 @@ pub enum SentLately {
     Yes,
     /// It used nothing on these days.
     No,
+    /// The server took none of the questions, as where it lets no such be asked from here.
+    NotTaken,
     /// The server gave no answer.
     Unanswered,
 }
@@ -57,18 +61,32 @@ struct StoppedLogin {
     later: LaterUse,
 }
 
+/// What a server says that brought no answer.
+fn unsaid(fault: NoAnswer) -> SentLately
+    ensures { result ≡ unsaid fault }
+{
+    match fault {
+        NoAnswer::NotTaken => SentLately::NotTaken,
+        NoAnswer::Unavailable | NoAnswer::Memory => SentLately::Unanswered,
+    }
+}
+
 /// Whether a login used something on a day or on one of the two before. Of several servers one that
 /// says so is enough for `run_stop` at each: the login is meant. One that gives no answer can't say
-/// that it is misspelled. `day` is a day number, 0 to 376,200.
+/// that it is misspelled. Whether it answers at all is asked once, so that it costs one try where
+/// it is away. `day` is a day number, 0 to 376,200.
 pub fn has_sent<L: Link>(alloc: Global, link: &mut L, login: &Login, day: u32) -> SentLately
     requires login { IsLogin login.now }
     requires day { IsDay day }
     ensures { HasSent login.now day (L.told link.old) (L.told link.new) result }
 {
+    if let Err(fault) = probe(alloc, link) {
+        return unsaid(fault);
+    }
     match look_back(alloc, link, SoughtDay::Use, login, day, IDLE_DAYS) {
         Ok(Some(_day)) => SentLately::Yes,
         Ok(None) => SentLately::No,
-        Err(_) => SentLately::Unanswered,
+        Err(fault) => unsaid(fault),
     }
 }
 

@@ -8,7 +8,7 @@ ghost use Rattle.std.specs.Prelude.{IfOk};
 ghost use Rattle.mq_command.specs.Allowing.{IsSetter};
 
 use mq_command::{
-    Form, ReportOrder, ReportedLogins, Setter, StopOrder, ask_default, is_login_text,
+    Form, ReportOrder, ReportedLogins, SetEnd, Setter, StopOrder, ask_default, is_login_text,
     json_of_sound, json_of_wrong, login_of_text, login_text, print_day, print_sum, push_json_limit,
     run_day, run_fresh, run_fresh_at, run_limit, run_restore, run_resume, run_retire, run_stop,
     run_totals, share_of,
@@ -317,14 +317,14 @@ const ACTS: [(Act, &str); 22] = [
         Act::Stop(0, true),
         "stopped: u may use 3 on day 0\nlimit before: 3\nlimit after: 4 up to day 1\n||0",
     ),
-    // On day 0 it had the default, which is less than is used on day 1.
+    // On day 0 it had the default, which is less than is used on day 1. It was stopped from day 2 on.
     (
         Act::Restore(1),
-        "resumed: u may use 4 on day 1\nlimit after: 3\n||0",
+        "resumed: u may use 4 on day 1\nlimit after: 3\n|mailquota: note: a limit of 0 stays in force from day 3 on; use resume --day 3\n|0",
     ),
     (
         Act::Restore(1),
-        "|mailquota: not stopped after day 1; use --cap\n|1",
+        "not stopped: u may use 4 on day 1\nlimit after: 3\n|mailquota: note: a limit of 0 stays in force from day 3 on; use resume --day 3\n|0",
     ),
     // The last second of a day of winter, and the first of the next.
     (Act::Day(1576105199), "18241\n||0"),
@@ -542,10 +542,12 @@ fn forms_of_a_day(rt: HostRuntime) -> Result<(), Fail> {
             0
         );
     }
-    assert_eq!(rt; print_sum(alloc, 2_200, &mut output, &mut errors), 0);
+    for after in [None, Some(20_787)] {
+        assert_eq!(rt; print_sum(alloc, 2_200, after, &mut output, &mut errors), 0);
+    }
     let printed = str::from_utf8(output.as_slice())?;
     let wanted =
-        "20787\n20787 2026-11-30\n{\"day\":20787,\"date\":\"2026-11-30\"}\nin all at most 2200 a day\n";
+        "20787\n20787 2026-11-30\n{\"day\":20787,\"date\":\"2026-11-30\"}\nin all at most 2200 a day\nin all at most 2200 a day after day 20787\n";
     assert_eq!(rt; printed, wanted);
     Ok(())
 }
@@ -581,8 +583,8 @@ fn set_at_a_server(rt: HostRuntime) -> Result<(), Fail> {
         return Err("no limit".into());
     }
     let server = "192.0.2.6:7025";
-    let status = run_fresh_at(alloc, &mut link, request, server, &mut output, &mut errors);
-    assert_eq!(rt; status, 0);
+    let end = run_fresh_at(alloc, &mut link, request, server, &mut output, &mut errors);
+    assert_eq!(rt; end, SetEnd::Set);
     assert_eq!(rt;
         str::from_utf8(output.as_slice())?,
         "set 4 at 192.0.2.6:7025\n"

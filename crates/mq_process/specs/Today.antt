@@ -32,9 +32,12 @@ ChoosesDay known moment day (Err _) = ⊥
 abbrev pub ChoosesNow : Option Zone → ℕ → Result ℕ ProcessFault → Type 0
 ChoosesNow known day ended = (ended ≡ Err NoMoment) ⊎ ((moment : ℕ) × IsMoment moment × ChoosesDay known moment day ended)
 
--- by the zone of the settings that a file spells where one is named, and in some zone where none is
+-- by the zone of the settings that a file spells where one is named, and where none is by that of others, or in some zone; it
+-- doesn't say which goes first
 abbrev pub ChoosesBy : {F X : Type 0} → (F → Option (List ℕ)) → Option X → ℕ → Result ℕ ProcessFault → Type 0
-ChoosesBy remaining None day ended = ChoosesNow None day ended
+ChoosesBy remaining None day ended =
+    ChoosesNow None day ended
+    ⊎ ((settings : ServerSettings) × ReadsServer remaining (Ok settings) × ChoosesNow (Some settings.zone) day ended)
 ChoosesBy remaining (Some file) day ended =
     ((fault : ProcessFault) × (ended ≡ Err fault) × ReadsServer remaining (Err fault))
     ⊎ ((settings : ServerSettings) × ReadsServer remaining (Ok settings) × ChoosesNow (Some settings.zone) day ended)

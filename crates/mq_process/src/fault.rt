@@ -17,11 +17,11 @@ pub enum ProcessFault {
     #[error("bad address")]
     Address,
     /// The words name no server, and no settings are where they belong.
-    #[error("no server is named; use --server, or copy the server's settings to /etc/mailquota/server.toml or the filter's to /etc/mailquota/filter.toml")]
+    #[error("no server is named; use --server, list it in /etc/mailquota/servers.toml, or copy the server's settings to /etc/mailquota/server.toml or the filter's to /etc/mailquota/filter.toml")]
     NoServer,
     /// The words name no day, and no settings of a server are where they belong, which have the
     /// zone of today.
-    #[error("no day is named; use --day or --from, or copy the server's settings to /etc/mailquota/server.toml")]
+    #[error("which day is today isn't known; use --day or --from with a date, or copy the server's settings, which have the zone, to /etc/mailquota/server.toml")]
     NoDay,
     /// The words name no host, and no settings of a filter are where they belong.
     #[error("no host is named; use --host, or copy the filter's settings to /etc/mailquota/filter.toml")]

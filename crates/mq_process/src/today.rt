@@ -9,10 +9,10 @@ ghost use Rattle.mq_process.specs.Today.{IsTomorrow, NamesDay, RefusesAgo, Refus
 ghost use Rattle.mq_process.specs.Today.{StopsFrom};
 ghost use Rattle.mq_process.specs.Today.{is_today, today_of};
 
-use crate::arguments::DayArgument;
+use crate::arguments::{DayArgument, SERVER_SETTINGS};
 use crate::fault::ProcessFault;
 use crate::moment::moment_or_now;
-use crate::settings::server_settings;
+use crate::settings::{server_settings, server_settings_if_there};
 use crate::whom::named_settings;
 use mq_ledger::Zone;
 use mq_request::bounds::LAST_DAY;
@@ -163,8 +163,8 @@ fn day_by_clock(rt: &impl Clock, zone: Option<&Zone>, day: u32) -> Result<u32, P
     }
 }
 
-/// The day that is given, where it can be today by the zone of the settings in a file, or in some
-/// zone where none is named.
+/// The day that is given, where it can be today by the zone of the settings in a file, or where none
+/// is named by that of those in their place, or in some zone where these can't be used.
 fn day_by_settings<R: Files + Clock + Eprint + AllocGlobal>(
     rt: &R,
     day: u32,
@@ -173,7 +173,10 @@ fn day_by_settings<R: Files + Clock + Eprint + AllocGlobal>(
     ensures { ChoosesBy R.File.remaining config.entry day result }
 {
     match config {
-        None => day_by_clock(rt, None, day),
+        None => match server_settings_if_there(rt, SERVER_SETTINGS) {
+            Ok(Some(settings)) => day_by_clock(rt, Some(&settings.zone), day),
+            _ => day_by_clock(rt, None, day),
+        },
         Some(file) => match server_settings(rt, file) {
             Ok(settings) => day_by_clock(rt, Some(&settings.zone), day),
             Err(fault) => Err(fault),
@@ -217,8 +220,8 @@ fn not_tomorrow<R: Files + Clock + Eprint + AllocGlobal>(
 }
 
 /// The day from which a login is stopped: that of the words, where it is forced, or is today by the
-/// clock and the zone of the server's settings. A day that is given by its number, where the words
-/// name no settings, has to be today in some zone.
+/// clock and the zone of the server's settings. Where there are none that can be used, a day that is
+/// given by its number or date has to be today in some zone.
 ///
 /// It fails with `NotToday` for another day, with `NoDay` and `NoMoment` as [`day_named`] does, and
 /// where the settings can't be used.

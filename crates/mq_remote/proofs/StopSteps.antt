@@ -1,5 +1,5 @@
 -- Steps over the servers at which a login is stopped.
-use Rattle.std.proofs.Common.{◌≡◌, ◌<◌, ◌≤◌, ◌+◌, ◌++◌, ◌∷◌, [], ℕ, List, Bool, true, length, drop, get_or, map, sym, subst, inl, inr}
+use Rattle.std.proofs.Common.{◌<◌, ◌≤◌, ◌+◌, ◌++◌, ◌∷◌, [], ℕ, List, Bool, true, length, drop, get_or, map, sym, subst, inl, inr}
 use Rattle.std.proofs.lemmas.List.{drop_all, drop_more}
 use Rattle.std.specs.Borrow.{Bor}
 use Rattle.std.specs.Net.Grammar.{IsSocketText}
@@ -9,7 +9,7 @@ use Rattle.mq_command.specs.declared.stop.SentLately.TheVariants as sent
 use Rattle.mq_command.specs.declared.stop_end.StopEnd.{StopEnd}
 use Rattle.mq_command.specs.declared.stop_end.StopEnd.TheVariants.{Stopped, Failed, Unanswered}
 use Rattle.mq_process.specs.Refusals.{HasNoAddress}
-use Rattle.mq_remote.specs.Stops.{Adds, AsksUse, StopsEach, all_asked, says_yes, says_no, says_nothing, no_server, one_server}
+use Rattle.mq_remote.specs.Stops.{Adds, AsksUse, StopsEach, all_asked, says_yes, says_no, says_nothing, takes_none, no_server, one_server}
 
 -- a server that is asked in a round, before those that are left of it
 pub stops_more : {At : SocketAddr → StopEnd → Type 0} {status : ℕ} {left : List (List ℕ)} (xs : List (Bor (List ℕ))) (k next : ℕ) (after : List (List ℕ))
@@ -60,6 +60,13 @@ pub use_silent : {Asks : SocketAddr → SentLately → Type 0} (xs : List (Bor (
     → IsSocketText (get_or xs k d).now address → Asks address sent.Unanswered → AsksUse Asks (map (λ s. s.now) (drop k xs)) silent meant
 use_silent {Asks} xs k silent meant others d address below spelled asked =
     subst (λ l. AsksUse Asks (map (λ s. s.now) l) silent meant) (sym (drop_more xs k d below)) (says_nothing _ _ address silent meant spelled asked others)
+
+-- one that doesn't take the question, before those that are left
+pub use_untaken : {Asks : SocketAddr → SentLately → Type 0} (xs : List (Bor (List ℕ))) (k : ℕ) (silent meant : Bool)
+    → AsksUse Asks (map (λ s. s.now) (drop (k + 1) xs)) true meant → (d : Bor (List ℕ)) (address : SocketAddr) → k < length xs
+    → IsSocketText (get_or xs k d).now address → Asks address sent.NotTaken → AsksUse Asks (map (λ s. s.now) (drop k xs)) silent meant
+use_untaken {Asks} xs k silent meant others d address below spelled asked =
+    subst (λ l. AsksUse Asks (map (λ s. s.now) l) silent meant) (sym (drop_more xs k d below)) (takes_none _ _ address silent meant spelled asked others)
 
 -- none is left
 pub use_none : (Asks : SocketAddr → SentLately → Type 0) (silent : Bool) (xs : List (Bor (List ℕ))) (k : ℕ) → length xs ≤ k

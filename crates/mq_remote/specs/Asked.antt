@@ -21,11 +21,12 @@ use Rattle.mq_process.specs.declared.arguments.ReportArguments.{ReportArguments}
 use Rattle.mq_process.specs.declared.arguments.ResumeArguments.{ResumeArguments}
 use Rattle.mq_process.specs.declared.arguments.RetireArguments.{RetireArguments}
 use Rattle.mq_process.specs.declared.arguments.StopArguments.{StopArguments}
-use Rattle.mq_command.specs.Allowing.{limit_of, resumed_line}
+use Rattle.mq_command.specs.Allowing.{limit_of}
 use Rattle.mq_command.specs.Asking.{status_of}
+use Rattle.mq_command.specs.Lower.{FoundLower}
 use Rattle.mq_command.specs.Orders.{Orders, OrdersFresh, Prints, PrintsLine, word}
 use Rattle.mq_command.specs.Report.{Reports}
-use Rattle.mq_command.specs.Stopping.{GivesMore, Restores, restored_lines}
+use Rattle.mq_command.specs.Resuming.{RunsRestore, RunsResume}
 use Rattle.mq_command.specs.Top.{ReportsTop, columns_line}
 use Rattle.mq_command.specs.declared.allow.Setter.{Setter}
 use Rattle.mq_command.specs.declared.order.OrderFault.{OrderFault}
@@ -51,6 +52,7 @@ use Rattle.mq_remote.specs.Servers.{AsksAll}
 use Rattle.mq_remote.specs.Shares.{AreSeveral, SharesAmong, SharesNumber}
 use Rattle.mq_remote.specs.Stops.{AsksUse, StopsAll, UseAt}
 use Rattle.mq_remote.specs.Totals.{AsksTogether}
+use Rattle.mq_remote.specs.declared.subcommands.stopping.TheConstants.{SHORT}
 use Rattle.mq_remote.specs.declared.subcommands.retire.Target.{Target}
 use Rattle.mq_remote.specs.declared.subcommands.shares.ShareOrder.{ShareOrder}
 use Rattle.mq_remote.specs.declared.subcommands.shares.ShareOrder.TheVariants.{Numbered, Fresh, More}
@@ -149,11 +151,11 @@ pub record AsksLimit {L F : Type 0} (leads : L → SocketAddr → ℕ → Type 0
 -- ---- `stop` and `resume`
 
 -- Whether a login is meant at each of these servers: it is said so, or several were asked, and one knows that it used something on
--- this day or one of the two before, or else one gives no answer. Of one server alone nothing is asked beforehand.
+-- this day or one of the two before, or else one doesn't say. Of one server alone nothing is asked beforehand.
 abbrev pub IsMeant : {L : Type 0} → (L → SocketAddr → ℕ → Type 0) → (L → Option (List ReportedExchange)) → List ℕ → ℕ → Bool → List (List ℕ) → Bool → Type 0
 IsMeant leads told login day true servers meant = meant ≡ true
 IsMeant leads told login day false servers meant =
-    ((length servers < 2) × (meant ≡ false)) ⊎ ((1 < length servers) × AsksUse (UseAt leads told login day) servers false meant)
+    ((length servers < 2) × (meant ≡ false)) ⊎ ((1 < length servers) × AsksUse (UseAt leads told login day SHORT) servers false meant)
 
 -- what `stop` asks: of each server the same, in a run of the clock's, from the day on that the words or the clock say, and again
 -- of those that give no answer where the words say so
@@ -173,11 +175,9 @@ pub record AsksStop {L F : Type 0} (leads : L → SocketAddr → ℕ → Type 0)
 -- the login was to have so many more from this day on, or the limit that it had
 abbrev pub ResumesThere : Setter → ℕ → Option ℕ → ℕ → Option (List ReportedExchange) → Option (List ReportedExchange) → Option (List ℕ) → Option (List ℕ) → Type 0
 ResumesThere setter day (Some more) status old new output output' =
-    (ended : Result ℕ OrderFault) × GivesMore setter day more old new ended
-    × Prints (λ cap. resumed_line setter.login cap day) output output' ended status
+    (found : FoundLower) × RunsResume setter day more found status old new output output'
 ResumesThere setter day None status old new output output' =
-    (ended : _) × Restores setter day old new ended
-    × Prints (λ restored. restored_lines setter.login restored day) output output' ended status
+    (found : FoundLower) × RunsRestore setter day found status old new output output'
 
 -- How a login is to have more again at these servers: so many, of which each of several that settings name gets its share, or at
 -- each the limit that it had.

@@ -13,19 +13,22 @@ use Rattle.mq_command.specs.declared.stop_end.StopEnd.TheVariants.{Stopped, Fail
 use Rattle.mq_process.specs.Links.{AsksOver}
 use Rattle.mq_process.specs.declared.asking.TheConstants.{TIMEOUT}
 
--- the server at an address was asked whether this login used something on this day or one of the two before
-abbrev pub UseAt : {L : Type 0} → (L → SocketAddr → ℕ → Type 0) → (L → Option (List ReportedExchange)) → List ℕ → ℕ → SocketAddr → SentLately → Type 0
-UseAt leads told login day address said =
-    AsksOver leads told address TIMEOUT (λ old new output output'. HasSent login day old new said)
+-- the server at an address was asked within this time whether this login used something on this day or one of the two before
+abbrev pub UseAt : {L : Type 0} → (L → SocketAddr → ℕ → Type 0) → (L → Option (List ReportedExchange)) → List ℕ → ℕ → ℕ → SocketAddr → SentLately → Type 0
+UseAt leads told login day timeout address said =
+    AsksOver leads told address timeout (λ old new output output'. HasSent login day old new said)
 
 -- The servers at these addresses were asked so in turn, each once, in this order, up to the first that said the login used something:
--- then it is meant. Where none says so it is where one gave no answer, which may know more.
+-- then it is meant. Where none says so it is where one gave no answer, or didn't take the question, which may know more.
 pub data AsksUse (Asks : SocketAddr → SentLately → Type 0) : List (List ℕ) → Bool → Bool → Type 0 where
   all_asked : (is_silent : Bool) → AsksUse Asks [] is_silent is_silent
   says_yes : (text : List ℕ) (texts : List (List ℕ)) (address : SocketAddr) (is_silent : Bool)
       → IsSocketText text address → Asks address sent.Yes → AsksUse Asks (text ∷ texts) is_silent true
   says_no : (text : List ℕ) (texts : List (List ℕ)) (address : SocketAddr) (is_silent meant : Bool)
       → IsSocketText text address → Asks address sent.No → AsksUse Asks texts is_silent meant
+      → AsksUse Asks (text ∷ texts) is_silent meant
+  takes_none : (text : List ℕ) (texts : List (List ℕ)) (address : SocketAddr) (is_silent meant : Bool)
+      → IsSocketText text address → Asks address sent.NotTaken → AsksUse Asks texts true meant
       → AsksUse Asks (text ∷ texts) is_silent meant
   says_nothing : (text : List ℕ) (texts : List (List ℕ)) (address : SocketAddr) (is_silent meant : Bool)
       → IsSocketText text address → Asks address sent.Unanswered → AsksUse Asks texts true meant
@@ -41,12 +44,17 @@ abbrev pub StopsAt : {L : Type 0} → (L → SocketAddr → ℕ → Type 0) → 
 StopsAt leads told setter order is_alone address end =
     (said : StopEnd) × AsksOver leads told address TIMEOUT (RunsStop setter order said) × EndsAs is_alone said end
 
+-- it gave no answer whether this login used something, or didn't take the question
+abbrev pub IsUnheard : {L : Type 0} → (L → SocketAddr → ℕ → Type 0) → (L → Option (List ReportedExchange)) → List ℕ → ℕ → SocketAddr → Type 0
+IsUnheard leads told login day address =
+    UseAt leads told login day TIMEOUT address sent.NotTaken ⊎ UseAt leads told login day TIMEOUT address sent.Unanswered
+
 -- the same in a later round, of a server that gave no answer before: where it gives none to a question either, that is all
 abbrev pub StopsIn : {L : Type 0} → (L → SocketAddr → ℕ → Type 0) → (L → Option (List ReportedExchange)) → Setter → StopOrder → Bool → Bool → SocketAddr → StopEnd → Type 0
 StopsIn leads told setter order is_alone false address end = StopsAt leads told setter order is_alone address end
 StopsIn leads told setter order is_alone true address end =
     StopsAt leads told setter order is_alone address end
-    ⊎ ((end ≡ Unanswered) × UseAt leads told setter.login order.day address sent.Unanswered)
+    ⊎ ((end ≡ Unanswered) × IsUnheard leads told setter.login order.day address)
 
 -- What a server adds to the status and to those that gave no answer: nothing where the login is stopped, a status of 1 where it
 -- isn't, and where it gave no answer its place among those, or a status of 1 if there is no memory for that.

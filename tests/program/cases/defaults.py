@@ -42,16 +42,16 @@ NO_SERVER = (
     2,
     b"",
     (
-        "mailquota: no server is named; use --server, or copy the server's settings to"
-        f" {PLACE}/server.toml or the filter's to {PLACE}/filter.toml\n"
+        f"mailquota: no server is named; use --server, list it in {PLACE}/servers.toml, or copy the"
+        f" server's settings to {PLACE}/server.toml or the filter's to {PLACE}/filter.toml\n"
     ),
 )
 NO_DAY = (
     2,
     b"",
     (
-        "mailquota: no day is named; use --day or --from, or copy the server's settings to"
-        f" {PLACE}/server.toml\n"
+        "mailquota: which day is today isn't known; use --day or --from with a date, or copy the"
+        f" server's settings, which have the zone, to {PLACE}/server.toml\n"
     ),
 )
 NO_HOST = (
@@ -195,6 +195,31 @@ def by_the_servers_settings(world, checks):
             "stop of yesterday",
             with_settings(world, "stop", "--login", "u", "--ago", "1", **found),
             not_today(today - 1, today),
+        )
+        date = time.strftime("%Y-%m-%d", time.gmtime((today + 1) * 86_400))
+        for words in (["tomorrow"], [date], [str(today + 1)]):
+            checks.equal(
+                f"a stop of tomorrow's {'date' if words == [date] else 'day'}",
+                with_settings(world, "stop", "--login", "u", "--day", *words, **found),
+                not_today(today + 1, today),
+            )
+        # (where the zone isn't known that may be today)
+        came = with_settings(
+            world,
+            *["stop", "--login", "u", "--day", date, "--server", server.address],
+            server="listen = 1\n",
+        )
+        checks.holds(
+            "a stop of tomorrow's date, beside wrong settings",
+            came[:2] == (0, f"stopped: u used 0 on day {today + 1}\nlimit before: 9\n".encode())
+            and came[2].startswith(f"[ERROR settings] {PLACE}/server.toml: "),
+            "it is stopped, and what is wrong is logged",
+            came,
+        )
+        checks.equal(
+            "a resume of tomorrow's date",
+            with_settings(world, "resume", "--login", "u", "--day", date, **found),
+            (0, f"resumed: u may use 9 on day {today + 1}\nlimit after: 9\n".encode(), ""),
         )
         checks.equal(
             "stop of yesterday by force",
@@ -673,7 +698,9 @@ def by_a_list(world, checks):
             ]:
                 sums = b"      0       0 %7d %s\n" % (7 * len(servers), login.encode())
                 # (a number is shared out)
-                in_all = in_all_of(5 * len(servers)) if name == "resume" and servers[1:] else b""
+                in_all = (
+                    in_all_of(5 * len(servers), today) if name == "resume" and servers[1:] else b""
+                )
                 checks.equal(
                     f"{' '.join([name, *words])}, by a list of {len(servers)}",
                     with_settings(world, name, *words, **found),
@@ -785,10 +812,35 @@ def three_words(world, checks):
                 [caps(it, b"thief", today, today + 1) for it in (first, second)],
                 [[9, 9], [5, 5]],
             )
+            typed("stop")
+            with_settings(world, "resume", "thief", "--server", first.address, **found)
+            still = "not stopped: thief may use {0} on day {1}\nlimit after: {0}\n"
+            checks.equal(
+                "resume thief, which the first server has resumed before",
+                typed("resume"),
+                (0, of_both(still.format(9, today), back.format(5, today)), ""),
+            )
+            checks.equal(
+                "resume thief, which both have resumed",
+                typed("resume"),
+                (0, of_both(still.format(9, today), still.format(5, today)), ""),
+            )
+            checks.equal(
+                "the limits of a thief that was let go before",
+                [caps(it, b"thief", today, today + 1) for it in (first, second)],
+                [[9, 9], [5, 5]],
+            )
 
 
-def in_all_of(number):
-    return f"in all at most {number} a day\n".encode()
+def in_all_of(number, after=None):
+    """The sum of limits, which holds on each day, or on those after one."""
+    return (
+        f"in all at most {number} a day{'' if after is None else f' after day {after}'}\n".encode()
+    )
+
+
+def refused_by(first):
+    return f"mailquota: not done by any server: {first.address}, the first, refuses this\n"
 
 
 def set_at(numbers, servers):
@@ -831,15 +883,7 @@ def shares_of_a_list(world, checks):
         checks.equal(
             "limit of a run whose number was used with another",
             with_settings(world, "limit", "a", "7", "--run", "5", **found),
-            (
-                1,
-                b"",
-                "".join(
-                    "mailquota: number used with another limit\n"
-                    f"mailquota: not done by server {it.address}\n"
-                    for it in both
-                ),
-            ),
+            (1, b"", "mailquota: number used with another limit\n" + refused_by(first)),
         )
         checks.equal(
             "limit a 2000 at both by the words",
@@ -859,6 +903,24 @@ def shares_of_a_list(world, checks):
             )
         checks.equal("its limits at both", limits(b"a"), [[1000, 1000], [101, 101]])
         first.ask(reserve(1, count=2, at=today * 86_400, login=b"a"))
+        checks.equal(
+            "limit a 1, where it used 2 at the first",
+            with_settings(world, "limit", "a", "1", **found),
+            (1, b"", f"mailquota: over day {today} used 2\n" + refused_by(first)),
+        )
+        checks.equal("its limits at both, as before", limits(b"a"), [[1000, 1000], [101, 101]])
+        second.ask(reserve(1, count=4, at=today * 86_400, login=b"c"))
+        checks.equal(
+            "limit c 20, where it used more than its share at the second",
+            with_settings(world, "limit", "c", "20", **found),
+            (
+                1,
+                f"set 20 at {first.address}\n".encode(),
+                f"mailquota: over day {today} used 4\n"
+                f"mailquota: not done by server {second.address}\n",
+            ),
+        )
+        checks.equal("its limits at both", limits(b"c"), [[20, 20], [101, 101]])
         with_settings(world, "stop", "a", **found)
         checks.equal("its limits while it is stopped", limits(b"a"), [[2, 0], [0, 0]])
         checks.equal(
@@ -868,7 +930,7 @@ def shares_of_a_list(world, checks):
                 0,
                 f"server {first.address}:\nresumed: a may use 502 on day {today}\n"
                 f"server {second.address}:\nresumed: a may use 51 on day {today}\n".encode()
-                + in_all_of(551),
+                + in_all_of(551, today),
                 "",
             ),
         )

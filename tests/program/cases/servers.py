@@ -9,6 +9,7 @@ from cases.as_used import quiet_port
 from cases.stopping import (
     SET,
     caps,
+    most_limit,
     no_limit,
     nothing_sent,
     orders_of,
@@ -20,6 +21,7 @@ from cases.stopping import (
 from ends import (
     NO_PORT,
     SECONDS,
+    SILENCE,
     Script,
     Server,
     bad_address,
@@ -30,7 +32,7 @@ from ends import (
     wait_until,
 )
 from smtpd import clock
-from wire import frame, limit, number, page_reply, reserve, row, text, usage
+from wire import RETRY, frame, limit, number, page_reply, reserve, row, text, usage
 
 PROBE = usage(b"-", 0)
 
@@ -68,8 +70,19 @@ def is_silent(address):
     )
 
 
+def doesnt_take(address):
+    return (
+        f"mailquota: note: server {address} didn't take the question whether the login is"
+        " misspelled, and it is stopped all the same: the server's log says why; if it has permits,"
+        " add this machine there\n"
+    )
+
+
 def not_known(address):
-    return f"mailquota: not known to be stopped at server {address}, which gave no answer\n"
+    return (
+        f"mailquota: not known to be stopped at server {address}, which gave no answer or didn't"
+        " take this\n"
+    )
 
 
 def is_awaited(address):
@@ -353,21 +366,23 @@ def use_at_one_of_them(world, checks):
             world.run(*words, "other", *both, "--wait"),
             refused,
         )
+    # (first whether it answers at all, which costs a second where it doesn't)
+    there = usage_reply(0, 0, login=b"-", day=0)
     unused = [usage_reply(0, 0, day=day) for day in (today, today - 1, today - 2)]
     asked = [usage(b"u", day) for day in (today, today - 1, today - 2)]
     with Script(
-        unused + [usage_reply(0, 0, day=today), is_set, is_set], otherwise=no_limit
+        [there] + unused + [usage_reply(0, 0, day=today), is_set, is_set], otherwise=no_limit
     ) as first, Script(
-        [usage_reply(2, 0, day=today)] * 2 + [is_set, is_set], otherwise=no_limit
+        [there] + [usage_reply(2, 0, day=today)] * 2 + [is_set, is_set], otherwise=no_limit
     ) as second:
         came = world.run(*words, "u", *at(first.address, second.address))
     checks.equal(
         "stop at two, by a script: the status, what each is asked before a limit",
         (came[0], first.heard[:-2], second.heard[:-2]),
-        (0, asked + asked[:1], asked[:1] * 2),
+        (0, [PROBE, *asked, asked[0]], [PROBE] + asked[:1] * 2),
     )
     with Script(
-        [usage_reply(1, 0, day=today)] * 2 + [is_set, is_set], otherwise=no_limit
+        [there] + [usage_reply(1, 0, day=today)] * 2 + [is_set, is_set], otherwise=no_limit
     ) as first, Script(
         [usage_reply(0, 0, day=today), is_set, is_set], otherwise=no_limit
     ) as second:
@@ -375,8 +390,39 @@ def use_at_one_of_them(world, checks):
     checks.equal(
         "once one says so the others aren't asked",
         (came[0], first.heard[:-2], second.heard[:-2]),
-        (0, asked[:1] * 2, asked[:1]),
+        (0, [PROBE] + asked[:1] * 2, asked[:1]),
     )
+    with Script([SILENCE] * 4) as silent, Server(world, default=9) as server:
+        began = time.monotonic()
+        came = world.run(*words, "u", *at(silent.address, server.address))
+        took = time.monotonic() - began
+    checks.equal(
+        "stop at two, of which one says nothing: what that one is asked",
+        (came[0], silent.heard),
+        (1, [PROBE] + asked[:1] * 3),
+    )
+    checks.holds(
+        "how long that takes: a second, and three tries of two",
+        7 <= took < 9,
+        "from 7 seconds to 9",
+        took,
+    )
+    with Script([RETRY] * 3) as first, Server(world, default=9) as second:
+        came = world.run(*words, "v", "--force", *at(first.address, second.address))
+    checks.equal(
+        "stop at two, of which one doesn't take it",
+        (came[0], came[1].count(b"stopped"), came[2].splitlines(True)[-1]),
+        (1, 1, not_known(first.address)),
+    )
+    with Script(
+        [RETRY, usage_reply(0, 0, day=today), is_set, is_set], otherwise=no_limit
+    ) as first, Server(world, default=9) as second:
+        came = world.run(*words, "u", *at(first.address, second.address))
+        checks.equal(
+            "stop at two, of which one doesn't take the question, used at none",
+            (came[0], came[2], first.heard[0], caps(second, b"u", today, today + 1)),
+            (0, doesnt_take(first.address), PROBE, [0, 0]),
+        )
 
 
 def begun(world, words, limit=()):
@@ -531,8 +577,8 @@ def one_number_for_all(world, checks):
         f"from {before} on, and not later",
         first.heard,
     )
-    with Script([usage_reply(2, 3), is_set, is_set]) as first, Script(
-        [usage_reply(1, 0), is_set, is_set]
+    with Script([usage_reply(2, 3), is_set, is_set], otherwise=most_limit) as first, Script(
+        [usage_reply(1, 0), is_set, is_set], otherwise=most_limit
     ) as second:
         before = clock()
         world.run(

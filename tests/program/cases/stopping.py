@@ -74,6 +74,8 @@ def run(world, checks):
     limits_given_back(world, checks)
     later_limits(world, checks)
     later_limits_by_script(world, checks)
+    lower_limits(world, checks)
+    lower_limits_by_script(world, checks)
     days(world, checks)
     a_device_that_is_full(world, checks)
     loops(world, checks, "limits in a loop", 1, 100)
@@ -259,6 +261,15 @@ def no_limit(heard):
     )
 
 
+def most_limit(heard):
+    """The reply of a server that says of any login and day that nothing is used, and that the limit
+    is the most."""
+    end = 4 + heard[3]
+    return usage_reply(
+        0, 0, login=heard[4:end], day=int.from_bytes(heard[end : end + 4], "big"), cap=MOST
+    )
+
+
 def over(used, day=1):
     return lambda heard: said(heard, OVER, number(day) + number(used))
 
@@ -390,7 +401,7 @@ def stop_by_script(world, checks):
         (unavailable(server.address, CUT), [asked] * 3),
     )
     stop_with_later_use(world, checks)
-    with Script([usage_reply(2, 3), over(6), is_set, is_set]) as server:
+    with Script([usage_reply(2, 3), over(6), is_set, is_set], otherwise=most_limit) as server:
         came = resume(world, server.address, 50)
     checks.equal(
         "resume where more is used meanwhile",
@@ -979,8 +990,8 @@ def today_alone(world, checks):
             2,
             b"",
             (
-                "mailquota: no day is named; use --day or --from, or copy the server's settings to"
-                " /etc/mailquota/server.toml\n"
+                "mailquota: which day is today isn't known; use --day or --from with a date, or copy"
+                " the server's settings, which have the zone, to /etc/mailquota/server.toml\n"
             ),
         ),
     )
@@ -1084,10 +1095,10 @@ def limits_given_back(world, checks):
     def given_back(server, login, day):
         return world.run("resume", *words_of(server.address, login, day))
 
-    def restored(cap, limit_after, login, day):
+    def restored(cap, limit_after, login, day, begin="resumed"):
         return (
             0,
-            f"resumed: {login} may use {cap} on day {day}\nlimit after: {limit_after}\n".encode(),
+            f"{begin}: {login} may use {cap} on day {day}\nlimit after: {limit_after}\n".encode(),
             "",
         )
 
@@ -1120,8 +1131,32 @@ def limits_given_back(world, checks):
             checks.equal(
                 "given back again",
                 given_back(server, login, day),
-                fault(f"not stopped after day {day}; use --cap"),
+                restored(40, 40, login, day, "not stopped"),
             )
+            checks.equal(
+                "its limits are as before",
+                caps(server, login.encode(), 109, 110, day, day + 1, LAST_DAY),
+                wanted,
+            )
+        checks.equal(
+            "given back where it was never stopped",
+            given_back(server, "never", 7),
+            restored(10, 10, "never", 7, "not stopped"),
+        )
+        # (as where a stop set the day's limit alone, or a limit begins on the next day)
+        server.ask(limit(1, 8, 3, login=b"half", host=b"half"))
+        checks.equal(
+            "given back where the limit of the day alone is lower",
+            given_back(server, "half", 7),
+            restored(10, 3, "half", 7, "not stopped"),
+        )
+        server.ask(limit(2, 8, 30, login=b"half", host=b"half"))
+        checks.equal(
+            "where that of the next day is higher",
+            given_back(server, "half", 7),
+            fault("not stopped after day 7, whose own limit is lower; use --cap"),
+        )
+        checks.equal("nothing is set there", caps(server, b"half", 6, 7, 8), [10, 10, 30])
         checks.equal(
             "a stop on the first day",
             stop(world, server.address, "first", 0),
@@ -1162,6 +1197,12 @@ def limits_given_back(world, checks):
     for what, replies, wanted, asked in [
         ("no answer about the next day", [b""] * 3, None, [21] * 3),
         (
+            "no answer about the day of a login that isn't stopped",
+            [usage_reply(0, 0, day=21, cap=5)] + [b""] * 3,
+            None,
+            [21] + [20] * 3,
+        ),
+        (
             "no answer about the day",
             [usage_reply(0, 0, day=21, cap=0)] + [b""] * 3,
             None,
@@ -1200,7 +1241,7 @@ def limits_given_back(world, checks):
         usage_reply(0, 0, day=19, cap=30),
         usage_reply(4, 3, day=20, cap=7),
     ]
-    with Script(replies + [over(8, day=20), is_set, is_set]) as server:
+    with Script(replies + [over(8, day=20), is_set, is_set], otherwise=most_limit) as server:
         came = world.run("resume", *words_of(server.address, "u", day))
     checks.equal(
         "resume without a number, more is used meanwhile",
@@ -1351,6 +1392,127 @@ def later_limits_by_script(world, checks):
             came = world.run("stop", *words_of(server.address, "u", 1), "--force", "--all")
         told = fault(wanted)[2] if wanted else unavailable(server.address, CUT)[2]
         checks.equal(f"stop --all, {what}", came, (1, stopped(0, 9)[1], told))
+
+
+def stays_lower(done, *notes):
+    """What `resume` comes to that notes this of limits from later days."""
+    return *done[:2], done[2] + "".join(f"mailquota: note: {it}\n" for it in notes)
+
+
+def zero_from(day):
+    return f"a limit of 0 stays in force from day {day} on; use resume --day {day}"
+
+
+def lower_limits(world, checks):
+    """`resume` notes from which day on a lower limit stays in force, and what it says to type then
+    gives the login its limit there too."""
+    with Server(world, default=9) as server:
+        address = server.address
+
+        def restore(login, day):
+            return world.run("resume", *words_of(address, login, day))
+
+        def back(cap, login, day):
+            line = f"resumed: {login} may use {cap} on day {day}\nlimit after: {cap}\n"
+            return 0, line.encode(), ""
+
+        for login, cap in (("all", None), ("more", 4)):
+            name = login.encode()
+            server.ask(
+                limit(1, 105, 40, login=name, host=name) + limit(2, 108, 50, login=name, host=name)
+            )
+            world.run("stop", *words_of(address, login, 101), "--force", "--all")
+            checks.equal(
+                f"{login}: stopped by --all", caps(server, name, 101, 102, 105, 108), [0] * 4
+            )
+            for day, noted in ((101, 105), (105, 108), (108, None)):
+                came = resume(world, address, cap, login, day) if cap else restore(login, day)
+                wanted = resumed(cap, login, day) if cap else back(9, login, day)
+                checks.equal(
+                    f"{login}: resume from day {day} on",
+                    came,
+                    stays_lower(wanted, zero_from(noted)) if noted else wanted,
+                )
+            checks.equal(
+                f"{login}: its limits then",
+                caps(server, name, 101, 104, 105, 107, 108, LAST_DAY),
+                [cap or 9] * 6,
+            )
+        stop(world, address, "twice", 101)
+        stop(world, address, "twice", 104)
+        checks.equal(
+            "resume before a second stop",
+            restore("twice", 101),
+            stays_lower(back(9, "twice", 101), zero_from(104)),
+        )
+        checks.equal("resume from that one on", restore("twice", 104), back(9, "twice", 104))
+        checks.equal(
+            "its limits then", caps(server, b"twice", 101, 103, 104, 105, LAST_DAY), [9] * 5
+        )
+        for day, cap, note in [
+            (401, 3, "a limit of 3 stays in force from day 401 on; use limit --from 401"),
+            (
+                402,
+                3,
+                f"a limit of 3 stays in force on day {LAST_DAY}, and from which day on isn't found",
+            ),
+            (401, 4, None),
+            (401, 5, None),
+        ]:
+            login = f"from{day}-{cap}"
+            server.ask(limit(1, day, cap, login=login.encode(), host=login.encode()))
+            wanted = resumed(4, login)
+            checks.equal(
+                f"resume with 4, and a limit of {cap} from day {day} on",
+                resume(world, address, 4, login),
+                stays_lower(wanted, note) if note else wanted,
+            )
+        server.ask(limit(1, 5, 2, login=b"not", host=b"not"))
+        checks.equal(
+            "resume of a login that isn't stopped, with a lower limit from a later day",
+            restore("not", 1),
+            (
+                0,
+                b"not stopped: not may use 9 on day 1\nlimit after: 9\n",
+                "mailquota: note: a limit of 2 stays in force from day 5 on; use limit --from 5\n",
+            ),
+        )
+
+
+def lower_limits_by_script(world, checks):
+    """What is asked after both limits are set, a day at a time."""
+    asked = [frame(b"\x05" + text(b"u") + number(day)) for day in [*range(3, 402), LAST_DAY]]
+    with Script([usage_reply(0, 0), is_set, is_set], otherwise=most_limit) as server:
+        came = resume(world, server.address, 5)
+    checks.equal(
+        "resume: what is asked of later days", (came, server.heard_later), (resumed(5), asked)
+    )
+    with Script([usage_reply(0, 0), is_set, is_set, usage_reply(0, 0, day=3, cap=4)]) as server:
+        came = resume(world, server.address, 5)
+    checks.equal(
+        "resume, a lower limit: nothing more is asked",
+        (came, server.heard[3:]),
+        (
+            stays_lower(
+                resumed(5), "a limit of 4 stays in force from day 3 on; use limit --from 3"
+            ),
+            asked[:1],
+        ),
+    )
+    with Script([usage_reply(0, 0), is_set, is_set] + [b""] * 3) as server:
+        status, output, errors = resume(world, server.address, 5)
+    checks.equal(
+        "resume, no answer about a later day",
+        (status, output, errors.splitlines()[-1]),
+        (
+            *resumed(5)[:2],
+            "mailquota: note: whether a lower limit of a later day stays in force isn't known:"
+            " quota service unavailable",
+        ),
+    )
+    with Script([usage_reply(2, 3), over(60, day=3)]) as server:
+        resume(world, server.address, 50)
+    checks.equal("resume that fails: nothing more is asked", len(server.heard), 2)
 
 
 def days(world, checks):

@@ -7,9 +7,10 @@ ghost use Rattle.mq_process.specs.Refusals.{HasNoAddress, NamesLogin, OrderRefus
 ghost use Rattle.mq_remote.specs.Asked.{AsksAt, AsksEachOf, AsksResume, AsksStop, IsMeant};
 ghost use Rattle.mq_remote.specs.Asked.{IsRunBy, IsSetterBy, ResumesBy, ResumesThere};
 ghost use Rattle.mq_remote.specs.Stops.{AsksUse, UseAt};
+ghost use Rattle.mq_remote.specs.declared.subcommands.stopping.TheConstants.{SHORT};
 
 use crate::subcommands::shares::{ShareOrder, ShareTask, are_several, check_few, share_number};
-use crate::subcommands::stopping::{ask_use, stop_everywhere};
+use crate::subcommands::stopping::{SHORT, ask_use, stop_everywhere};
 use log::{LevelFilter, Logged};
 use mq_command::{SentLately, ServerErrors, Setter, StopOrder, run_restore, run_resume};
 use mq_process::{
@@ -94,7 +95,7 @@ pub fn stop<R: Files + Clock + WallClock + Print + Eprint + AllocGlobal, D: Dial
 }
 
 /// Whether a login is meant: it is said so, or one of several servers answers that it sent
-/// something lately, or gives no answer. A server that is asked alone finds that out itself.
+/// something lately, or doesn't say. A server that is asked alone finds that out itself.
 fn is_meant_at_one<R: Eprint + AllocGlobal, D: Dial, E: Write>(
     rt: &R,
     dial: &D,
@@ -119,16 +120,40 @@ fn is_meant_at_one<R: Eprint + AllocGlobal, D: Dial, E: Write>(
     has_sent_at_one(rt, dial, servers, setter, day, errors)
 }
 
-/// Notes on `errors` that a server gives no answer, which might know the login.
-fn note_silent<E: Write>(server: &str, errors: &mut E) {
-    let _ = writeln!(
-        errors,
-        "mailquota: note: server {server} gives no answer: the login is stopped without asking whether it is misspelled"
-    );
+/// A server that doesn't say whether it knows a login.
+#[derive(Clone, Copy)]
+struct Unheard<'a> {
+    server: &'a str,
+    /// Whether it gives an answer all the same: that it doesn't take the question.
+    is_refusing: bool,
 }
 
-/// Whether one of these servers answers that a login sent something lately, or else one gives no
-/// answer, which is noted.
+/// This server, which doesn't say.
+fn not_saying(server: &str, is_refusing: bool) -> Unheard<'_> {
+    Unheard {
+        server,
+        is_refusing,
+    }
+}
+
+/// Notes on `errors` that a server doesn't say whether it knows the login, and why.
+fn note_unheard<E: Write>(unheard: Unheard<'_>, errors: &mut E) {
+    let server = unheard.server;
+    let _ = if unheard.is_refusing {
+        writeln!(
+            errors,
+            "mailquota: note: server {server} didn't take the question whether the login is misspelled, and it is stopped all the same: the server's log says why; if it has permits, add this machine there"
+        )
+    } else {
+        writeln!(
+            errors,
+            "mailquota: note: server {server} gives no answer: the login is stopped without asking whether it is misspelled"
+        )
+    };
+}
+
+/// Whether one of these servers answers that a login sent something lately, or else one doesn't
+/// say, which is noted. One that is away costs a second.
 fn has_sent_at_one<R: Eprint + AllocGlobal, D: Dial, E: Write>(
     rt: &R,
     dial: &D,
@@ -140,7 +165,7 @@ fn has_sent_at_one<R: Eprint + AllocGlobal, D: Dial, E: Write>(
     requires servers { ¬ HasNoAddress (map (λ s. s.now) servers.now) }
     requires setter { IsSetter setter.now }
     requires day { IsWithin 0 last_stop_day day }
-    ensures { AsksUse (UseAt D.leads D.Link.told setter.now.login day)
+    ensures { AsksUse (UseAt D.leads D.Link.told setter.now.login day SHORT)
         (map (λ s. s.now) servers.now) false result }
 {
     let mut silent = None;
@@ -148,15 +173,16 @@ fn has_sent_at_one<R: Eprint + AllocGlobal, D: Dial, E: Write>(
         let Ok(address) = address_of(rt, server) else {
             unreachable!();
         };
-        match ask_use(rt, dial, address, setter, day) {
+        match ask_use(rt, dial, address, setter, day, SHORT) {
             SentLately::Yes => return true,
             SentLately::No => {}
-            SentLately::Unanswered => silent = Some(*server),
+            SentLately::NotTaken => silent = Some(not_saying(server, true)),
+            SentLately::Unanswered => silent = Some(not_saying(server, false)),
         }
     }
     match silent {
-        Some(server) => {
-            note_silent(server, errors);
+        Some(unheard) => {
+            note_unheard(unheard, errors);
             true
         }
         None => false,

@@ -14,12 +14,16 @@ use log::{LevelFilter, Logged};
 use mq_command::{
     SentLately, ServerErrors, Setter, StopEnd, StopOrder, has_sent, run_stop, say_undone,
 };
-use mq_process::{Console, Dial, address_of, elapsed, link_to, tell_server};
+use mq_process::{Console, Dial, TIMEOUT, address_of, elapsed, link_to, tell_server};
 use std::io::Write;
 use std::net::SocketAddr;
 use std::rt::Clock;
 use std::time::{Duration, Instant};
 use std::{io, thread};
+
+/// How long each step may take of what servers are asked before one is to stop a login, in
+/// milliseconds: it is only whether it is misspelled.
+pub const SHORT: u64 = 1_000;
 
 /// How long it is between two rounds, in seconds.
 const PAUSE: u64 = 5;
@@ -48,21 +52,21 @@ struct Round<'a> {
     left: Vec<&'a str>,
 }
 
-/// Asks the server at this address whether a login sent something lately. One that gives no answer
-/// is logged where it is asked to stop it.
-pub fn ask_use<R: Eprint + AllocGlobal, D: Dial>(
+/// Asks the server at this address whether a login sent something lately, in so many milliseconds
+/// for each step. Nothing is logged: it is where it is asked to stop it.
+pub fn ask_use<R: AllocGlobal, D: Dial>(
     rt: &R,
     dial: &D,
     address: SocketAddr,
     setter: &Setter,
     day: u32,
+    timeout: u64,
 ) -> SentLately
     requires setter { IsSetter setter.now }
     requires day { IsWithin 0 last_stop_day day }
-    ensures { UseAt D.leads D.Link.told setter.now.login day address result }
+    ensures { UseAt D.leads D.Link.told setter.now.login day timeout address result }
 {
-    let logged = Logged::new(rt, LevelFilter::Off, Console(rt));
-    let mut link = link_to(dial, address, &logged);
+    let mut link = dial.link(address, timeout, true);
     has_sent(rt.alloc(), &mut link, &setter.login, day)
 }
 
@@ -124,7 +128,7 @@ fn stop_at<R: Print + Eprint + AllocGlobal, D: Dial, E: Write>(
 }
 
 /// The same in a first round, or in a later one, where the server gave no answer before: where it
-/// gives none to a question either, nothing is logged or printed.
+/// gives none to a question either, or doesn't take that, nothing is logged or printed.
 fn stop_in<R: Print + Eprint + AllocGlobal, D: Dial, E: Write>(
     rt: &R,
     dial: &D,
@@ -140,9 +144,9 @@ fn stop_in<R: Print + Eprint + AllocGlobal, D: Dial, E: Write>(
         task.entry.is_alone is_later address result }
 {
     if is_later {
-        let sent = ask_use(rt, dial, address, task.setter, task.order.day);
-        if sent == SentLately::Unanswered {
-            return StopEnd::Unanswered;
+        match ask_use(rt, dial, address, task.setter, task.order.day, TIMEOUT) {
+            SentLately::Yes | SentLately::No => {}
+            SentLately::NotTaken | SentLately::Unanswered => return StopEnd::Unanswered,
         }
     }
     stop_at(rt, dial, server, address, task, errors)
@@ -254,12 +258,12 @@ fn stop_rest<'a, R: Clock + Print + Eprint + AllocGlobal, D: Dial, E: Write>(
 }
 
 /// Says on `errors` at which servers the login isn't known to be stopped, since they gave no
-/// answer.
+/// answer, or that they don't take this.
 fn say_left<E: Write>(left: &[&str], errors: &mut E) {
     for server in left {
         let _ = writeln!(
             errors,
-            "mailquota: not known to be stopped at server {server}, which gave no answer"
+            "mailquota: not known to be stopped at server {server}, which gave no answer or didn't take this"
         );
     }
 }

@@ -1,5 +1,4 @@
-use Rattle.std.proofs.Common.{[], List, map, subst, sym, true}
-use Rattle.std.specs.Borrow.{Bor}
+use Rattle.std.proofs.Common.{[], map, subst, sym, true}
 use Rattle.mq_process.specs.Refusals.{HasNoAddress}
 use Rattle.mq_remote.specs.Stops.{StopsEach, StopsIn, ended, round}
 use Rattle.mq_remote.proofs.subcommands.stopping.stop_rest.Goals as goal

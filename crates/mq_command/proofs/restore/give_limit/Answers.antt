@@ -1,6 +1,6 @@
 use Rattle.mq_command.proofs.Words.{ap, min, ◌∙◌}
 use Rattle.mq_command.proofs.AllowSteps.{limit_given}
-use Rattle.mq_command.proofs.allow.give_limit.Goals as goal
+use Rattle.mq_command.proofs.restore.give_limit.Goals as goal
 
 pub returns-in-Ok : goal.returns-in-Ok
 returns-in-Ok g c =
