@@ -138,16 +138,16 @@ SharesOthers leads told order setter day rule others first status =
     × EndsShares (length others == 0) (after_of order day) so_far sum status
 
 -- What follows what came of asking the first server for its share: where it refuses that, no other is asked.
-abbrev pub GoesOn : {L : Type 0} → (L → SocketAddr → ℕ → Type 0) → (L → Option (List ReportedExchange)) → ShareOrder → Setter → ℕ → ShareRule
+abbrev pub SharesAfterFirst : {L : Type 0} → (L → SocketAddr → ℕ → Type 0) → (L → Option (List ReportedExchange)) → ShareOrder → Setter → ℕ → ShareRule
     → List (List ℕ) → ShareEnd → ℕ → Type 0
-GoesOn leads told order setter day rule others came.Refused status = status ≡ 1
-GoesOn leads told order setter day rule others first status = SharesOthers leads told order setter day rule others first status
+SharesAfterFirst leads told order setter day rule others came.Refused status = status ≡ 1
+SharesAfterFirst leads told order setter day rule others first status = SharesOthers leads told order setter day rule others first status
 
 -- What asking the first server, at this address, for its share leads to, and then the others.
 abbrev pub SharesFrom : {L : Type 0} → (L → SocketAddr → ℕ → Type 0) → (L → Option (List ReportedExchange)) → ShareOrder → Setter → ℕ → ShareRule
     → List ℕ → SocketAddr → List (List ℕ) → ℕ → Type 0
 SharesFrom leads told order setter day rule server address others status =
-    (end : ShareEnd) × SharesAt leads told order setter day rule server address end × GoesOn leads told order setter day rule others end status
+    (end : ShareEnd) × SharesAt leads told order setter day rule server address end × SharesAfterFirst leads told order setter day rule others end status
 
 -- what follows, by the default of the first server
 abbrev pub SharesBy : {L : Type 0} → (L → SocketAddr → ℕ → Type 0) → (L → Option (List ReportedExchange)) → ShareOrder → Setter → ℕ → ℕ

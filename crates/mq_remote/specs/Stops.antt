@@ -45,8 +45,8 @@ StopsAt leads told setter order is_alone address end =
     (said : StopEnd) × AsksOver leads told address TIMEOUT (RunsStop setter order said) × EndsAs is_alone said end
 
 -- it gave no answer whether this login used something, or didn't take the question
-abbrev pub IsUnheard : {L : Type 0} → (L → SocketAddr → ℕ → Type 0) → (L → Option (List ReportedExchange)) → List ℕ → ℕ → SocketAddr → Type 0
-IsUnheard leads told login day address =
+abbrev pub GetsNoAnswer : {L : Type 0} → (L → SocketAddr → ℕ → Type 0) → (L → Option (List ReportedExchange)) → List ℕ → ℕ → SocketAddr → Type 0
+GetsNoAnswer leads told login day address =
     UseAt leads told login day TIMEOUT address sent.NotTaken ⊎ UseAt leads told login day TIMEOUT address sent.Unanswered
 
 -- the same in a later round, of a server that gave no answer before: where it gives none to a question either, that is all
@@ -54,7 +54,7 @@ abbrev pub StopsIn : {L : Type 0} → (L → SocketAddr → ℕ → Type 0) → 
 StopsIn leads told setter order is_alone false address end = StopsAt leads told setter order is_alone address end
 StopsIn leads told setter order is_alone true address end =
     StopsAt leads told setter order is_alone address end
-    ⊎ ((end ≡ Unanswered) × IsUnheard leads told setter.login order.day address)
+    ⊎ ((end ≡ Unanswered) × GetsNoAnswer leads told setter.login order.day address)
 
 -- What a server adds to the status and to those that gave no answer: nothing where the login is stopped, a status of 1 where it
 -- isn't, and where it gave no answer its place among those, or a status of 1 if there is no memory for that.
