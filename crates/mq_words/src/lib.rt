@@ -16,6 +16,7 @@
 mod days;
 mod fault;
 mod limits;
+mod matching;
 mod meaning;
 mod printing;
 mod subcommands;
