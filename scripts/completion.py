@@ -47,14 +47,13 @@ def text_of(field, text):
 
 def commands_in(source):
     """The commands of the table, in its order."""
-    options, _, table = source.partition("pub const SUBCOMMANDS:")
     known = {
         name: Option(text)
         for name, text in re.findall(
-            r"^const (\w+): CommandOption = CommandOption \{\n(.*?)^\};", options, re.M | re.S
+            r"^const (\w+): CommandOption = CommandOption \{\n(.*?)^\};", source, re.M | re.S
         )
     }
-    rows = re.findall(r"^    Subcommand \{\n(.*?)^    \},", table, re.M | re.S)
+    rows = re.findall(r"^static \w+: Subcommand = Subcommand \{\n(.*?)^\};", source, re.M | re.S)
     return [Command(it, known) for it in rows]
 
 

@@ -1030,10 +1030,9 @@ TREE = {
     CIRCLES: "# The circles.\nmq_high: high steps\n",
     SUBCOMMANDS: (
         '//! The commands.\nconst FAR: CommandOption = CommandOption {\n    name: "far",\n};\nconst'
-        ' OFF: CommandOption = CommandOption {\n    name: "far-off",\n};\npub const SUBCOMMANDS:'
-        ' [Subcommand; 2] = [\n    Subcommand {\n        name: "go",\n        options: &[FAR,'
-        ' OFF],\n    },\n    Subcommand {\n        name: "stay",\n        options: &[],\n   '
-        " },\n];\n"
+        ' OFF: CommandOption = CommandOption {\n    name: "far-off",\n};\nstatic GO: Subcommand'
+        ' = Subcommand {\n    name: "go",\n    options: &[FAR, OFF],\n};\nstatic STAY: Subcommand ='
+        ' Subcommand {\n    name: "stay",\n    options: &[],\n};\n'
     ),
     "man/mailquota.8": (
         ".Sh SYNOPSIS\n.Nm\n.Ar command\n.Fl -help | Fl -version\n.Sh DESCRIPTION\n.Fl -help\n.Fl"

@@ -1,4 +1,10 @@
 //! The subcommands and their options.
+ghost use Rattle.std.specs.Prelude.{◌≡◌, map};
+ghost use Rattle.mq_words.specs.CommandLine.{audit_shape, day_shape, filter_shape, forget_shape};
+ghost use Rattle.mq_words.specs.CommandLine.{init_shape, limit_shape, limits_shape, replay_shape};
+ghost use Rattle.mq_words.specs.CommandLine.{report_shape, resume_shape, retire_shape};
+ghost use Rattle.mq_words.specs.CommandLine.{server_shape, shape_of_subcommand, status_shape};
+ghost use Rattle.mq_words.specs.CommandLine.{stop_shape, subcommand_shapes};
 
 use mq_process::{FILTER_SETTINGS, SERVER_SETTINGS};
 use mq_request::bounds::{AMOUNT_LIMIT, FIRST_MOMENT, LAST_DAY, LAST_MOMENT, LAST_RUN};
@@ -523,158 +529,277 @@ const INTO: CommandOption = CommandOption {
     default: None,
 };
 
+static INIT_COMMAND: Subcommand = Subcommand {
+    name: "init",
+    about: "Make the ledger of a server's settings",
+    usage: None,
+    words: &[],
+    options: &[CONFIG],
+    groups: &[],
+};
+
+static SERVER_COMMAND: Subcommand = Subcommand {
+    name: "server",
+    about: "Serve the ledger to filters",
+    usage: None,
+    words: &[],
+    options: &[CONFIG, CREATE, CONNECTIONS, ENDLESS],
+    groups: &[],
+};
+
+static FILTER_COMMAND: Subcommand = Subcommand {
+    name: "filter",
+    about: "Answer smtpd on standard input and output",
+    usage: None,
+    words: &[],
+    options: &[FILTER_CONFIG, RUN, CHECK],
+    groups: &[],
+};
+
+static STATUS_COMMAND: Subcommand = Subcommand {
+    name: "status",
+    about: "Say whether the quota server answers",
+    usage: None,
+    words: &[],
+    options: &[ANY_SERVER, PROBED_HOST, ITS_SETTINGS, PROBE_JSON],
+    groups: &[],
+};
+
+static LIMIT_COMMAND: Subcommand = Subcommand {
+    name: "limit",
+    about: "Set the limit of a login from a day on",
+    usage: Some("mailquota limit [OPTIONS] <LOGIN> <CAP>"),
+    words: &[LOGIN_WORD, CAP_WORD],
+    options: &[
+        SERVERS,
+        ASKED_CONFIG,
+        HOST,
+        LOGIN,
+        LOGIN_TEXT,
+        FROM,
+        AGO,
+        CAP,
+        RUN,
+    ],
+    groups: &[NAMED, CAPPED],
+};
+
+static STOP_COMMAND: Subcommand = Subcommand {
+    name: "stop",
+    about: "Let a login have nothing more, today and on each later day",
+    usage: Some("mailquota stop [OPTIONS] <LOGIN>"),
+    words: &[LOGIN_WORD],
+    options: &[
+        SERVERS,
+        ASKED_CONFIG,
+        HOST,
+        LOGIN,
+        LOGIN_TEXT,
+        EARLIER_DAY,
+        AGO,
+        FORCE,
+        ALL,
+        WAIT,
+    ],
+    groups: &[NAMED],
+};
+
+static RESUME_COMMAND: Subcommand = Subcommand {
+    name: "resume",
+    about: "Let a login have more again, today and on each later day",
+    usage: Some("mailquota resume [OPTIONS] <LOGIN>"),
+    words: &[LOGIN_WORD],
+    options: &[
+        SERVERS,
+        ASKED_CONFIG,
+        HOST,
+        LOGIN,
+        LOGIN_TEXT,
+        EARLIER_DAY,
+        AGO,
+        MORE,
+    ],
+    groups: &[NAMED],
+};
+
+static DAY_COMMAND: Subcommand = Subcommand {
+    name: "day",
+    about: "Print a day's number and, on a terminal, its date",
+    usage: None,
+    words: &[DAY_WORD],
+    options: &[CONFIG, AT, JSON],
+    groups: &[],
+};
+
+static RETIRE_COMMAND: Subcommand = Subcommand {
+    name: "retire",
+    about: "Retire a host's earlier filters: what they reserved counts as sent",
+    usage: None,
+    words: &[],
+    options: &[SERVER, RETIRED_CONFIG, RETIRED_HOST, RETIRED_RUN],
+    groups: &[],
+};
+
+static REPORT_COMMAND: Subcommand = Subcommand {
+    name: "report",
+    about: "Print what logins used on a day",
+    usage: None,
+    words: &[LOGIN_WORD],
+    options: &[
+        SERVERS,
+        ASKED_CONFIG,
+        DAY,
+        AGO,
+        LOGIN,
+        LOGIN_TEXT,
+        TOP,
+        EACH,
+        REPORT_JSON,
+    ],
+    groups: &[],
+};
+
+static LIMITS_COMMAND: Subcommand = Subcommand {
+    name: "limits",
+    about: "Print the limits that are set in the ledger in a file",
+    usage: None,
+    words: &[],
+    options: &[CONFIG, JSON],
+    groups: &[],
+};
+
+static AUDIT_COMMAND: Subcommand = Subcommand {
+    name: "audit",
+    about: "Check the books of the ledger in a file",
+    usage: None,
+    words: &[],
+    options: &[CONFIG, JSON],
+    groups: &[],
+};
+
+static FORGET_COMMAND: Subcommand = Subcommand {
+    name: "forget",
+    about: "Make a new ledger file without the days before a day",
+    usage: None,
+    words: &[],
+    options: &[CONFIG, BEFORE, INTO],
+    groups: &[],
+};
+
+static REPLAY_COMMAND: Subcommand = Subcommand {
+    name: "replay",
+    about: "Answer frames in hexadecimal from standard input over a new ledger",
+    usage: None,
+    words: &[],
+    options: &[DEFAULT, EAST, WEST, RULE, SQL],
+    groups: &[],
+};
+
+// A clause can't name a table, and the proof of a whole one is dear: so each row is handed out with
+// what clap reads of it.
+
+fn init() -> &'static Subcommand
+    ensures { shape_of_subcommand result.now ≡ init_shape }
+{
+    &INIT_COMMAND
+}
+
+fn server() -> &'static Subcommand
+    ensures { shape_of_subcommand result.now ≡ server_shape }
+{
+    &SERVER_COMMAND
+}
+
+fn filter() -> &'static Subcommand
+    ensures { shape_of_subcommand result.now ≡ filter_shape }
+{
+    &FILTER_COMMAND
+}
+
+fn status() -> &'static Subcommand
+    ensures { shape_of_subcommand result.now ≡ status_shape }
+{
+    &STATUS_COMMAND
+}
+
+fn limit() -> &'static Subcommand
+    ensures { shape_of_subcommand result.now ≡ limit_shape }
+{
+    &LIMIT_COMMAND
+}
+
+fn stop() -> &'static Subcommand
+    ensures { shape_of_subcommand result.now ≡ stop_shape }
+{
+    &STOP_COMMAND
+}
+
+fn resume() -> &'static Subcommand
+    ensures { shape_of_subcommand result.now ≡ resume_shape }
+{
+    &RESUME_COMMAND
+}
+
+fn day() -> &'static Subcommand
+    ensures { shape_of_subcommand result.now ≡ day_shape }
+{
+    &DAY_COMMAND
+}
+
+fn retire() -> &'static Subcommand
+    ensures { shape_of_subcommand result.now ≡ retire_shape }
+{
+    &RETIRE_COMMAND
+}
+
+fn report() -> &'static Subcommand
+    ensures { shape_of_subcommand result.now ≡ report_shape }
+{
+    &REPORT_COMMAND
+}
+
+fn limits() -> &'static Subcommand
+    ensures { shape_of_subcommand result.now ≡ limits_shape }
+{
+    &LIMITS_COMMAND
+}
+
+fn audit() -> &'static Subcommand
+    ensures { shape_of_subcommand result.now ≡ audit_shape }
+{
+    &AUDIT_COMMAND
+}
+
+fn forget() -> &'static Subcommand
+    ensures { shape_of_subcommand result.now ≡ forget_shape }
+{
+    &FORGET_COMMAND
+}
+
+fn replay() -> &'static Subcommand
+    ensures { shape_of_subcommand result.now ≡ replay_shape }
+{
+    &REPLAY_COMMAND
+}
+
 /// The subcommands, in the order in which people need them.
-pub const SUBCOMMANDS: [Subcommand; 14] = [
-    Subcommand {
-        name: "init",
-        about: "Make the ledger of a server's settings",
-        usage: None,
-        words: &[],
-        options: &[CONFIG],
-        groups: &[],
-    },
-    Subcommand {
-        name: "server",
-        about: "Serve the ledger to filters",
-        usage: None,
-        words: &[],
-        options: &[CONFIG, CREATE, CONNECTIONS, ENDLESS],
-        groups: &[],
-    },
-    Subcommand {
-        name: "filter",
-        about: "Answer smtpd on standard input and output",
-        usage: None,
-        words: &[],
-        options: &[FILTER_CONFIG, RUN, CHECK],
-        groups: &[],
-    },
-    Subcommand {
-        name: "status",
-        about: "Say whether the quota server answers",
-        usage: None,
-        words: &[],
-        options: &[ANY_SERVER, PROBED_HOST, ITS_SETTINGS, PROBE_JSON],
-        groups: &[],
-    },
-    Subcommand {
-        name: "limit",
-        about: "Set the limit of a login from a day on",
-        usage: Some("mailquota limit [OPTIONS] <LOGIN> <CAP>"),
-        words: &[LOGIN_WORD, CAP_WORD],
-        options: &[
-            SERVERS,
-            ASKED_CONFIG,
-            HOST,
-            LOGIN,
-            LOGIN_TEXT,
-            FROM,
-            AGO,
-            CAP,
-            RUN,
-        ],
-        groups: &[NAMED, CAPPED],
-    },
-    Subcommand {
-        name: "stop",
-        about: "Let a login have nothing more, today and on each later day",
-        usage: Some("mailquota stop [OPTIONS] <LOGIN>"),
-        words: &[LOGIN_WORD],
-        options: &[
-            SERVERS,
-            ASKED_CONFIG,
-            HOST,
-            LOGIN,
-            LOGIN_TEXT,
-            EARLIER_DAY,
-            AGO,
-            FORCE,
-            ALL,
-            WAIT,
-        ],
-        groups: &[NAMED],
-    },
-    Subcommand {
-        name: "resume",
-        about: "Let a login have more again, today and on each later day",
-        usage: Some("mailquota resume [OPTIONS] <LOGIN>"),
-        words: &[LOGIN_WORD],
-        options: &[
-            SERVERS,
-            ASKED_CONFIG,
-            HOST,
-            LOGIN,
-            LOGIN_TEXT,
-            EARLIER_DAY,
-            AGO,
-            MORE,
-        ],
-        groups: &[NAMED],
-    },
-    Subcommand {
-        name: "day",
-        about: "Print a day's number and, on a terminal, its date",
-        usage: None,
-        words: &[DAY_WORD],
-        options: &[CONFIG, AT, JSON],
-        groups: &[],
-    },
-    Subcommand {
-        name: "retire",
-        about: "Retire a host's earlier filters: what they reserved counts as sent",
-        usage: None,
-        words: &[],
-        options: &[SERVER, RETIRED_CONFIG, RETIRED_HOST, RETIRED_RUN],
-        groups: &[],
-    },
-    Subcommand {
-        name: "report",
-        about: "Print what logins used on a day",
-        usage: None,
-        words: &[LOGIN_WORD],
-        options: &[
-            SERVERS,
-            ASKED_CONFIG,
-            DAY,
-            AGO,
-            LOGIN,
-            LOGIN_TEXT,
-            TOP,
-            EACH,
-            REPORT_JSON,
-        ],
-        groups: &[],
-    },
-    Subcommand {
-        name: "limits",
-        about: "Print the limits that are set in the ledger in a file",
-        usage: None,
-        words: &[],
-        options: &[CONFIG, JSON],
-        groups: &[],
-    },
-    Subcommand {
-        name: "audit",
-        about: "Check the books of the ledger in a file",
-        usage: None,
-        words: &[],
-        options: &[CONFIG, JSON],
-        groups: &[],
-    },
-    Subcommand {
-        name: "forget",
-        about: "Make a new ledger file without the days before a day",
-        usage: None,
-        words: &[],
-        options: &[CONFIG, BEFORE, INTO],
-        groups: &[],
-    },
-    Subcommand {
-        name: "replay",
-        about: "Answer frames in hexadecimal from standard input over a new ledger",
-        usage: None,
-        words: &[],
-        options: &[DEFAULT, EAST, WEST, RULE, SQL],
-        groups: &[],
-    },
-];
+pub fn subcommands() -> [&'static Subcommand; 14]
+    ensures { map (λ s. shape_of_subcommand s.now) result ≡ subcommand_shapes }
+{
+    [
+        init(),
+        server(),
+        filter(),
+        status(),
+        limit(),
+        stop(),
+        resume(),
+        day(),
+        retire(),
+        report(),
+        limits(),
+        audit(),
+        forget(),
+        replay(),
+    ]
+}

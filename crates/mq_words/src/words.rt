@@ -1,12 +1,14 @@
 //! The words of the command line.
-ghost use Rattle.std.specs.Prelude.{IfOk};
+ghost use Rattle.std.specs.Prelude.{IfErr, IfOk, IfSome, map, string_bytes};
+ghost use Rattle.clap.specs.Words.{subcommand_rows_of};
 ghost use Rattle.mq_process.specs.Arguments.{IsArguments};
+ghost use Rattle.mq_words.specs.CommandLine.{AsksFor, HelpsAsked, IsMeantBy};
 
-use crate::fault::WordsFault;
+use crate::fault::{TextFault, WordsFault, fault_of, refusal, text_refusal};
+use crate::matching::{argument_matcher, ask_help, matches_of};
 use crate::meaning::arguments_of;
-use crate::subcommands::{CommandOption, Need, SUBCOMMANDS, Subcommand, Takes};
-use clap::error::ErrorKind;
-use clap::{Arg, ArgAction, ArgGroup, Command, value_parser};
+use crate::subcommands::{CommandOption, Need, Subcommand, Takes, subcommands};
+use clap::{Arg, ArgGroup, ArgMatches, Command, value_parser};
 use mq_process::Arguments;
 use std::alloc::{AllocError, Global};
 
@@ -16,25 +18,48 @@ pub fn read_arguments<'a>(
     words: &'a [String],
     version: &'a str,
 ) -> Result<Arguments<'a>, WordsFault>
-    ensures { IfOk result IsArguments }
+    ensures in_range { IfOk result IsArguments }
+    ensures asked { IfOk result (AsksFor (map string_bytes words.entry.now)) }
+    ensures helps { IfErr result (HelpsAsked (map string_bytes words.entry.now)) }
 {
     let mut program = program(alloc, version)?;
-    let matches = program.try_get_matches_from_mut(words)?;
+    match program.try_get_matches_from_mut(words) {
+        Ok(_) => asked(alloc, version, words),
+        Err(error) => Err(refusal(error, ask_help(alloc, version, words))),
+    }
+}
+
+/// What words ask for that the program takes.
+fn asked<'a>(
+    alloc: Global,
+    version: &'a str,
+    words: &'a [String],
+) -> Result<Arguments<'a>, WordsFault>
+    ensures in_range { IfOk result IsArguments }
+    ensures asked { IfOk result (AsksFor (map string_bytes words.entry.now)) }
+    ensures helps { IfErr result (HelpsAsked (map string_bytes words.entry.now)) }
+{
+    let matches = matches_of(alloc, version, words)?;
+    match asked_by(alloc, &matches) {
+        Ok(Some(given)) => Ok(given),
+        Ok(None) => Err(text_refusal(no_subcommand(alloc))),
+        Err(fault) => Err(text_refusal(fault)),
+    }
+}
+
+/// The fault of words that name no subcommand.
+fn no_subcommand(alloc: Global) -> TextFault {
+    fault_of(String::from_str(alloc, "error: a subcommand is required"))
+}
+
+/// What words ask for that were matched so, if they name a subcommand.
+fn asked_by<'a>(alloc: Global, matches: &ArgMatches<'a>) -> Result<Option<Arguments<'a>>, TextFault>
+    ensures in_range { IfOk result (λ given. IfSome given IsArguments) }
+    ensures meant { IfOk result (λ given. IfSome given (IsMeantBy (subcommand_rows_of matches.now))) }
+{
     match matches.subcommand() {
-        Some((name, found)) => match arguments_of(alloc, name, found)? {
-            Some(given) => Ok(given),
-            None => {
-                let message = format!(in alloc; "unrecognized subcommand '{name}'")?;
-                Err(WordsFault::Words(program.error(
-                    ErrorKind::InvalidSubcommand,
-                    message.as_str(),
-                )?))
-            }
-        },
-        None => Err(WordsFault::Words(program.error(
-            ErrorKind::MissingSubcommand,
-            "a subcommand is required",
-        )?)),
+        Some((name, found)) => arguments_of(alloc, name, found),
+        None => Ok(None),
     }
 }
 
@@ -45,7 +70,7 @@ fn program<'a>(alloc: Global, version: &'a str) -> Result<Command<'a>, AllocErro
         .version(version)
         .subcommand_required(true)
         .disable_help_subcommand(true);
-    for subcommand in &SUBCOMMANDS {
+    for subcommand in subcommands().as_slice() {
         program = program.subcommand(command_of(alloc, subcommand)?)?;
     }
     Ok(program)
@@ -71,7 +96,7 @@ fn command_of<'a>(alloc: Global, subcommand: &Subcommand) -> Result<Command<'a>,
 
 /// An option as clap reads it, or a word without a name.
 fn argument_of<'a>(alloc: Global, option: &CommandOption) -> Result<Arg<'a>, AllocError> {
-    let argument = Arg::new(alloc, option.name).help(option.help);
+    let argument = argument_matcher(alloc, option).help(option.help);
     let argument = match option.need {
         Need::Optional => argument,
         Need::Required => argument.required(true),
@@ -80,9 +105,8 @@ fn argument_of<'a>(alloc: Global, option: &CommandOption) -> Result<Arg<'a>, All
         Need::With(other) => argument.requires_arg(other)?,
     };
     let argument = match option.takes {
-        Takes::Nothing => return Ok(argument.action(ArgAction::SetTrue)),
-        Takes::Text | Takes::Day(_) | Takes::Limit => argument,
-        Takes::Texts => argument.action(ArgAction::Append),
+        Takes::Nothing => return Ok(argument),
+        Takes::Text | Takes::Texts | Takes::Day(_) | Takes::Limit => argument,
         Takes::Number(range) => argument.value_parser(value_parser!(u64).range(
             i64::from(range.least)..=i64::from(range.most),
         )),
@@ -90,11 +114,7 @@ fn argument_of<'a>(alloc: Global, option: &CommandOption) -> Result<Arg<'a>, All
             bound_of(range.least)..=bound_of(range.most),
         )),
     };
-    let argument = argument.value_name(option.value);
-    match option.default {
-        Some(text) => Ok(argument.default_value(text)),
-        None => Ok(argument),
-    }
+    Ok(argument.value_name(option.value))
 }
 
 /// A bound as clap takes it, which is a number with a sign.

@@ -1,0 +1,2 @@
+mod CommandLineSteps
+mod MatchSteps
