@@ -34,8 +34,10 @@ defaults_of (Some text) = text.now ∷ []
 
 -- a word without a name
 abbrev pub rule_of_word : CommandOption → Rule
-rule_of_word option = record (new_rule option.name.now) { action = clap_action option.takes;
-    defaults = defaults_of option.default }
+rule_of_word option = record (new_rule option.name.now) {
+  action = clap_action option.takes;
+  defaults = defaults_of option.default;
+}
 
 -- an option
 abbrev pub rule_of_option : CommandOption → Rule
@@ -153,11 +155,22 @@ subcommand_shapes =
 
 -- a program with these subcommands
 abbrev pub program_with : List Shape → App
-program_with [] = record { top = record (new_shape (codes "mailquota")) { has_version = true;
-    disable_help_subcommand = true }; subs = [] }
+program_with [] = record {
+  top = record (new_shape (codes "mailquota")) {
+    has_version = true;
+    disable_help_subcommand = true;
+  };
+  subs = [];
+}
 program_with (s ∷ ss) =
-    record { top = record (new_shape (codes "mailquota")) { has_version = true;
-    disable_help_subcommand = true; is_leaf = false }; subs = s ∷ ss }
+    record {
+      top = record (new_shape (codes "mailquota")) {
+        has_version = true;
+        disable_help_subcommand = true;
+        is_leaf = false;
+      };
+      subs = s ∷ ss;
+    }
 
 -- the program
 abbrev pub command_line : App
