@@ -2,6 +2,7 @@
 
 use crate::subcommand::run_subcommand;
 use crate::version::VERSION;
+use mq_process::{Dial, WallClock};
 use mq_program::{Databases, ProgramFault, Terminals, end_program, or_memory};
 use mq_words::{PrintFault, print_fault, read_arguments};
 use sqlite::Start;
@@ -15,10 +16,18 @@ use std::rt::{Clock, Env};
 ///
 /// `start` stands for what the file of a server's ledger and its log hold before the call, and
 /// `new` for what a file that is just made and its log hold.
-pub fn run<R, E: Write, S: Start, N: Start>(rt: &R, start: S, new: N, errors: &mut E) -> u8
+pub fn run<R, D: Dial, S: Start, N: Start, W: Write, E: Write>(
+    rt: &R,
+    dial: &D,
+    start: S,
+    new: N,
+    output: &mut W,
+    errors: &mut E,
+) -> u8
 where
     R: Databases
         + Clock
+        + WallClock
         + Env
         + Input
         + Print
@@ -27,7 +36,7 @@ where
         + Net<Listener = TcpListener, Stream = TcpStream>,
 {
     match words_of(rt) {
-        Ok(words) => run_words(rt, words.as_slice(), start, new, errors),
+        Ok(words) => run_words(rt, dial, words.as_slice(), start, new, output, errors),
         Err(fault) => end_program(Err(fault), errors),
     }
 }
@@ -42,16 +51,19 @@ fn words_of<R: Env + AllocGlobal>(rt: &R) -> Result<Vec<String>, ProgramFault> {
 }
 
 /// Runs the program by these words, the program's name first, and gives its exit status.
-fn run_words<R, E: Write, S: Start, N: Start>(
+fn run_words<R, D: Dial, S: Start, N: Start, W: Write, E: Write>(
     rt: &R,
+    dial: &D,
     words: &[String],
     start: S,
     new: N,
+    output: &mut W,
     errors: &mut E,
 ) -> u8
 where
     R: Databases
         + Clock
+        + WallClock
         + Input
         + Print
         + Eprint
@@ -59,7 +71,7 @@ where
         + Net<Listener = TcpListener, Stream = TcpStream>,
 {
     match read_arguments(rt.alloc(), words, VERSION) {
-        Ok(given) => run_subcommand(rt, given, start, new, errors),
+        Ok(given) => run_subcommand(rt, dial, given, start, new, output, errors),
         Err(fault) => match print_fault(rt, fault) {
             Ok(status) => status,
             Err(PrintFault::Memory) => end_program(Err(ProgramFault::Memory), errors),
