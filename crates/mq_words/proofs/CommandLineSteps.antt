@@ -1,7 +1,10 @@
 -- Commands as clap reads them, one rule after the other.
-use Rattle.std.proofs.Common.{◌≡◌, ◌<◌, ◌+◌, ◌++◌, ◌∷◌, [], ℕ, List, length, map, take, true, false, refl, ap, sym, ◌∙◌, get_or, append_assoc}
+use Rattle.std.proofs.Common.{◌≡◌, ◌<◌, ◌+◌, ◌++◌, ◌∷◌, [], ℕ, List, length, map, take, true, false, refl, ap, sym, subst, ◌∙◌, get_or, append_assoc, Result, Ok, Err}
+use Rattle.std.specs.Prelude.{IfErr}
 use Rattle.std.proofs.lemmas.List.{map_more}
-use Rattle.clap.specs.Words.{AddsArg, AddsSubcommand, App, Rule, Shape, app_of, is_simple, rule_of, shape_of, with_rule, with_subcommand}
+use Rattle.clap.specs.Words.{AddsArg, AddsSubcommand, App, FailsBy, HasKind, Rule, Shape, app_of, fault_of, is_simple, is_simple_and_free, rule_of, shape_of, with_rule, with_subcommand}
+use Rattle.clap.specs.declared.error.Error.{Error}
+use Rattle.clap.specs.declared.parser.matches.ArgMatches.{ArgMatches}
 use Rattle.clap.specs.declared.builder.arg.Arg.{Arg}
 use Rattle.clap.specs.declared.builder.command.Command.{Command}
 use Rattle.clap.specs.declared.builder.command.Command.TheViews.{out-Command}
@@ -16,6 +19,17 @@ use Rattle.mq_words.specs.declared.subcommands.Subcommand.{Subcommand}
 -- the program is one of which clap says the matches
 pub command_line_is_simple : is_simple command_line ≡ true
 command_line_is_simple = refl
+
+-- and of which it says why words are refused
+command_line_is_free : is_simple_and_free command_line ≡ true
+command_line_is_free = refl
+
+pub kinds_by : (app : App) (words : List (List ℕ)) (matched : Result ArgMatches Error) → app ≡ command_line
+    → (is_simple_and_free app ≡ true → FailsBy (fault_of app words) matched) → IfErr matched (HasKind (fault_of command_line words))
+kinds_by app words (Ok matches) is fails = tt
+kinds_by app words (Err error) is fails =
+    subst (λ a. (is_simple_and_free a ≡ true → FailsBy {T = ArgMatches} (fault_of a words) (Err error)) → HasKind (fault_of command_line words) error) (sym is)
+    (λ of_it. of_it command_line_is_free) fails
 
 -- one rule more, of the next option
 rules_more : (f : CommandOption → Rule) (first : List Rule) (xs : List CommandOption) (i : ℕ) (d : CommandOption) (r : Rule) → i < length xs

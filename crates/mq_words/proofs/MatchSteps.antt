@@ -27,7 +27,7 @@ meant_by rows name found (Ok None) is means = means
 meant_by rows name found (Err fault) is means = means
 
 -- what the matches of these words mean is what they ask for
-pub asked_for : {F : Type 0} (words : List Text) (matches : ArgMatches) (read : Result (Option Arguments) F) → HasMatchesOf command_line words matches
-    → IfOk read (λ given. IfSome given (IsMeantBy (subcommand_rows_of matches))) → IfOk read (λ given. IfSome given (AsksFor words))
-asked_for words matches read has means =
-    subst (λ rows. IfOk read (λ given. IfSome given (IsMeantBy rows))) (has command_line_is_simple).1 means
+pub asked_for : (words : List Text) (matches : ArgMatches) (read : Option Arguments) (given : Arguments) → HasMatchesOf command_line words matches
+    → read ≡ Some given → IfSome read (IsMeantBy (subcommand_rows_of matches)) → AsksFor words given
+asked_for words matches read given has is means =
+    subst (λ rows. IsMeantBy rows given) (has command_line_is_simple).1 (subst (λ r. IfSome r (IsMeantBy (subcommand_rows_of matches))) is means)

@@ -1,13 +1,17 @@
 -- The command line: which words name what, as clap matches them, and what they ask for.
-use Rattle.std.specs.Prelude.{◌≡◌, ◌++◌, ℕ, List, [], ◌∷◌, map, codes, Option, None, Some, true, false}
+use Rattle.std.specs.Prelude.{◌≡◌, ◌⊎◌, ◌++◌, ⊤, ℕ, List, [], ◌∷◌, map, codes, Option, None, Some, true, false}
 use Rattle.std.specs.Borrow.{Bor}
 use Rattle.clap.specs.Simple.{new_shape}
-use Rattle.clap.specs.Words.{App, Row, Rule, Shape, new_rule, rows_of, subcommand_of}
+use Rattle.clap.specs.Words.{App, IsAmong, Row, Rule, Shape, fault_of, kind_of, new_rule, rows_of, subcommand_of}
 use Rattle.clap.specs.declared.builder.action.ArgAction.{ArgAction}
 use Rattle.clap.specs.declared.builder.action.ArgAction.TheVariants.{Append, SetTrue}
+use Rattle.clap.specs.declared.error.Error.{Error}
+use Rattle.clap.specs.declared.error.kind.ErrorKind.TheVariants.{DisplayHelp, DisplayVersion}
 use Rattle.clap.specs.declared.parser.matches.Found.{Found}
 use Rattle.mq_process.specs.declared.arguments.Arguments.{Arguments}
 use Rattle.mq_words.specs.Meaning.{Means}
+use Rattle.mq_words.specs.declared.fault.WordsFault.{WordsFault}
+use Rattle.mq_words.specs.declared.fault.WordsFault.TheVariants.{Words}
 use Rattle.mq_words.specs.declared.subcommands.CommandOption.{CommandOption}
 use Rattle.mq_words.specs.declared.subcommands.Subcommand.{Subcommand}
 use Rattle.mq_words.specs.declared.subcommands.Takes.{Takes}
@@ -133,8 +137,9 @@ subcommand_shapes =
 
 -- a program with these subcommands
 abbrev pub program_with : List Shape → App
-program_with [] = record { top = record (new_shape (codes "mailquota")) { disable_help_subcommand = true }; subs = [] }
-program_with (s ∷ ss) = record { top = record (new_shape (codes "mailquota")) { disable_help_subcommand = true; is_leaf = false }; subs = s ∷ ss }
+program_with [] = record { top = record (new_shape (codes "mailquota")) { has_version = true; disable_help_subcommand = true }; subs = [] }
+program_with (s ∷ ss) =
+    record { top = record (new_shape (codes "mailquota")) { has_version = true; disable_help_subcommand = true; is_leaf = false }; subs = s ∷ ss }
 
 -- the program
 abbrev pub command_line : App
@@ -148,3 +153,16 @@ IsMeantBy rows given = (name : List ℕ) × (found : Found) × (rows ≡ Some (n
 -- words and defaults that clap gives to its options.
 abbrev pub AsksFor : List (List ℕ) → Arguments → Type 0
 AsksFor words given = IsMeantBy (subcommand_of command_line words) given
+
+-- these words ask for help or for the version, which clap gives in place of a subcommand
+abbrev pub AsksHelp : List (List ℕ) → Type 0
+AsksHelp words = IsAmong DisplayHelp (fault_of command_line words) ⊎ IsAmong DisplayVersion (fault_of command_line words)
+
+-- the error is help or the version
+abbrev pub IsHelp : Error → Type 0
+IsHelp error = (kind_of error ≡ DisplayHelp) ⊎ (kind_of error ≡ DisplayVersion)
+
+-- help is given only to words that ask for it
+abbrev pub HelpsAsked : List (List ℕ) → WordsFault → Type 0
+HelpsAsked words (Words error) = IsHelp error → AsksHelp words
+HelpsAsked words _ = ⊤

@@ -4,7 +4,7 @@ ghost use Rattle.mq_request.specs.Range.{IsDay};
 ghost use Rattle.mq_process.specs.Arguments.{IsDayUpTo};
 ghost use Rattle.mq_words.specs.Days.{WritesDay, WritesNumber};
 
-use crate::fault::{WordsFault, fault_of};
+use crate::fault::{TextFault, fault_of};
 use crate::subcommands::Range;
 use mq_dates::day_of_text;
 use mq_process::DayArgument;
@@ -28,7 +28,7 @@ pub fn read_day(
     option: &str,
     text: &str,
     range: Range<u32>,
-) -> Result<DayArgument, WordsFault>
+) -> Result<DayArgument, TextFault>
     requires { range.least ≡ 0 }
     ensures in_range { IfOk result (IsDayUpTo range.most) }
     ensures written { IfOk result (WritesDay range.most text.now) }
@@ -46,7 +46,7 @@ pub fn read_day(
 }
 
 /// The fault of a day that isn't one of the option's.
-fn out_of_range(alloc: Global, option: &str, number: u32, range: Range<u32>) -> WordsFault {
+fn out_of_range(alloc: Global, option: &str, number: u32, range: Range<u32>) -> TextFault {
     let Range { least, most } = range;
     fault_of(format!(in alloc;
         "error: invalid value '{number}' for '{option}': {number} is not in {least}..={most}"
@@ -54,7 +54,7 @@ fn out_of_range(alloc: Global, option: &str, number: u32, range: Range<u32>) -> 
 }
 
 /// The fault of a text that names no day.
-fn no_day(alloc: Global, option: &str, text: &str) -> WordsFault {
+fn no_day(alloc: Global, option: &str, text: &str) -> TextFault {
     let shown = EscapedText(text.as_bytes());
     fault_of(format!(in alloc;
         "error: invalid value '{shown}' for '{option}': no day number, no date as 2026-11-30, and none of yesterday, today and tomorrow"

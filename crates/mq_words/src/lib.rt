@@ -9,8 +9,8 @@
 //!
 //! It stands on `mq_process`, for the arguments as types, `mq_request`, and `mq_dates`, for days as
 //! people write them, and is the one crate that gives options to `clap`; it doesn't know what a
-//! subcommand does. Begin with `subcommands.rt`, the options as a table, and `meaning.rt`, what they
-//! ask for; `mailquota(8)` has them in words.
+//! subcommand does. Begin with `subcommands.rt`, the options as a table, `matching.rt`, which words
+//! go to which of them, and `meaning.rt`, what they ask for; `mailquota(8)` has them in words.
 #![tactic(auto)]
 
 mod days;

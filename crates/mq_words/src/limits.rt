@@ -3,7 +3,7 @@ ghost use Rattle.std.specs.Prelude.{IfOk};
 ghost use Rattle.mq_process.specs.Arguments.{IsLimitArgument};
 ghost use Rattle.mq_words.specs.Limits.{WritesLimit};
 
-use crate::fault::{WordsFault, fault_of};
+use crate::fault::{TextFault, fault_of};
 use crate::subcommands::{AMOUNTS, Range};
 use mq_process::LimitArgument;
 use mq_request::EscapedText;
@@ -11,7 +11,7 @@ use std::alloc::Global;
 
 /// The limit that a text names: `default`, or a number of recipients a day. `option` is how the
 /// fault of another text names it.
-pub fn read_limit(alloc: Global, option: &str, text: &str) -> Result<LimitArgument, WordsFault>
+pub fn read_limit(alloc: Global, option: &str, text: &str) -> Result<LimitArgument, TextFault>
     ensures in_range { IfOk result IsLimitArgument }
     ensures written { IfOk result (WritesLimit text.now) }
 {
@@ -26,7 +26,7 @@ pub fn read_limit(alloc: Global, option: &str, text: &str) -> Result<LimitArgume
 }
 
 /// The fault of a number that is no limit's.
-fn out_of_range(alloc: Global, option: &str, number: u32) -> WordsFault {
+fn out_of_range(alloc: Global, option: &str, number: u32) -> TextFault {
     let Range { least, most } = AMOUNTS;
     fault_of(format!(in alloc;
         "error: invalid value '{number}' for '{option}': {number} is not in {least}..={most}"
@@ -34,7 +34,7 @@ fn out_of_range(alloc: Global, option: &str, number: u32) -> WordsFault {
 }
 
 /// The fault of a text that names no limit.
-fn no_limit(alloc: Global, option: &str, text: &str) -> WordsFault {
+fn no_limit(alloc: Global, option: &str, text: &str) -> TextFault {
     let shown = EscapedText(text.as_bytes());
     fault_of(format!(in alloc;
         "error: invalid value '{shown}' for '{option}': no number of recipients, and not default"

@@ -2,10 +2,11 @@
 //!
 //! clap says which words go to which option of a command none of whose options depend on others,
 //! so words that the whole command took are matched by one without these rules.
-ghost use Rattle.std.specs.Prelude.{◌≡◌, IfOk, IfSome, Some, false, map, string_bytes};
-ghost use Rattle.clap.specs.Words.{HasMatchesOf, app_of, rows_of, rule_of, shape_of};
+ghost use Rattle.std.specs.Prelude.{◌≡◌, IfErr, IfOk, Some, false, map, string_bytes, true};
+ghost use Rattle.clap.specs.Words.{HasKind, HasMatchesOf, app_of, fault_of, rule_of};
+ghost use Rattle.clap.specs.Words.{shape_of};
 ghost use Rattle.clap.specs.declared.builder.command.Command.TheViews.{out-Command};
-ghost use Rattle.mq_words.specs.CommandLine.{command_line, program_with, rule_of_word};
+ghost use Rattle.mq_words.specs.CommandLine.{AsksHelp, command_line, program_with, rule_of_word};
 ghost use Rattle.mq_words.specs.CommandLine.{shape_of_subcommand};
 
 use crate::subcommands::{CommandOption, Subcommand, Takes, subcommands};
@@ -13,25 +14,47 @@ use clap::{Arg, ArgAction, ArgMatches, Command, Error};
 use std::alloc::{AllocError, Global};
 
 /// What the words of a command line, the program's name first, are matched to.
-pub fn matches_of<'a>(alloc: Global, words: &'a [String]) -> Result<ArgMatches<'a>, Error>
-    ensures { IfOk result (HasMatchesOf command_line (map string_bytes words.entry.now)) }
+pub fn matches_of<'a>(
+    alloc: Global,
+    version: &'a str,
+    words: &'a [String],
+) -> Result<ArgMatches<'a>, Error>
+    ensures matches { IfOk result (HasMatchesOf command_line (map string_bytes words.entry.now)) }
+    ensures kinds { IfErr result (HasKind
+        (fault_of command_line (map string_bytes words.entry.now))) }
 {
-    matcher(alloc)?.try_get_matches_from(words)
+    matcher(alloc, version)?.try_get_matches_from(words)
+}
+
+/// Whether words ask for help or the version.
+pub fn ask_help(alloc: Global, version: &str, words: &[String]) -> bool
+    ensures { result ≡ true → AsksHelp (map string_bytes words.now) }
+{
+    match matches_of(alloc, version, words) {
+        Ok(_) => false,
+        Err(error) => !error.use_stderr(),
+    }
 }
 
 /// The program with its subcommands.
-fn matcher<'a>(alloc: Global) -> Result<Command<'a>, AllocError>
+fn matcher<'a>(alloc: Global, version: &'a str) -> Result<Command<'a>, AllocError>
     ensures { IfOk result (λ program. app_of program ≡ command_line) }
 {
-    matcher_with(alloc, subcommands().as_slice())
+    matcher_with(alloc, version, subcommands().as_slice())
 }
 
 /// The program with these subcommands.
-fn matcher_with<'a>(alloc: Global, rows: &[&Subcommand]) -> Result<Command<'a>, AllocError>
+fn matcher_with<'a>(
+    alloc: Global,
+    version: &'a str,
+    rows: &[&Subcommand],
+) -> Result<Command<'a>, AllocError>
     ensures { IfOk result (λ program. app_of program
         ≡ program_with (map (λ s. shape_of_subcommand s.now) rows.now)) }
 {
-    let mut program = Command::new(alloc, "mailquota").disable_help_subcommand(true);
+    let mut program = Command::new(alloc, "mailquota")
+        .version(version)
+        .disable_help_subcommand(true);
     for row in rows {
         program = program.subcommand(subcommand_matcher(alloc, row)?)?;
     }

@@ -17,7 +17,7 @@ ghost use Rattle.mq_words.specs.Meaning.{MeansRetire, MeansServer, MeansStatus, 
 ghost use Rattle.mq_words.specs.Meaning.{texts_of};
 
 use crate::days::read_day;
-use crate::fault::WordsFault;
+use crate::fault::TextFault;
 use crate::limits::read_limit;
 use crate::subcommands::{
     AMOUNTS, CROWDS, DAYS, EARLIER_DAYS, MINUTES, MOMENTS, RUNS, Range, TOPS,
@@ -37,7 +37,7 @@ pub fn arguments_of<'a>(
     alloc: Global,
     name: &str,
     found: &ArgMatches<'a>,
-) -> Result<Option<Arguments<'a>>, WordsFault>
+) -> Result<Option<Arguments<'a>>, TextFault>
     ensures in_range { IfOk result (λ given. IfSome given IsArguments) }
     ensures meant { IfOk result (λ given. IfSome given (Means name.now (found_of found.now))) }
     ensures unknown { IfOk result (λ given. given ≡ None → IsUnknown name.now) }
@@ -124,7 +124,7 @@ fn connections_of(found: &ArgMatches<'_>) -> ConnectionsArgument
 }
 
 /// The limit: the word, or the option.
-fn cap_of(alloc: Global, found: &ArgMatches<'_>) -> Result<LimitArgument, WordsFault>
+fn cap_of(alloc: Global, found: &ArgMatches<'_>) -> Result<LimitArgument, TextFault>
     ensures in_range { IfOk result IsLimitArgument }
     ensures meant { IfOk result (HasCap (found_of found.now)) }
 {
@@ -152,7 +152,7 @@ fn day_of(
     name: &str,
     shown: &str,
     range: Range<u32>,
-) -> Result<DayArgument, WordsFault>
+) -> Result<DayArgument, TextFault>
     requires { range.least ≡ 0 }
     ensures in_range { IfOk result (IsDayUpTo range.most) }
     ensures meant { IfOk result (HasDay (found_of found.now) name.now range.most) }
@@ -175,7 +175,7 @@ fn day_ago(found: &ArgMatches<'_>) -> DayArgument
 }
 
 /// The day that the word of `day` names, if it is given.
-fn day_word_of(alloc: Global, found: &ArgMatches<'_>) -> Result<Option<DayArgument>, WordsFault>
+fn day_word_of(alloc: Global, found: &ArgMatches<'_>) -> Result<Option<DayArgument>, TextFault>
     ensures in_range { IfOk result (λ day. IfSome day (IsDayUpTo 376200)) }
     ensures meant { IfOk result (HasDayWord (found_of found.now)) }
 {
@@ -253,7 +253,7 @@ fn status_of<'a>(alloc: Global, found: &ArgMatches<'a>) -> Result<Arguments<'a>,
     })
 }
 
-fn limit_of<'a>(alloc: Global, found: &ArgMatches<'a>) -> Result<LimitArguments<'a>, WordsFault>
+fn limit_of<'a>(alloc: Global, found: &ArgMatches<'a>) -> Result<LimitArguments<'a>, TextFault>
     ensures in_range { IfOk result IsLimitArguments }
     ensures meant { IfOk result (MeansLimit (found_of found.now)) }
 {
@@ -268,7 +268,7 @@ fn limit_of<'a>(alloc: Global, found: &ArgMatches<'a>) -> Result<LimitArguments<
     })
 }
 
-fn stop_of<'a>(alloc: Global, found: &ArgMatches<'a>) -> Result<StopArguments<'a>, WordsFault>
+fn stop_of<'a>(alloc: Global, found: &ArgMatches<'a>) -> Result<StopArguments<'a>, TextFault>
     ensures in_range { IfOk result IsStopArguments }
     ensures meant { IfOk result (MeansStop (found_of found.now)) }
 {
@@ -284,7 +284,7 @@ fn stop_of<'a>(alloc: Global, found: &ArgMatches<'a>) -> Result<StopArguments<'a
     })
 }
 
-fn resume_of<'a>(alloc: Global, found: &ArgMatches<'a>) -> Result<ResumeArguments<'a>, WordsFault>
+fn resume_of<'a>(alloc: Global, found: &ArgMatches<'a>) -> Result<ResumeArguments<'a>, TextFault>
     ensures in_range { IfOk result IsResumeArguments }
     ensures meant { IfOk result (MeansResume (found_of found.now)) }
 {
@@ -298,7 +298,7 @@ fn resume_of<'a>(alloc: Global, found: &ArgMatches<'a>) -> Result<ResumeArgument
     })
 }
 
-fn asked_day_of<'a>(alloc: Global, found: &ArgMatches<'a>) -> Result<DayArguments<'a>, WordsFault>
+fn asked_day_of<'a>(alloc: Global, found: &ArgMatches<'a>) -> Result<DayArguments<'a>, TextFault>
     ensures in_range { IfOk result IsDayArguments }
     ensures meant { IfOk result (MeansDay (found_of found.now)) }
 {
@@ -322,7 +322,7 @@ fn retire_of<'a>(found: &ArgMatches<'a>) -> RetireArguments<'a>
     }
 }
 
-fn report_of<'a>(alloc: Global, found: &ArgMatches<'a>) -> Result<ReportArguments<'a>, WordsFault>
+fn report_of<'a>(alloc: Global, found: &ArgMatches<'a>) -> Result<ReportArguments<'a>, TextFault>
     ensures in_range { IfOk result IsReportArguments }
     ensures meant { IfOk result (MeansReport (found_of found.now)) }
 {
@@ -355,7 +355,7 @@ fn audit_of<'a>(found: &ArgMatches<'a>) -> AuditArguments<'a>
     }
 }
 
-fn forget_of<'a>(alloc: Global, found: &ArgMatches<'a>) -> Result<ForgetWords<'a>, WordsFault>
+fn forget_of<'a>(alloc: Global, found: &ArgMatches<'a>) -> Result<ForgetWords<'a>, TextFault>
     ensures in_range { IfOk result (λ given. IsDayUpTo 376200 given.before) }
     ensures meant { IfOk result (MeansForget (found_of found.now)) }
 {

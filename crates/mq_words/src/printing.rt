@@ -1,7 +1,8 @@
 //! What is printed where the words ask for nothing that can be done.
-ghost use Rattle.std.specs.Prelude.{◌≡◌, ◌≢◌, ◌⊎◌, Ok, Err, MatchResult};
+ghost use Rattle.std.specs.Prelude.{◌≡◌, ◌≢◌, Ok, Err, MatchResult};
 ghost use Rattle.clap.specs.Values.{kind_of};
 ghost use Rattle.clap.specs.declared.error.kind.ErrorKind.TheVariants.{DisplayHelp, DisplayVersion};
+ghost use Rattle.mq_words.specs.CommandLine.{IsHelp};
 ghost use Rattle.mq_words.specs.Printing.{EndsPrinted};
 
 use crate::fault::WordsFault;
@@ -33,8 +34,9 @@ pub fn print_fault<R: Print + Eprint>(rt: &R, fault: WordsFault) -> Result<u8, P
 fn print_error<R: Print + Eprint>(rt: &R, error: &Error) -> Result<u8, PrintFault>
     ensures mistake { kind_of error.now ≢ DisplayHelp → kind_of error.now ≢ DisplayVersion
         → result ≡ Ok 2 }
-    ensures help { (kind_of error.now ≡ DisplayHelp) ⊎ (kind_of error.now ≡ DisplayVersion)
+    ensures help { IsHelp error.now
         → MatchResult result (λ status. status ≡ 0) (λ why. why ≡ PrintFault.Write) }
+    ensures zero { result ≡ Ok 0 → IsHelp error.now }
 {
     let printed = error.print(rt);
     if error.use_stderr() {

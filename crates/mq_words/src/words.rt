@@ -1,14 +1,13 @@
 //! The words of the command line.
-ghost use Rattle.std.specs.Prelude.{IfOk, IfSome, map, string_bytes};
+ghost use Rattle.std.specs.Prelude.{IfErr, IfOk, IfSome, map, string_bytes};
 ghost use Rattle.clap.specs.Words.{subcommand_rows_of};
 ghost use Rattle.mq_process.specs.Arguments.{IsArguments};
-ghost use Rattle.mq_words.specs.CommandLine.{AsksFor, IsMeantBy};
+ghost use Rattle.mq_words.specs.CommandLine.{AsksFor, HelpsAsked, IsMeantBy};
 
-use crate::fault::WordsFault;
-use crate::matching::{argument_matcher, matches_of};
+use crate::fault::{TextFault, WordsFault, fault_of, refusal, text_refusal};
+use crate::matching::{argument_matcher, ask_help, matches_of};
 use crate::meaning::arguments_of;
 use crate::subcommands::{CommandOption, Need, Subcommand, Takes, subcommands};
-use clap::error::ErrorKind;
 use clap::{Arg, ArgGroup, ArgMatches, Command, value_parser};
 use mq_process::Arguments;
 use std::alloc::{AllocError, Global};
@@ -21,38 +20,40 @@ pub fn read_arguments<'a>(
 ) -> Result<Arguments<'a>, WordsFault>
     ensures in_range { IfOk result IsArguments }
     ensures asked { IfOk result (AsksFor (map string_bytes words.entry.now)) }
+    ensures helps { IfErr result (HelpsAsked (map string_bytes words.entry.now)) }
 {
     let mut program = program(alloc, version)?;
-    program.try_get_matches_from_mut(words)?;
-    match asked(alloc, words)? {
-        Some(given) => Ok(given),
-        None => Err(no_subcommand(&mut program)),
+    match program.try_get_matches_from_mut(words) {
+        Ok(_) => asked(alloc, version, words),
+        Err(error) => Err(refusal(error, ask_help(alloc, version, words))),
+    }
+}
+
+/// What words ask for that the program takes.
+fn asked<'a>(
+    alloc: Global,
+    version: &'a str,
+    words: &'a [String],
+) -> Result<Arguments<'a>, WordsFault>
+    ensures in_range { IfOk result IsArguments }
+    ensures asked { IfOk result (AsksFor (map string_bytes words.entry.now)) }
+    ensures helps { IfErr result (HelpsAsked (map string_bytes words.entry.now)) }
+{
+    let matches = matches_of(alloc, version, words)?;
+    match asked_by(alloc, &matches) {
+        Ok(Some(given)) => Ok(given),
+        Ok(None) => Err(text_refusal(no_subcommand(alloc))),
+        Err(fault) => Err(text_refusal(fault)),
     }
 }
 
 /// The fault of words that name no subcommand.
-fn no_subcommand(program: &mut Command<'_>) -> WordsFault {
-    match program.error(ErrorKind::MissingSubcommand, "a subcommand is required") {
-        Ok(error) => WordsFault::Words(error),
-        Err(_) => WordsFault::Memory,
-    }
-}
-
-/// What words ask for that the program takes, if they name a subcommand.
-fn asked<'a>(alloc: Global, words: &'a [String]) -> Result<Option<Arguments<'a>>, WordsFault>
-    ensures in_range { IfOk result (λ given. IfSome given IsArguments) }
-    ensures asked { IfOk result (λ given. IfSome given
-        (AsksFor (map string_bytes words.entry.now))) }
-{
-    let matches = matches_of(alloc, words)?;
-    asked_by(alloc, &matches)
+fn no_subcommand(alloc: Global) -> TextFault {
+    fault_of(String::from_str(alloc, "error: a subcommand is required"))
 }
 
 /// What words ask for that were matched so, if they name a subcommand.
-fn asked_by<'a>(
-    alloc: Global,
-    matches: &ArgMatches<'a>,
-) -> Result<Option<Arguments<'a>>, WordsFault>
+fn asked_by<'a>(alloc: Global, matches: &ArgMatches<'a>) -> Result<Option<Arguments<'a>>, TextFault>
     ensures in_range { IfOk result (λ given. IfSome given IsArguments) }
     ensures meant { IfOk result (λ given. IfSome given (IsMeantBy (subcommand_rows_of matches.now))) }
 {
