@@ -10,38 +10,38 @@ use Rattle.mq_program.specs.declared.fault.ProgramFault.TheVariants as m
 
 -- no fault ends with 0
 pub process_fails : (fault : ProcessFault) → process_status fault ≡ 0 → ⊥
-process_fails p.Host is = is in cc
-process_fails p.Login is = is in cc
-process_fails p.Address is = is in cc
-process_fails p.NoServer is = is in cc
-process_fails p.NoDay is = is in cc
-process_fails p.NoHost is = is in cc
-process_fails p.Memory is = is in cc
-process_fails (p.File f) is = is in cc
-process_fails (p.Settings f) is = is in cc
-process_fails (p.Servers f) is = is in cc
-process_fails p.EveryAddress is = is in cc
-process_fails p.ManyServers is = is in cc
-process_fails p.NoRun is = is in cc
-process_fails p.NoMoment is = is in cc
-process_fails (p.NotToday day today) is = is in cc
+process_fails p.Host is = let e = is in cc
+process_fails p.Login is = let e = is in cc
+process_fails p.Address is = let e = is in cc
+process_fails p.NoServer is = let e = is in cc
+process_fails p.NoDay is = let e = is in cc
+process_fails p.NoHost is = let e = is in cc
+process_fails p.Memory is = let e = is in cc
+process_fails (p.File f) is = let e = is in cc
+process_fails (p.Settings f) is = let e = is in cc
+process_fails (p.Servers f) is = let e = is in cc
+process_fails p.EveryAddress is = let e = is in cc
+process_fails p.ManyServers is = let e = is in cc
+process_fails p.NoRun is = let e = is in cc
+process_fails p.NoMoment is = let e = is in cc
+process_fails (p.NotToday day today) is = let e = is in cc
 
 pub program_fails : (fault : ProgramFault) → fault_status fault ≡ 0 → ⊥
-program_fails m.Words is = is in cc
-program_fails m.Rule is = is in cc
-program_fails m.Read is = is in cc
-program_fails m.Write is = is in cc
-program_fails m.Memory is = is in cc
+program_fails m.Words is = let e = is in cc
+program_fails m.Rule is = let e = is in cc
+program_fails m.Read is = let e = is in cc
+program_fails m.Write is = let e = is in cc
+program_fails m.Memory is = let e = is in cc
 program_fails (m.Process f) is = process_fails f is
-program_fails m.Store is = is in cc
-program_fails (m.Open f) is = is in cc
-program_fails m.MemoryStore is = is in cc
-program_fails m.Exists is = is in cc
-program_fails m.Later is = is in cc
-program_fails (m.Audit f) is = is in cc
-program_fails m.Listen is = is in cc
-program_fails m.Permits is = is in cc
-program_fails (m.Serve f) is = is in cc
+program_fails m.Store is = let e = is in cc
+program_fails (m.Open f) is = let e = is in cc
+program_fails m.MemoryStore is = let e = is in cc
+program_fails m.Exists is = let e = is in cc
+program_fails m.Later is = let e = is in cc
+program_fails (m.Audit f) is = let e = is in cc
+program_fails m.Listen is = let e = is in cc
+program_fails m.Permits is = let e = is in cc
+program_fails (m.Serve f) is = let e = is in cc
 
 -- so what holds of its status where it ended holds of 0
 pub process_done : (P : ℕ → Type 0) (ended : Result ℕ ProcessFault) (status : ℕ) → MatchResult ended (λ s. status ≡ s) (λ f. status ≡ process_status f) → IfOk ended P

@@ -11,6 +11,7 @@ ghost use Rattle.mq_program.specs.Forgetting.{PrintsKept};
 ghost use Rattle.mq_program.specs.Listing.{PrintsSome};
 ghost use Rattle.mq_program.specs.Making.{PrintsMade};
 ghost use Rattle.mq_program.specs.Refusals.{ReplayRefuses};
+ghost use Rattle.mailquota.specs.Done.{told_of_file};
 
 use crate::version::VERSION;
 use mq_process::{
@@ -33,14 +34,7 @@ pub fn end_filtering<
     S: Source,
     W: Sink,
     E: Write,
->(
-    rt: &R,
-    dial: &D,
-    given: FilterArguments<'_>,
-    input: &mut S,
-    output: &mut W,
-    errors: &mut E,
-) -> u8
+>(rt: &R, dial: &D, given: FilterArguments<'_>, input: &mut S, output: &mut W, errors: &mut E) -> u8
     requires { IfSome given.run IsRun }
     ensures { result ≡ 0
         → FiltersFile D.leads D.keeps D.Link.told R.File.remaining (R.shows rt.now) given.entry
@@ -135,7 +129,7 @@ pub fn end_forget<R, S: Start, N: Start, W: Write, E: Write>(
 where
     R: Databases + Clock + Eprint + Terminals,
     requires { IsDayUpTo 376200 given.before }
-    ensures { result ≡ 0 → (day : ℕ) × NamesDay R.File.remaining given.entry.before day
+    ensures { result ≡ 0 → (day : ℕ) × NamesDay told_of_file given.entry.before day
         × PrintsKept (W.contents output.old) (W.contents output.new) }
 {
     match with_number(rt, given) {

@@ -5,10 +5,10 @@
 //!
 //!     program::run(&rt, dial, Unknown, Unknown, output, &mut rt.stderr())
 //!
-//! It stands on `mq_request`, `mq_stream`, `mq_words`, `mq_process`, `mq_remote` and `mq_program`,
-//! and knows which subcommand is whose, its streams, its exit status, and that nothing is known of a
-//! file. Begin with `program.rt`, then `subcommand.rt`; docs/ARCHITECTURE.md shows how the data
-//! flows from there.
+//! It stands on `mq_request`, `mq_stream`, `mq_link`, `mq_words`, `mq_process`, `mq_remote` and
+//! `mq_program`, and knows which subcommand is whose, its streams, its exit status, and that nothing
+//! is known of a file. Begin with `program.rt`, then `subcommand.rt`; `specs/Done.antt` says what
+//! status 0 means, and docs/ARCHITECTURE.md shows how the data flows from there.
 #![tactic(auto)]
 
 mod asking;
@@ -28,7 +28,5 @@ use std::process::ExitCode;
 fn main(rt: HostRuntime) -> ExitCode {
     let dial = &Dialer::new(&rt);
     let output = &mut io::writer(&rt);
-    ExitCode::from(
-        program::run(&rt, dial, Unknown, Unknown, output, &mut rt.stderr())
-    )
+    ExitCode::from(program::run(&rt, dial, Unknown, Unknown, output, &mut rt.stderr()))
 }

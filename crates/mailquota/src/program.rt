@@ -1,10 +1,13 @@
 //! The program by the words of its command line.
+ghost use Rattle.std.specs.Prelude.{◌≡◌, ℕ, List, map, string_bytes};
+ghost use Rattle.mq_words.specs.CommandLine.{AsksHelp, HelpsAsked};
+ghost use Rattle.mailquota.specs.Done.{EndsByWords, told_of_file};
 
 use crate::subcommand::run_subcommand;
 use crate::version::VERSION;
 use mq_process::{Dial, WallClock};
 use mq_program::{Databases, ProgramFault, Terminals, end_program, or_memory};
-use mq_words::{PrintFault, print_fault, read_arguments};
+use mq_words::{PrintFault, WordsFault, print_fault, read_arguments};
 use sqlite::Start;
 use std::env;
 use std::io::Write;
@@ -69,13 +72,23 @@ where
         + Eprint
         + Terminals
         + Net<Listener = TcpListener, Stream = TcpStream>,
+    ensures { EndsByWords D.leads D.keeps D.Link.told told_of_file (R.shows rt.now)
+        (W.contents output.old) (W.contents output.new) (map string_bytes words.now) result }
 {
     match read_arguments(rt.alloc(), words, VERSION) {
         Ok(given) => run_subcommand(rt, dial, given, start, new, output, errors),
-        Err(fault) => match print_fault(rt, fault) {
-            Ok(status) => status,
-            Err(PrintFault::Memory) => end_program(Err(ProgramFault::Memory), errors),
-            Err(PrintFault::Write) => end_program(Err(ProgramFault::Write), errors),
-        },
+        Err(fault) => end_words(rt, fault, errors),
+    }
+}
+
+/// Prints the help that words ask for, or why they ask for nothing that can be done.
+fn end_words<R: Print + Eprint, E: Write>(rt: &R, fault: WordsFault, errors: &mut E) -> u8
+    ensures { (words : List (List ℕ)) → HelpsAsked words fault → result ≡ 0
+        → AsksHelp words }
+{
+    match print_fault(rt, fault) {
+        Ok(status) => status,
+        Err(PrintFault::Memory) => end_program(Err(ProgramFault::Memory), errors),
+        Err(PrintFault::Write) => end_program(Err(ProgramFault::Write), errors),
     }
 }
