@@ -1,1 +1,2 @@
 mod RefusalSteps
+mod StatusSteps

@@ -1,18 +1,13 @@
 -- The exit status of a status, a report, a limit, a stop, a resume, a retire or a replay of which a
 -- word is at fault.
-use Rattle.std.proofs.Common.{◌≡◌, ℕ, List, Option, None, Some, Result, Ok, Err, sym, subst}
+use Rattle.std.proofs.Common.{◌≡◌, ℕ, List, Option, None, Some, Result, Ok, Err}
 use Rattle.std.specs.Prelude.{IfSome, MatchResult}
 use Rattle.std.specs.Borrow.{Bor}
 use Rattle.mq_process.specs.declared.arguments.LoginArgument.{LoginArgument}
-use Rattle.mq_process.specs.declared.arguments.LimitArguments.{LimitArguments}
 use Rattle.mq_process.specs.declared.arguments.ProbeArguments.{ProbeArguments}
 use Rattle.mq_process.specs.declared.arguments.ReportArguments.{ReportArguments}
-use Rattle.mq_process.specs.declared.arguments.ResumeArguments.{ResumeArguments}
 use Rattle.mq_process.specs.declared.arguments.RetireArguments.{RetireArguments}
-use Rattle.mq_process.specs.declared.arguments.StopArguments.{StopArguments}
 use Rattle.mq_process.specs.declared.arguments.ReplayArguments.{ReplayArguments}
-use Rattle.mq_process.specs.declared.arguments.Arguments.{Arguments}
-use Rattle.mq_process.specs.declared.arguments.Arguments.TheVariants.{Limit, Probe, Replay, Report, Resume, Retire, Stop}
 use Rattle.mq_process.specs.Faults.{process_status}
 use Rattle.mq_process.specs.Refusals.{NamesLogin, OrderRefuses, ProbeRefuses, ReportRefuses, RetireRefuses}
 use Rattle.mq_process.specs.declared.fault.ProcessFault.{ProcessFault}
@@ -22,7 +17,6 @@ use Rattle.mq_program.specs.Faults.{fault_status}
 use Rattle.mq_program.specs.Refusals.{IsRuleAlone, ReplayRefuses}
 use Rattle.mq_program.specs.declared.fault.ProgramFault.{ProgramFault}
 use Rattle.mq_program.specs.declared.fault.ProgramFault.TheVariants.{Rule}
-use Rattle.mailquota.specs.Refusals.{Refuses}
 
 -- what follows for a login that is no login
 for_login : (login : Option LoginArgument) (A B : Type 0) → (A → B) → IfSome login (λ l. ¬ NamesLogin l → A)
@@ -68,44 +62,29 @@ status_of : {F : Type 0} (status_by : F → ℕ) (asked : Result ℕ F) (status 
 status_of status_by (Ok s) status ends fault is = absurd (let e = is in cc)
 status_of status_by (Err other) status ends fault is = let e = is in cc
 
-pub probe_ends : (all : Arguments) (given : ProbeArguments) (asked : Result ℕ ProcessFault) (status : ℕ) → all ≡ Probe given
-    → MatchResult asked (λ s. status ≡ s) (λ f. status ≡ process_status f) → ProbeRefuses given (λ f. asked ≡ Err f) → Refuses all status
-probe_ends all given asked status is ends refuses =
-    subst (λ words. Refuses words status) (sym is)
-    (for_probe given (λ f. asked ≡ Err f) (λ f. status ≡ process_status f) (status_of process_status asked status ends) refuses)
+-- each ends by the status of its fault
+pub order_ends : (host : List ℕ) (login : LoginArgument) (servers : List (List ℕ)) (asked : Result ℕ ProcessFault) (status : ℕ)
+    → MatchResult asked (λ s. status ≡ s) (λ f. status ≡ process_status f) → OrderRefuses host login servers (λ f. asked ≡ Err f)
+    → OrderRefuses host login servers (λ f. status ≡ process_status f)
+order_ends host login servers asked status ends refuses =
+    for_order host login servers (λ f. asked ≡ Err f) (λ f. status ≡ process_status f) (status_of process_status asked status ends) refuses
 
-pub limit_ends : (all : Arguments) (given : LimitArguments) (asked : Result ℕ ProcessFault) (status : ℕ) → all ≡ Limit given
-    → MatchResult asked (λ s. status ≡ s) (λ f. status ≡ process_status f) → OrderRefuses given.host.now given.login given.servers (λ f. asked ≡ Err f) → Refuses all status
-limit_ends all given asked status is ends refuses =
-    subst (λ words. Refuses words status) (sym is)
-    (for_order given.host.now given.login given.servers (λ f. asked ≡ Err f) (λ f. status ≡ process_status f) (status_of process_status asked status ends) refuses)
+pub probe_ends : (given : ProbeArguments) (asked : Result ℕ ProcessFault) (status : ℕ) → MatchResult asked (λ s. status ≡ s) (λ f. status ≡ process_status f)
+    → ProbeRefuses given (λ f. asked ≡ Err f) → ProbeRefuses given (λ f. status ≡ process_status f)
+probe_ends given asked status ends refuses =
+    for_probe given (λ f. asked ≡ Err f) (λ f. status ≡ process_status f) (status_of process_status asked status ends) refuses
 
-pub stop_ends : (all : Arguments) (given : StopArguments) (asked : Result ℕ ProcessFault) (status : ℕ) → all ≡ Stop given
-    → MatchResult asked (λ s. status ≡ s) (λ f. status ≡ process_status f) → OrderRefuses given.host.now given.login given.servers (λ f. asked ≡ Err f) → Refuses all status
-stop_ends all given asked status is ends refuses =
-    subst (λ words. Refuses words status) (sym is)
-    (for_order given.host.now given.login given.servers (λ f. asked ≡ Err f) (λ f. status ≡ process_status f) (status_of process_status asked status ends) refuses)
+pub retire_ends : (given : RetireArguments) (asked : Result ℕ ProcessFault) (status : ℕ) → MatchResult asked (λ s. status ≡ s) (λ f. status ≡ process_status f)
+    → RetireRefuses given (λ f. asked ≡ Err f) → RetireRefuses given (λ f. status ≡ process_status f)
+retire_ends given asked status ends refuses =
+    for_retire given (λ f. asked ≡ Err f) (λ f. status ≡ process_status f) (status_of process_status asked status ends) refuses
 
-pub resume_ends : (all : Arguments) (given : ResumeArguments) (asked : Result ℕ ProcessFault) (status : ℕ) → all ≡ Resume given
-    → MatchResult asked (λ s. status ≡ s) (λ f. status ≡ process_status f) → OrderRefuses given.host.now given.login given.servers (λ f. asked ≡ Err f) → Refuses all status
-resume_ends all given asked status is ends refuses =
-    subst (λ words. Refuses words status) (sym is)
-    (for_order given.host.now given.login given.servers (λ f. asked ≡ Err f) (λ f. status ≡ process_status f) (status_of process_status asked status ends) refuses)
+pub report_ends : (given : ReportArguments) (asked : Result ℕ ProcessFault) (status : ℕ) → MatchResult asked (λ s. status ≡ s) (λ f. status ≡ process_status f)
+    → ReportRefuses given (λ f. asked ≡ Err f) → ReportRefuses given (λ f. status ≡ process_status f)
+report_ends given asked status ends refuses =
+    for_report given (λ f. asked ≡ Err f) (λ f. status ≡ process_status f) (status_of process_status asked status ends) refuses
 
-pub retire_ends : (all : Arguments) (given : RetireArguments) (asked : Result ℕ ProcessFault) (status : ℕ) → all ≡ Retire given
-    → MatchResult asked (λ s. status ≡ s) (λ f. status ≡ process_status f) → RetireRefuses given (λ f. asked ≡ Err f) → Refuses all status
-retire_ends all given asked status is ends refuses =
-    subst (λ words. Refuses words status) (sym is)
-    (for_retire given (λ f. asked ≡ Err f) (λ f. status ≡ process_status f) (status_of process_status asked status ends) refuses)
-
-pub report_ends : (all : Arguments) (given : ReportArguments) (asked : Result ℕ ProcessFault) (status : ℕ) → all ≡ Report given
-    → MatchResult asked (λ s. status ≡ s) (λ f. status ≡ process_status f) → ReportRefuses given (λ f. asked ≡ Err f) → Refuses all status
-report_ends all given asked status is ends refuses =
-    subst (λ words. Refuses words status) (sym is)
-    (for_report given (λ f. asked ≡ Err f) (λ f. status ≡ process_status f) (status_of process_status asked status ends) refuses)
-
-pub replay_ends : (all : Arguments) (given : ReplayArguments) (asked : Result ℕ ProgramFault) (status : ℕ) → all ≡ Replay given
-    → MatchResult asked (λ s. status ≡ s) (λ f. status ≡ fault_status f) → ReplayRefuses given (λ f. asked ≡ Err f) → Refuses all status
-replay_ends all given asked status is ends refuses =
-    subst (λ words. Refuses words status) (sym is)
-    (for_rule given.rule given.east given.west (asked ≡ Err Rule) (status ≡ fault_status Rule) (status_of fault_status asked status ends Rule) refuses)
+pub replay_ends : (given : ReplayArguments) (asked : Result ℕ ProgramFault) (status : ℕ) → MatchResult asked (λ s. status ≡ s) (λ f. status ≡ fault_status f)
+    → ReplayRefuses given (λ f. asked ≡ Err f) → ReplayRefuses given (λ f. status ≡ fault_status f)
+replay_ends given asked status ends refuses =
+    for_rule given.rule given.east given.west (asked ≡ Err Rule) (status ≡ fault_status Rule) (status_of fault_status asked status ends Rule) refuses

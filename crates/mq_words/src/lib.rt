@@ -5,7 +5,7 @@
 //! [`print_fault`] prints. From `mailquota/src/program.rt`:
 //!
 //!     match read_arguments(rt.alloc(), words, VERSION) {
-//!         Ok(given) => run_subcommand(rt, given, start, new, errors),
+//!         Ok(given) => run_subcommand(rt, dial, given, start, new, output, errors),
 //!
 //! It stands on `mq_process`, for the arguments as types, `mq_request`, and `mq_dates`, for days as
 //! people write them, and is the one crate that gives options to `clap`; it doesn't know what a
