@@ -1,7 +1,7 @@
 //! Which subcommand is run.
 ghost use Rattle.std.specs.Prelude.{◌≡◌};
 ghost use Rattle.mq_process.specs.Arguments.{IsArguments};
-ghost use Rattle.mailquota.specs.Done.{Does, told_of_file};
+ghost use Rattle.mailquota.specs.Done.{DoesAsAsked, told_of_file};
 ghost use Rattle.mailquota.specs.Refusals.{Refuses};
 
 use crate::asking::{end_limit, end_probe, end_report, end_resume, end_retire, end_stop};
@@ -44,7 +44,7 @@ where
         + Net<Listener = TcpListener, Stream = TcpStream>,
     requires { IsArguments given }
     ensures refuses { Refuses given.entry result }
-    ensures done { result ≡ 0 → Does D.leads D.keeps D.Link.told told_of_file (R.shows rt.now)
+    ensures done { result ≡ 0 → DoesAsAsked D.leads D.keeps D.Link.told told_of_file (R.shows rt.now)
         (W.contents output.old) (W.contents output.new) given.entry }
 {
     match given {

@@ -2,13 +2,14 @@
 //! `report` and `status --server`.
 //!
 //! Each checks its words, makes the link to the server, and hands it with its streams to
-//! `mq_client` or `mq_command`, which decide. From `mailquota/src/subcommand.rt`:
+//! `mq_client` or `mq_command`, which decide. From `mailquota/src/asking.rt`:
 //!
-//!     Arguments::Limit(given) => end_process(limit(rt, dial, given, errors), errors),
+//!     end_process(limit(rt, dial, given, errors), errors)
 //!
 //! It stands on `mq_request`, `mq_dates`, `mq_stream`, `mq_frame`, `mq_link`, `mq_client`,
 //! `mq_metrics`, `mq_settings`, `mq_command` and `mq_process`, and knows no store, so that it is
-//! proved while the tables of the ledger are. Begin with `subcommands/filter.rt`, where the filter is put together.
+//! proved while the tables of the ledger are. Begin with `subcommands/filter.rt`, where the filter is
+//! put together.
 #![tactic(auto)]
 
 mod fault;

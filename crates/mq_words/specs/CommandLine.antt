@@ -182,8 +182,7 @@ IsMeantBy rows given = (name : List ℕ) × (found : Found) × (rows ≡ Some (n
     × Means name found given
 
 -- Words of which the first is the program's name ask for this: it is what the subcommand means that
--- clap finds among them, by the
--- words and defaults that clap gives to its options.
+-- clap finds among them, by the words and defaults that clap gives to its options.
 abbrev pub AsksFor : List (List ℕ) → Arguments → Type 0
 AsksFor words given = IsMeantBy (subcommand_of command_line words) given
 
