@@ -20,7 +20,7 @@ use Rattle.mq_remote.specs.declared.subcommands.shares.ShareEnd.TheVariants as c
 use Rattle.mq_remote.specs.declared.subcommands.shares.ShareEnd.TheVariants.{Given, Missing}
 use Rattle.mq_remote.specs.declared.subcommands.shares.ShareOrder.{ShareOrder}
 use Rattle.mq_remote.specs.declared.subcommands.shares.ShareRule.{ShareRule}
-use Rattle.mq_remote.specs.Shares.{DefaultAt, GoesOn, IsGiven, SetsShare, SharesAmong, SharesBy, SharesEach, SharesNumber, SharesOthers, all_shared, one_shared, status_with, sum_with}
+use Rattle.mq_remote.specs.Shares.{DefaultAt, SharesAfterFirst, IsGiven, SetsShare, SharesAmong, SharesBy, SharesEach, SharesNumber, SharesOthers, all_shared, one_shared, status_with, sum_with}
 
 -- a server that is asked, before those that are left
 pub shares_more : {At : List ℕ → SocketAddr → ShareEnd → Type 0} {status sum : ℕ} (xs : List (Bor (List ℕ))) (k next much : ℕ)
@@ -73,7 +73,7 @@ share_unsent false request server told output = (
 -- unless the first refuses its share, the others are asked
 pub gone_on : {L : Type 0} (leads : L → SocketAddr → ℕ → Type 0) (told : L → Option (List ReportedExchange)) (order : ShareOrder) (setter : Setter) (day : ℕ) (rule : ShareRule)
     (others : List (List ℕ)) (first : ShareEnd) (status : ℕ) → (first ≡ came.Refused → ⊥) → SharesOthers leads told order setter day rule others first status
-    → GoesOn leads told order setter day rule others first status
+    → SharesAfterFirst leads told order setter day rule others first status
 gone_on leads told order setter day rule others (Given share) status never shared = shared
 gone_on leads told order setter day rule others came.Refused status never shared = absurd (never refl)
 gone_on leads told order setter day rule others Missing status never shared = shared

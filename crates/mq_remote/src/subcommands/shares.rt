@@ -8,7 +8,7 @@ ghost use Rattle.mq_process.specs.Links.{AsksOver};
 ghost use Rattle.mq_process.specs.Refusals.{HasNoAddress};
 ghost use Rattle.mq_process.specs.declared.asking.TheConstants.{TIMEOUT};
 ghost use Rattle.mq_remote.specs.Shares.{AreSeveral, DefaultAt, EndsShares, GivesMoreAt};
-ghost use Rattle.mq_remote.specs.Shares.{GivesShare, GoesOn, IsGiven, IsRule, SetsShare, SharesAmong};
+ghost use Rattle.mq_remote.specs.Shares.{GivesShare, SharesAfterFirst, IsGiven, IsRule, SetsShare, SharesAmong};
 ghost use Rattle.mq_remote.specs.Shares.{SharesAt, SharesEach, SharesFrom, SharesNumber};
 ghost use Rattle.mq_remote.specs.Shares.{SharesOthers, SharesThere};
 ghost use Rattle.mq_remote.specs.Shares.{after_of, share_by, share_end, status_with, sum_with};
@@ -525,7 +525,7 @@ fn go_on<R: Print + Eprint + AllocGlobal, D: Dial, E: Write>(
     requires next { task.order ≡ More → IsDay (task.day + 1) }
     requires rule { IsRule rule }
     requires first { IsGiven first }
-    ensures { GoesOn D.leads D.Link.told task.entry.order task.entry.setter.now task.entry.day rule
+    ensures { SharesAfterFirst D.leads D.Link.told task.entry.order task.entry.setter.now task.entry.day rule
         (map (λ s. s.now) others.now) first result }
 {
     match first {
