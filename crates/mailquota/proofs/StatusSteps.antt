@@ -1,7 +1,9 @@
 -- What a status of 0 says of how a subcommand ended: it ended without a fault.
-use Rattle.std.proofs.Common.{◌≡◌, ℕ, Result, Ok, Err, sym, subst, ◌∙◌}
+use Rattle.std.proofs.Common.{◌≡◌, ℕ, List, Option, Bool, Result, Ok, Err, sym, subst, ◌∙◌}
 use Rattle.std.specs.Prelude.{IfOk, MatchResult}
+use Rattle.mq_process.specs.Days.{PrintsDay}
 use Rattle.mq_process.specs.Faults.{process_status}
+use Rattle.mq_process.specs.declared.arguments.DayArguments.{DayArguments}
 use Rattle.mq_process.specs.declared.fault.ProcessFault.{ProcessFault}
 use Rattle.mq_process.specs.declared.fault.ProcessFault.TheVariants as p
 use Rattle.mq_program.specs.Faults.{fault_status}
@@ -54,3 +56,11 @@ pub program_done : (P : Type 0) (ended : Result ℕ ProgramFault) (status : ℕ)
     → status ≡ 0 → P
 program_done P (Ok s) status ends holds zero = holds
 program_done P (Err fault) status ends holds zero = absurd (program_fails fault (sym ends ∙ zero))
+
+-- a day is printed, then
+pub day_done : {F : Type 0} (remaining : F → Option (List ℕ)) (given : DayArguments) (on_terminal : Bool) (old new : Option (List ℕ))
+    (ended : Result ℕ ProcessFault) (status : ℕ) → MatchResult ended (λ s. status ≡ s) (λ f. status ≡ process_status f)
+    → PrintsDay remaining given on_terminal old new ended → status ≡ 0 → PrintsDay remaining given on_terminal old new (Ok 0)
+day_done remaining given on_terminal old new (Ok s) status ends prints zero =
+    subst (λ n. PrintsDay remaining given on_terminal old new (Ok n)) (sym ends ∙ zero) prints
+day_done remaining given on_terminal old new (Err fault) status ends prints zero = absurd (process_fails fault (sym ends ∙ zero))
