@@ -18,6 +18,8 @@ FOLDER = WORK / "compared"
 SETTINGS, FILTER = FOLDER / "server.toml", FOLDER / "filter.toml"
 CONFIG = ["--config", SETTINGS]
 LEDGER = ["ledger", "ledger-wal"]
+# What failed may be done by a later release: `resume`, where nobody is stopped.
+DONE_SINCE, FAILED = {"resume"}, (1, "")
 BY_RULE = f"""listen = "{ADDRESS}"
 store = "{FOLDER}/ledger"
 rule = "CET-1CEST,M3.5.0,M10.5.0/3"
@@ -162,7 +164,7 @@ def differing(came, wanted):
     return [
         f"`{' '.join(map(str, words))}` gives {it}, where it was {was}"
         for (words, it), (_, was) in zip(came, wanted)
-        if it != was
+        if it != was and not (words[0] in DONE_SINCE and it[0] == 0 and was == FAILED)
     ]
 
 
