@@ -282,6 +282,15 @@ def drawn(tree):
     )
 
 
+def sources_of(tree, crate):
+    """The texts of the files of a crate's `src/`, by their names there."""
+    place = f"crates/{crate}/src/"
+    return {
+        it.removeprefix(place): read(tree, it)
+        for it in files(tree, [f"{glob.escape(place)}**/*.rt"])
+    }
+
+
 def circles(tree):
     """Yields of each crate which of its modules use each other in a circle that isn't one of the
     list, and which circles of the list are no more."""
@@ -290,13 +299,7 @@ def circles(tree):
     for crate, _, its in lines:
         still.setdefault(crate, set()).add(tuple(its.split()))
     for crate, its in still.items():
-        place = f"crates/{crate}/src/"
-        found = modules.circles(
-            {
-                it.removeprefix(place): read(tree, it)
-                for it in files(tree, [f"{glob.escape(place)}**/*.rt"])
-            }
-        )
+        found = modules.circles(sources_of(tree, crate))
         yield f"the modules of {crate}", [
             *(f"they go in a circle: {', '.join(it)}" for it in sorted(found - its)),
             *(f"no circle of all these is left: {', '.join(it)}" for it in sorted(its - found)),
@@ -313,17 +316,20 @@ def named_twice(tree):
     )
 
 
+def beyond_words(tree, file, found, *said):
+    """What is wrong with words of things, by the list in this file."""
+    return [*shrinking.words_wrong(shrinking.words_of(read(tree, file)), found, file, *said)]
+
+
 def defined_once(tree):
     """Yields which definitions have a name that another has."""
-    yield "names of definitions", [
-        *shrinking.words_wrong(
-            shrinking.words_of(read(tree, NAMED_TWICE)),
-            named_twice(tree),
-            NAMED_TWICE,
-            "has one of several definitions in",
-            "give it another name there, or use the definition that there is",
-        )
-    ]
+    yield "names of definitions", beyond_words(
+        tree,
+        NAMED_TWICE,
+        named_twice(tree),
+        "has one of several definitions in",
+        "give it another name there, or use the definition that there is",
+    )
 
 
 def long_contracts(tree):
@@ -344,10 +350,9 @@ def contracts_fit(tree):
     yield from by_crate(
         tree,
         "the contracts of",
-        shrinking.numbers_of(read(tree, LONG_CONTRACTS)),
+        LONG_CONTRACTS,
         long_contracts(tree),
         CLAUSES,
-        LONG_CONTRACTS,
         "clauses",
         "say several by one definition of specs/, or part the function",
     )
@@ -366,23 +371,23 @@ def specs_fit(tree):
     yield from by_crate(
         tree,
         "the specs of",
-        shrinking.numbers_of(read(tree, LONG_LINES)),
+        LONG_LINES,
         long_lines(tree),
         0,
-        LONG_LINES,
         f"of its lines beyond {COLUMNS} columns",
         "break them",
     )
 
 
-def by_crate(tree, of_what, listed, found, *said):
-    """Yields of each crate what is wrong with numbers of its files, given those of all crates."""
+def by_crate(tree, of_what, file, found, most, *said):
+    """Yields of each crate what is wrong with numbers of its files, by the list in this file, given
+    those of all crates."""
     parts = {it: ({}, {}) for it in crates_of(tree)}
-    for at, its in enumerate((listed, found)):
+    for at, its in enumerate((shrinking.numbers_of(read(tree, file)), found)):
         for name, number in its.items():
             parts.setdefault(name.partition("/")[0], ({}, {}))[at][name] = number
     for crate, its in parts.items():
-        yield f"{of_what} {crate}", [*shrinking.numbers_wrong(*its, *said)]
+        yield f"{of_what} {crate}", [*shrinking.numbers_wrong(*its, most, file, *said)]
 
 
 def taken_by_none(tree):
@@ -397,25 +402,20 @@ def taken_by_none(tree):
     }
     words[""] = exports.words_in(read(tree, it) for it in files(tree, BENCHES))
     for crate in crates:
-        place = f"crates/{crate}/src/"
-        its = exports.handed_out(
-            {it.removeprefix(place): read(tree, it) for it in files(tree, [f"{place}**/*.rt"])}
-        )
+        its = exports.handed_out(sources_of(tree, crate))
         found[crate] = exports.taken_by_none(crate, its, words)
     return found
 
 
 def taken(tree):
     """Yields what crates hand out and no other takes."""
-    yield "what crates hand out", [
-        *shrinking.words_wrong(
-            shrinking.words_of(read(tree, TAKEN_BY_NONE)),
-            taken_by_none(tree),
-            TAKEN_BY_NONE,
-            "hands out, and no other crate names,",
-            "take it from lib.rt, or make it pub(crate)",
-        )
-    ]
+    yield "what crates hand out", beyond_words(
+        tree,
+        TAKEN_BY_NONE,
+        taken_by_none(tree),
+        "hands out, and no other crate names,",
+        "take it from lib.rt, or make it pub(crate)",
+    )
 
 
 def shrink(tree):
